@@ -1,0 +1,4 @@
+.PHONY: test
+# everything the gate checks
+test:
+	.ci/run

@@ -1,0 +1,69 @@
+-- What an intact burst has, and that a packet written out is intact and reads back. Assumes nothing.
+use mathlib.Core.Path.{_≡_, refl, sym, ap, _∙_}
+use mathlib.Core.Bool.{Bool, true, false, false≢true, cond, _&&_}
+use mathlib.Core.List.{List, [], _∷_, _++_}
+use Prim.Native.Nat.{ℕ, _+_, _-_, _≤_, _<_}
+use native.Mathlib.Omega.{arith}
+use borrow.Author.Tests.{leb-true, le-leb, lt-leb, eqb-true, eq-eqb, ne-eqb}
+use lib.Dec.{leb, eqb}
+use lib.ListN.{length, getD, take, drop, length-append}
+use lib.Seq.{take-append-seam}
+use Rattle.packet.specs.Xor.{xorAll}
+use Rattle.packet.specs.Packet.{monitorId, groupId, isIntact, verdictOf, dataOf, unsummed, packetOf}
+use Rattle.packet.specs.declared.MonitorId.{MonitorId}
+use Rattle.packet.specs.declared.GroupId.{GroupId}
+use Rattle.packet.specs.declared.Verdict.the-variants.{Empty, Damaged, Intact}
+use Rattle.packet.proofs.Xor.{⊕-self, ⊕-zero, xorAll-append}
+
+pub record Sound (burst : List ℕ) : Type 0 where
+  pub least : 4 ≤ length burst
+  pub most : length burst ≤ 40
+  pub size : getD burst 0 0 ≡ length burst
+  pub sum : xorAll burst ≡ 0
+
+four : (a b c d : Bool) → (a && b && c && d) ≡ true → (a ≡ true) × (b ≡ true) × (c ≡ true) × (d ≡ true)
+four true true true true e = (refl, refl, refl, refl)
+four true true true false e = absurd (false≢true e)
+four true true false d e = absurd (false≢true e)
+four true false c d e = absurd (false≢true e)
+four false b c d e = absurd (false≢true e)
+
+pub sound : (burst : List ℕ) → isIntact burst ≡ true → Sound burst
+unfolding isIntact
+sound burst e =
+    let t = four _ _ _ _ e in
+    record { least = leb-true _ _ (t .0); most = leb-true _ _ (t .1); size = eqb-true _ _ (t .2); sum = eqb-true _ _ (t .3) }
+
+pub intact : (burst : List ℕ) → Sound burst → isIntact burst ≡ true
+unfolding isIntact
+intact burst s = rw (le-leb _ _ (s .least), le-leb _ _ (s .most), eq-eqb _ _ (s .size), eq-eqb _ _ (s .sum))
+
+pub intact-verdict : (burst : List ℕ) → isIntact burst ≡ true
+    → verdictOf burst ≡ Intact (monitorId (getD burst 1 0)) (groupId (getD burst 2 0)) (length burst - 4)
+unfolding verdictOf
+intact-verdict burst e = let s = sound burst e in rw (ne-eqb (length burst) 0 (λ z. omega arith), e)
+
+-- A packet written out is intact, and reads back as its ID, group and data.
+module _ (id : MonitorId) (group : GroupId) (d : List ℕ) (short : length d ≤ 36) where
+  pub packet-length : length (packetOf id group d) ≡ length d + 4
+  unfolding packetOf
+  packet-length = simp length-append (omega arith)
+
+  pub packet-intact : isIntact (packetOf id group d) ≡ true
+  unfolding packetOf
+  packet-intact = intact _ (record {
+    least = simp length-append (omega arith);
+    most = simp length-append (omega arith);
+    size = sym packet-length;
+    sum = xorAll-append (unsummed id group d) _ ∙ (unfold xorAll in rw ⊕-zero (⊕-self _));
+  })
+
+  pub packet-verdict : verdictOf (packetOf id group d) ≡ Intact id group (length d)
+  unfolding packetOf
+  packet-verdict =
+      let n : length (packetOf id group d) - 4 ≡ length d = rw packet-length (omega arith) in
+      intact-verdict _ packet-intact ∙ ap (Intact id group) n
+
+  pub packet-data : dataOf (packetOf id group d) (verdictOf (packetOf id group d)) ≡ d
+  unfolding packetOf dataOf
+  packet-data = rw (packet-verdict, eq-eqb _ _ packet-length) (take-append-seam d _)

@@ -1,0 +1,54 @@
+-- An intact burst with one byte changed, lost or added anywhere is damaged. A changed byte spoils the XOR. A lost or added
+-- one spoils the count, unless it is the size itself: then the XOR is the size, which is not 0. Assumes nothing.
+use mathlib.Core.Path.{_≡_, refl, sym, ap, _∙_}
+use mathlib.Core.Bool.{Bool, true, false}
+use mathlib.Core.List.{List, [], _∷_, _++_}
+use Prim.Native.Nat.{ℕ, zero, suc, _≤_, _<_}
+use native.Mathlib.Omega.{arith}
+use borrow.Author.Tests.{ne-eqb}
+use lib.ListN.{length, getD, take, drop, set, length-append, length-take, length-drop, length-set}
+use lib.Seq.{set-split, split-at}
+use Rattle.packet.specs.Xor.{_⊕_, xorAll}
+use Rattle.packet.specs.Packet.{isIntact, verdictOf}
+use Rattle.packet.specs.Spoiled.{Spoiling, changed, lost, added, spoiled, Spoils}
+use Rattle.packet.specs.declared.Verdict.the-variants.{Damaged}
+use Rattle.packet.proofs.Xor.{xor-assoc, ⊕-comm, ⊕-zero, ⊕-zero-eq, xorAll-append}
+use Rattle.packet.proofs.Packets.{Sound, sound}
+
+-- a byte of a list can be summed first
+xorAll-middle : (p q : List ℕ) (y : ℕ) → xorAll (p ++ y ∷ q) ≡ y ⊕ xorAll (p ++ q)
+unfolding xorAll
+xorAll-middle p q y =
+    xorAll-append p (y ∷ q) ∙ sym (xor-assoc (xorAll p) y (xorAll q)) ∙ ap (λ (s : ℕ). s ⊕ xorAll q) (⊕-comm (xorAll p) y)
+    ∙ xor-assoc y (xorAll p) (xorAll q) ∙ ap (λ (s : ℕ). y ⊕ s) (sym (xorAll-append p q))
+
+not-sound : (s : Spoiling) (b : List ℕ) → Sound b → Spoils s b → Sound (spoiled s b) → ⊥
+unfolding spoiled Spoils xorAll
+not-sound (changed i v) b ok (h, other) then =
+    let was = sym (xorAll-middle (take i b) (drop (suc i) b) (getD b i 0)) ∙ ap xorAll (sym (split-at b i 0 h)) ∙ ok .sum in
+    let is = sym (xorAll-middle (take i b) (drop (suc i) b) v) ∙ ap xorAll (sym (set-split b i v h)) ∙ then .sum in
+    other (sym (⊕-zero-eq _ _ was) ∙ ⊕-zero-eq _ _ is)
+not-sound (lost i) [] ok h then = absurd (omega arith)
+not-sound (lost zero) (x ∷ xs) ok h then = omega (arith, ok .size, then .sum, ⊕-zero-eq x (xorAll xs) (ok .sum))
+not-sound (lost (suc i)) (x ∷ xs) ok h then = omega (arith, h, ok .size, simp (length-append, length-take, length-drop) at (then .size))
+not-sound (added zero v) b ok h then = omega (arith, then .size, ok .sum, ⊕-zero-eq v (xorAll b) (then .sum))
+not-sound (added (suc i) v) [] ok h then = absurd (omega (arith, h))
+not-sound (added (suc i) v) (x ∷ xs) ok h then = omega (arith, h, ok .size, simp (length-append, length-take, length-drop) at (then .size))
+
+-- at most one byte is gone
+length-spoiled : (s : Spoiling) (b : List ℕ) → Spoils s b → length b ≤ suc (length (spoiled s b))
+unfolding spoiled Spoils
+length-spoiled (changed i v) b h = simp length-set (omega arith)
+length-spoiled (lost i) b h = simp (length-append, length-take, length-drop) (omega arith)
+length-spoiled (added i v) b h = simp (length-append, length-take, length-drop) (omega arith)
+
+pub spoiled-damaged : (s : Spoiling) (b : List ℕ) → isIntact b ≡ true → Spoils s b → verdictOf (spoiled s b) ≡ Damaged
+unfolding verdictOf
+spoiled-damaged s b e h = rw (ne-eqb _ 0 some, not-intact _ refl)
+  where
+    some : length (spoiled s b) ≡ 0 → ⊥
+    some z = omega (arith, sound b e, length-spoiled s b h)
+
+    not-intact : (t : Bool) → isIntact (spoiled s b) ≡ t → isIntact (spoiled s b) ≡ false
+    not-intact true i = absurd (not-sound s b (sound b e) h (sound _ i))
+    not-intact false i = i

@@ -1,0 +1,114 @@
+// One burst of the line: the verdict on it, its data bytes, and a packet written out.
+ghost use mathlib.Core.Path.{_≡_};
+ghost use Rattle.packet.specs.Xor.{xorAll};
+ghost use Rattle.packet.specs.Packet.{isIntact, verdictOf, dataOf, writtenOf, outputOf};
+
+pub struct MonitorId(pub u8);
+
+pub struct GroupId(pub u8);
+
+// What the bytes between two quiet marks are. An intact burst has an ID, a group and a count of data bytes.
+pub enum Verdict {
+    Empty,
+    Damaged,
+    Intact {
+        id: MonitorId,
+        group: GroupId,
+        count: usize,
+    },
+}
+
+// A packet's size, once it is written; or the data fits no packet; or the output is under 40 bytes.
+pub enum Written {
+    Bytes(usize),
+    TooLong,
+    NoRoom,
+}
+
+fn xor_of(bytes: &[u8]) -> u8
+    ensures { λ r. ⌜ r ≡ xorAll (now (bytes .entry)) ⌝ }
+{
+    let mut sum = 0u8;
+    let mut i = 0;
+    while i < bytes.len() {
+        sum = sum ^ bytes[i];
+        i += 1;
+    }
+    sum
+}
+
+fn is_intact(burst: &[u8]) -> bool
+    ensures { λ r. ⌜ r ≡ isIntact (now (burst .entry)) ⌝ }
+{
+    let n = burst.len();
+    if n < 4 {
+        return false;
+    }
+    if 40 < n {
+        return false;
+    }
+    if burst[0] as usize != n {
+        return false;
+    }
+    xor_of(burst) == 0
+}
+
+pub fn verdict_on(burst: &[u8]) -> Verdict
+    ensures { λ r. ⌜ r ≡ verdictOf (now (burst .entry)) ⌝ }
+{
+    let n = burst.len();
+    if n == 0 {
+        return Verdict::Empty;
+    }
+    if !is_intact(burst) {
+        return Verdict::Damaged;
+    }
+    Verdict::Intact {
+        id: MonitorId(burst[1]),
+        group: GroupId(burst[2]),
+        count: n - 4,
+    }
+}
+
+// The data bytes of a burst with this verdict, from byte 3 to the one before the checksum; none unless it is intact.
+pub fn data_part(burst: &[u8], verdict: Verdict) -> &[u8]
+    ensures { λ r. ⌜ now r ≡ dataOf (now (burst .entry)) verdict ⌝ }
+{
+    let Verdict::Intact {
+        id: _,
+        group: _,
+        count,
+    } = verdict
+    else {
+        return &burst[..0];
+    };
+    let n = burst.len();
+    if n < 4 {
+        return &burst[..0];
+    }
+    if n - 4 != count {
+        return &burst[..0];
+    }
+    &burst[3..n - 1]
+}
+
+// A packet at the front of out, of which the rest stays as it was.
+pub fn write_packet(out: &mut [u8], id: MonitorId, group: GroupId, d: &[u8]) -> Written
+    ensures { λ r. ⌜ r ≡ writtenOf (now (out .entry)) (now (d .entry)) ⌝ }
+    ensures { λ _. ⌜ now (out .exit) ≡ outputOf (now (out .entry)) id group (now (d .entry)) ⌝ }
+{
+    if out.len() < 40 {
+        return Written::NoRoom;
+    }
+    let n = d.len();
+    if 36 < n {
+        return Written::TooLong;
+    }
+    let size = (n + 4) as u8;
+    out[0] = size;
+    out[1] = id.0;
+    out[2] = group.0;
+    bytes::copy(d, &mut out[3..]);
+    out[n + 3] = size ^ id.0 ^ group.0 ^ xor_of(d);
+    Written::Bytes(n + 4)
+}

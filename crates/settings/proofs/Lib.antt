@@ -1,0 +1,4 @@
+-- `Laws` has what callers cite of the settings; `WrittenOut` and `Flat` are laws on lists behind it.
+pub mod WrittenOut
+pub mod Flat
+pub mod Laws

@@ -1,0 +1,114 @@
+-- As many values as the row has are tried one after the other. The invariant: the answer is that of the values from k on.
+-- Assumes nothing.
+use mathlib.Core.Path.{_≡_, refl, sym, _∙_}
+use mathlib.Core.Bool.{Bool, true, false, _&&_}
+use mathlib.Core.List.{List, [], _∷_, flatten}
+use Prim.Native.Nat.{ℕ, suc, _+_, _-_, _≤_, _<_}
+use native.Mathlib.Nat.{suc-inj}
+use native.Mathlib.Numerals.{add-one}
+use native.Mathlib.Omega.{arith}
+use borrow.Author.Needs.{needs}
+use borrow.Author.Tests.{not-true, not-false}
+use lib.ListN.{length, getD, drop, List·getD-map}
+use lib.Seq.{drop-cons, drop-length}
+use Rattle.settings.specs.Settings.{Setting, settings, noSetting, setting, byteCount, place, within, allAllowed, allowedFor, allowedByRow, allowedValues}
+use Rattle.settings.specs.Numbers.{rangesOf}
+use Rattle.settings.proofs.Laws.{place-fits, at-place, other-count}
+use Rattle.settings.proofs.allowed.Statement.{statement}
+use Rattle.settings.proofs.allowed.Tie as tie
+use Rattle.settings.proofs.allowed.Reads as reads
+use Rattle.settings.proofs.allowed.Lts as lts
+use Rattle.settings.proofs.allowed_at.Reads as allowed-at-reads
+use Rattle.settings.proofs.byte_count.Reads as byte-count-reads
+use Rattle.settings.proofs.place_of.Reads as place-of-reads
+
+rest : ℕ → List ℕ → ℕ → Bool
+rest row vs k = allAllowed (drop k (setting row .allowed)) (drop k vs)
+
+step : (row k : ℕ) (vs : List ℕ) → k < byteCount row → k < length vs
+    → rest row vs k ≡ within (rangesOf (place row + k)) (getD vs k 0) && rest row vs (k + 1)
+unfolding rest allAllowed
+step row k vs h hv = rw (drop-cons (setting row .allowed) k [], drop-cons vs k 0, add-one, at-place row k h)
+
+abbrev Inv-loop : tie.InvT-loop
+Inv-loop row values first count k₀ k = (k ≤ byteCount row) × (rest row values 0 ≡ rest row values k)
+
+abbrev μ-loop : tie.MeasureT-loop
+μ-loop row values first count k₀ k = byteCount row - k
+
+place-of-requires : tie.Need-place-of-requires Inv-loop μ-loop
+place-of-requires c κs = search needs
+
+byte-count-requires : tie.Need-byte-count-requires Inv-loop μ-loop
+byte-count-requires c κs = search needs
+
+returns : tie.Need-returns Inv-loop μ-loop
+returns c = sym (other-count _ _ (λ e. c .if1 .taken (e ∙ sym (c .before .byte-count .ensures))))
+
+loop-holds : tie.Need-loop-holds Inv-loop μ-loop
+loop-holds c = (omega arith, refl)
+
+add-allowed-at : tie.Need-add-allowed-at Inv-loop μ-loop
+add-allowed-at c = omega (arith, place-fits (c .before .before .before .before .before .before .args .row))
+
+shared-slice-read-allowed-at : tie.Need-shared-slice-read-allowed-at Inv-loop μ-loop
+shared-slice-read-allowed-at c = omega arith
+
+allowed-at-requires : tie.Need-allowed-at-requires Inv-loop μ-loop
+allowed-at-requires c κs = omega (arith, place-fits (c .before .before .before .before .before .before .before .args .row))
+
+returns-2 : tie.Need-returns-2 Inv-loop μ-loop
+unfolding rest
+returns-2 c =
+    let loop = c .before .before .before .before in
+    let start = loop .before .before .before .before .before in
+    let values = start .args .values .now in
+    let first = loop .before .before .before .place-of in
+    let here : within (rangesOf (place (start .args .row) + loop .loop .k)) (getD values (loop .loop .k) 0) ≡ false = rw (← first .ensures) (sym (c .before .allowed-at .ensures) ∙ not-true _ (c .if2 .taken)) in
+    sym (loop .loop .inv .1 ∙ step (start .args .row) (loop .loop .k) values (omega arith) (omega arith) ∙ simp here)
+
+add-k : tie.Need-add-k Inv-loop μ-loop
+add-k c = omega (arith, place-fits (c .before .before .before .before .before .before .before .before .before .args .row))
+
+loop-less : tie.Need-loop-less Inv-loop μ-loop
+loop-less c = search needs
+
+loop-again : tie.Need-loop-again Inv-loop μ-loop
+loop-again c =
+    let loop = c .before .before .before .before in
+    let start = loop .before .before .before .before .before in
+    let values = start .args .values .now in
+    let first = loop .before .before .before .place-of in
+    let here : within (rangesOf (place (start .args .row) + loop .loop .k)) (getD values (loop .loop .k) 0) ≡ true = rw (← first .ensures) (sym (c .before .allowed-at .ensures) ∙ not-false _ (c .if2 .left)) in
+    (omega arith, loop .loop .inv .1 ∙ step (start .args .row) (loop .loop .k) values (omega arith) (omega arith) ∙ simp here)
+
+returns-3 : tie.Need-returns-3 Inv-loop μ-loop
+unfolding rest allAllowed
+returns-3 c =
+    let loop = c .before in
+    let start = loop .before .before .before .before .before in
+    let values = start .args .values .now in
+    let all : loop .loop .k ≡ byteCount (start .args .row) = omega arith in
+    let all-values : loop .loop .k ≡ length values = omega arith in
+    let no-ranges = rw (← all) at (drop-length (setting (start .args .row) .allowed)) in
+    let no-values = rw (← all-values) at (drop-length values) in
+    sym (loop .loop .inv .1 ∙ rw (no-ranges, no-values))
+
+pub allowed-spec : {M : Type 1} → statement M
+allowed-spec =
+    tie.close
+    (tie.spec
+    Inv-loop
+    μ-loop
+    place-of-requires
+    byte-count-requires
+    returns
+    loop-holds
+    add-allowed-at
+    shared-slice-read-allowed-at
+    allowed-at-requires
+    returns-2
+    add-k
+    loop-less
+    loop-again
+    returns-3)

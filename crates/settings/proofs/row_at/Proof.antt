@@ -1,0 +1,29 @@
+-- Row k of the table is the paper's. Assumes nothing.
+use mathlib.Core.Path.{ap, _∙_}
+use lib.ListN.{getD}
+use borrow.Author.Needs.{needs}
+use Rattle.settings.specs.declared.Row.{Row}
+use Rattle.settings.specs.declared.Table.{Table}
+use Rattle.settings.specs.Numbers.{rowOf, paperTable}
+use Rattle.settings.proofs.WrittenOut.{in-each}
+use Rattle.settings.proofs.row_at.Statement.{statement}
+use Rattle.settings.proofs.row_at.Tie as tie
+
+the-table-requires : tie.Need-the-table-requires
+the-table-requires c κs = search needs
+
+mul-result : tie.Need-mul-result
+mul-result c = search needs
+
+element-copy-out-result : tie.Need-element-copy-out-result
+element-copy-out-result c = search needs
+
+returns : tie.Need-returns
+unfolding paperTable
+returns c =
+    let call = c .before in
+    let e = ap (λ (t : Table). getD (t .rows) (call .before .args .k) _) (call .the-table .ensures) ∙ in-each rowOf 8 _ (call .before .pre) in
+    (ap (λ (r : Row). r .0) e, ap (λ (r : Row). r .1) e, ap (λ (r : Row). r .2) e, ap (λ (r : Row). r .3) e)
+
+pub row-at-spec : {M : Type 1} → statement M
+row-at-spec = tie.close (tie.spec the-table-requires mul-result element-copy-out-result returns)

@@ -1,0 +1,120 @@
+-- The eight settings as the paper has them, and what it says of a row. 01, "The settings".
+use Prim.Native.Nat.{ℕ, suc}
+use mathlib.Core.Bool.{Bool, true, false, cond, _&&_, _||_}
+use mathlib.Core.List.{List, [], _∷_, _++_, map, flatten}
+use lib.ListN.{length, getD, take, replicate}
+use lib.Dec.{leb, eqb}
+use Rattle.settings.specs.declared.Found.{Found}
+use Rattle.settings.specs.declared.Found.the-variants.{Set, Get, Nothing}
+
+-- the values from low to high
+pub record Range : Type 0 where
+  pub low : ℕ
+  pub high : ℕ
+
+-- a row: the set code, the get code, and for each value byte its allowed ranges and its fresh value
+pub record Setting : Type 0 where
+  pub set : ℕ
+  pub get : ℕ
+  pub allowed : List (List Range)
+  pub fresh : List ℕ
+
+infixl 70 _to_
+abbrev pub _to_ : ℕ → ℕ → List Range
+a to b = record { low = a; high = b } ∷ []
+
+abbrev pub row : ℕ → ℕ → List (List Range) → List ℕ → Setting
+row s g a f = record { set = s; get = g; allowed = a; fresh = f }
+
+abbrev pub power : Setting
+power = row 0x18 0x19 (1 to 2 ∷ []) (2 ∷ [])
+
+-- six of 0 to 100, gamma 1 to 5
+abbrev pub video : Setting
+video = row 0x32 0x33 (replicate 6 (0 to 100) ++ 1 to 5 ∷ []) (replicate 6 50 ++ 3 ∷ [])
+
+-- 0, 1, 3, 4, 5, 6, 9, 10, 13
+abbrev pub colourTemperature : Setting
+colourTemperature = row 0x34 0x35 ((0 to 1 ++ 3 to 6 ++ 9 to 10 ++ 13 to 13) ∷ []) (1 ∷ [])
+
+abbrev pub trebleBass : Setting
+trebleBass = row 0x42 0x43 (0 to 100 ∷ 0 to 100 ∷ []) (50 ∷ 50 ∷ [])
+
+abbrev pub fan : Setting
+fan = row 0x61 0x62 (0 to 4 ∷ []) (1 ∷ [])
+
+abbrev pub coldStart : Setting
+coldStart = row 0xA3 0xA4 (0 to 2 ∷ []) (2 ∷ [])
+
+abbrev pub apm : Setting
+apm = row 0xD0 0xD1 (0 to 3 ∷ []) (0 ∷ [])
+
+abbrev pub powerSaving : Setting
+powerSaving = row 0xDD 0xDE (0 to 3 ∷ []) (0 ∷ [])
+
+unfoldable pub settings : List Setting
+settings = power ∷ video ∷ colourTemperature ∷ trebleBass ∷ fan ∷ coldStart ∷ apm ∷ powerSaving ∷ []
+
+abbrev pub noSetting : Setting
+noSetting = row 0 0 [] []
+
+-- row k, counted from 0
+abbrev pub setting : ℕ → Setting
+setting k = getD settings k noSetting
+
+-- the first of some rows, counted from k, that has the code c, and which of its two codes that is
+unfoldable pub foundFrom : ℕ → ℕ → List Setting → Found
+foundFrom c k [] = Nothing
+foundFrom c k (s ∷ rest) = cond (eqb (s .set) c) (Set k) (cond (eqb (s .get) c) (Get k) (foundFrom c (suc k) rest))
+
+abbrev pub foundBy : ℕ → Found
+foundBy c = foundFrom c 0 settings
+
+abbrev pub setCode : ℕ → ℕ
+setCode k = setting k .set
+
+abbrev pub getCode : ℕ → ℕ
+getCode k = setting k .get
+
+abbrev pub byteCount : ℕ → ℕ
+byteCount k = length (setting k .allowed)
+
+-- where list k of some lists begins, once they stand one behind the other
+abbrev pub startOf : {A : Type 0} → List (List A) → ℕ → ℕ
+unfolding flatten
+startOf ls k = length (flatten (take k ls))
+
+-- A panel has 15 value bytes: those of all settings, in the order of the rows.
+unfoldable pub allowedByRow : List (List (List Range))
+allowedByRow = map (λ (s : Setting). s .allowed) settings
+
+unfoldable pub allowedValues : List (List Range)
+unfolding flatten
+allowedValues = flatten allowedByRow
+
+unfoldable pub freshValues : List ℕ
+unfolding flatten
+freshValues = flatten (map (λ (s : Setting). s .fresh) settings)
+
+-- where row k's values begin among them
+abbrev pub place : ℕ → ℕ
+place k = startOf allowedByRow k
+
+abbrev pub inRange : Range → ℕ → Bool
+inRange r v = leb (r .low) v && leb v (r .high)
+
+-- v is in one of the ranges
+unfoldable pub within : List Range → ℕ → Bool
+within [] v = false
+within (r ∷ rs) v = inRange r v || within rs v
+
+-- as many values as there should be, each of them allowed
+unfoldable pub allAllowed : List (List Range) → List ℕ → Bool
+allAllowed [] [] = true
+allAllowed [] (v ∷ vs) = false
+allAllowed (a ∷ rest) [] = false
+allAllowed (a ∷ rest) (v ∷ vs) = within a v && allAllowed rest vs
+
+-- the bytes vs may be set in row k
+abbrev pub allowedFor : ℕ → List ℕ → Bool
+allowedFor k vs = allAllowed (setting k .allowed) vs

@@ -1,0 +1,207 @@
+// The eight settings as one fixed table of numbers, which box, host and image all read.
+ghost use mathlib.Core.Path.{_≡_};
+ghost use Prim.Native.Nat.{_<_};
+ghost use lib.ListN.{length, getD};
+ghost use Rattle.settings.specs.Settings.{foundBy, setCode, getCode, byteCount, place, inRange, within, allowedFor, freshValues};
+ghost use Rattle.settings.specs.Numbers.{rangeAt, rangesFrom, rangesOf, paperTable};
+
+// A setting: its set code, its get code, its count of value bytes, and the place of the first among all value bytes.
+struct Row(u8, u8, u8, u8);
+
+// A value byte: its fresh value, the first of its ranges, and how many it has.
+struct Value(u8, u8, u8);
+
+// The values from the lowest to the highest that a range allows.
+struct Span(u8, u8);
+
+struct Table {
+    rows: [Row; 8],
+    values: [Value; 15],
+    ranges: [Span; 18],
+}
+
+const TABLE: Table = Table {
+    rows: [
+        Row(0x18, 0x19, 1, 0), // power
+        Row(0x32, 0x33, 7, 1), // video
+        Row(0x34, 0x35, 1, 8), // colour temperature
+        Row(0x42, 0x43, 2, 9), // treble, bass
+        Row(0x61, 0x62, 1, 11), // fan
+        Row(0xA3, 0xA4, 1, 12), // cold start
+        Row(0xD0, 0xD1, 1, 13), // APM
+        Row(0xDD, 0xDE, 1, 14), // power saving
+    ],
+    values: [
+        Value(2, 0, 1), // power
+        Value(50, 1, 1), // video: six, and gamma
+        Value(50, 2, 1),
+        Value(50, 3, 1),
+        Value(50, 4, 1),
+        Value(50, 5, 1),
+        Value(50, 6, 1),
+        Value(3, 7, 1),
+        Value(1, 8, 4), // colour temperature
+        Value(50, 12, 1), // treble, bass
+        Value(50, 13, 1),
+        Value(1, 14, 1), // fan
+        Value(2, 15, 1), // cold start
+        Value(0, 16, 1), // APM
+        Value(0, 17, 1), // power saving
+    ],
+    ranges: [
+        Span(1, 2), // power
+        Span(0, 100), // video: six, and gamma
+        Span(0, 100),
+        Span(0, 100),
+        Span(0, 100),
+        Span(0, 100),
+        Span(0, 100),
+        Span(1, 5),
+        Span(0, 1), // colour temperature
+        Span(3, 6),
+        Span(9, 10),
+        Span(13, 13),
+        Span(0, 100), // treble, bass
+        Span(0, 100),
+        Span(0, 4), // fan
+        Span(0, 2), // cold start
+        Span(0, 3), // APM
+        Span(0, 3), // power saving
+    ],
+};
+
+// What a code is: the set code or the get code of a row, or neither.
+pub enum Found {
+    Set(usize),
+    Get(usize),
+    Nothing,
+}
+
+// The const table is the paper's.
+fn the_table() -> Table
+    ensures { λ r. ⌜ r ≡ paperTable ⌝ }
+{
+    TABLE
+}
+
+fn row_at(k: usize) -> Row
+    requires { ⌜ k < 8 ⌝ }
+    ensures { λ r. ⌜ (r .0 ≡ setCode k) × (r .1 ≡ getCode k) × (r .2 ≡ byteCount k) × (r .3 ≡ place k) ⌝ }
+{
+    the_table().rows[k]
+}
+
+fn value_at(p: usize) -> Value
+    requires { ⌜ p < 15 ⌝ }
+    ensures { λ r. ⌜ (r .0 ≡ getD freshValues p 0) × (r .1 ≡ rangesFrom p) × (r .2 ≡ length (rangesOf p)) ⌝ }
+{
+    the_table().values[p]
+}
+
+fn span_at(i: usize) -> Span
+    requires { ⌜ i < 18 ⌝ }
+    ensures { λ r. ⌜ (r .0 ≡ rangeAt i .low) × (r .1 ≡ rangeAt i .high) ⌝ }
+{
+    the_table().ranges[i]
+}
+
+// The setting that a code sets or gets.
+pub fn find_setting(code: u8) -> Found
+    ensures { λ r. ⌜ r ≡ foundBy code ⌝ }
+{
+    let mut k = 0;
+    while k < 8 {
+        let row = row_at(k);
+        if row.0 == code {
+            return Found::Set(k);
+        }
+        if row.1 == code {
+            return Found::Get(k);
+        }
+        k += 1;
+    }
+    Found::Nothing
+}
+
+// A row's get code, with which its report begins.
+pub fn get_code(row: usize) -> u8
+    requires { ⌜ row < 8 ⌝ }
+    ensures { λ r. ⌜ r ≡ getCode row ⌝ }
+{
+    row_at(row).1
+}
+
+// How many value bytes a row has.
+pub fn byte_count(row: usize) -> usize
+    requires { ⌜ row < 8 ⌝ }
+    ensures { λ r. ⌜ r ≡ byteCount row ⌝ }
+{
+    row_at(row).2 as usize
+}
+
+// The place of a row's first value among a panel's 15.
+pub fn place_of(row: usize) -> usize
+    requires { ⌜ row < 8 ⌝ }
+    ensures { λ r. ⌜ r ≡ place row ⌝ }
+{
+    row_at(row).3 as usize
+}
+
+fn in_range(i: usize, v: u8) -> bool
+    requires { ⌜ i < 18 ⌝ }
+    ensures { λ r. ⌜ r ≡ inRange (rangeAt i) v ⌝ }
+{
+    let span = span_at(i);
+    span.0 <= v && v <= span.1
+}
+
+// Whether v may stand at place p.
+fn allowed_at(p: usize, v: u8) -> bool
+    requires { ⌜ p < 15 ⌝ }
+    ensures { λ r. ⌜ r ≡ within (rangesOf p) v ⌝ }
+{
+    let value = value_at(p);
+    let first = value.1 as usize;
+    let count = value.2 as usize;
+    let mut k = 0;
+    while k < count {
+        if in_range(first + k, v) {
+            return true;
+        }
+        k += 1;
+    }
+    false
+}
+
+// Whether these bytes may be set in a row: as many as it has, and each of them allowed.
+pub fn allowed(row: usize, values: &[u8]) -> bool
+    requires { ⌜ row < 8 ⌝ }
+    ensures { λ r. ⌜ r ≡ allowedFor row (now (values .entry)) ⌝ }
+{
+    let first = place_of(row);
+    let count = byte_count(row);
+    if values.len() != count {
+        return false;
+    }
+    let mut k = 0;
+    while k < count {
+        if !allowed_at(first + k, values[k]) {
+            return false;
+        }
+        k += 1;
+    }
+    true
+}
+
+// A panel's values before anything is set.
+pub fn fresh() -> [u8; 15]
+    ensures { λ r. ⌜ r ≡ freshValues ⌝ }
+{
+    let mut values = [0u8; 15];
+    let mut p = 0;
+    while p < 15 {
+        values[p] = value_at(p).0;
+        p += 1;
+    }
+    values
+}
