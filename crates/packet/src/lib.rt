@@ -1,6 +1,7 @@
 // One burst of the line: the verdict on it, its data bytes, and a packet written out.
 ghost use mathlib.Core.Path.{_≡_};
 ghost use Rattle.packet.specs.Xor.{xorAll};
+ghost use Rattle.packet.specs.Control.{controlByte};
 ghost use Rattle.packet.specs.Packet.{isIntact, verdictOf, dataOf, writtenOf, outputOf};
 
 pub struct MonitorId(pub u8);
@@ -23,6 +24,24 @@ pub enum Written {
     Bytes(usize),
     TooLong,
     NoRoom,
+}
+
+// The control words, which box and host exchange.
+pub enum Control {
+    Ack,
+    Nack,
+    Nav,
+}
+
+// The byte behind 0x00 in a control word's data.
+pub fn control_byte(word: Control) -> u8
+    ensures { λ r. ⌜ r ≡ controlByte word ⌝ }
+{
+    match word {
+        Control::Ack => 0x06,
+        Control::Nack => 0x15,
+        Control::Nav => 0x18,
+    }
 }
 
 fn xor_of(bytes: &[u8]) -> u8
