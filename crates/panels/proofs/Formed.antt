@@ -1,0 +1,117 @@
+-- Tables stay well-formed. Assumes nothing.
+use mathlib.Core.Path.{_≡_, refl, sym, ap, subst, _∙_}
+use mathlib.Core.Bool.{Bool, true, false, cond}
+use mathlib.Core.List.{List, [], _∷_, _++_, map}
+use Prim.Native.Nat.{ℕ, zero, suc, _≤_, _<_}
+use native.Mathlib.Omega.{arith}
+use borrow.Author.Tests.{eqb-false, leb-false}
+use lib.Dec.{eqb, leb}
+use lib.ListN.{length, take, drop, length-append, length-take, length-drop}
+use Rattle.settings.proofs.Laws.{fresh-allowed, fresh-count}
+use Rattle.packet.specs.declared.MonitorId.{MonitorId}
+use Rattle.packet.specs.declared.GroupId.{GroupId}
+use Rattle.panels.specs.declared.Panel.{Panel}
+use Rattle.panels.specs.declared.Table.{Table}
+use Rattle.panels.specs.declared.Place.{Place}
+use Rattle.panels.specs.declared.Place.the-variants.{At, Nowhere}
+use Rattle.panels.specs.declared.Refusal.{Refusal}
+use Rattle.panels.specs.declared.Refusal.the-variants.{Nothing, Full, IdZero, IdTaken, GroupZero, NoPanel}
+use Rattle.panels.specs.Wall.{Wall, freshPanel, tableOf, panelsOf, placeFrom, placeOf}
+use Rattle.panels.specs.Calls.{ifThere, addRefusal, unlessRefused, added, without, removed}
+use Rattle.panels.specs.WellFormed.{GoodPanel, Absent, GoodWall, WellFormed}
+use Rattle.panels.proofs.Laws.{panels-of-table}
+
+pub formed : (w : Wall) → length w ≤ 32 → GoodWall w → WellFormed (tableOf w)
+formed w few good =
+    let e = sym (panels-of-table w) in
+    record { held = ap tableOf e; few = subst (λ (v : Wall). length v ≤ 32) e few; good = subst GoodWall e good }
+
+-- nothing is found exactly where the ID is absent
+pub nowhere-absent : (i : MonitorId) (k : ℕ) (w : Wall) → placeFrom i k w ≡ Nowhere → Absent i w
+unfolding placeFrom
+nowhere-absent i k [] e = tt
+nowhere-absent i k (p ∷ w) e = go (eqb (p .id .0) (i .0)) refl e (nowhere-absent i (suc k) w)
+  where
+    go : (t : Bool) → eqb (p .id .0) (i .0) ≡ t → cond t (At k) (placeFrom i (suc k) w) ≡ Nowhere
+        → (placeFrom i (suc k) w ≡ Nowhere → Absent i w) → Absent i (p ∷ w)
+    go true s n ih = let z : _≡_ {A = ℕ} 0 1 = cc in absurd (omega arith)
+    go false s n ih = (eqb-false _ _ s, ih n)
+
+absent-snoc : (i : MonitorId) (w : Wall) (p : Panel) → Absent i w → (p .id .0 ≡ i .0 → ⊥) → Absent i (w ++ p ∷ [])
+absent-snoc i [] p a n = (n, tt)
+absent-snoc i (q ∷ w) p (m, a) n = (m, absent-snoc i w p a n)
+
+good-snoc : (w : Wall) (p : Panel) → GoodWall w → GoodPanel p → Absent (p .id) w → GoodWall (w ++ p ∷ [])
+good-snoc [] p good g a = (g, tt, tt)
+good-snoc (q ∷ w) p (gq, aq, good) g (n, a) = (gq, absent-snoc (q .id) w p aq (λ e. n (sym e)), good-snoc w p good g a)
+
+absent-without : (i : MonitorId) (k : ℕ) (w : Wall) → Absent i w → Absent i (without (At k) w)
+absent-without i zero [] a = tt
+absent-without i (suc k) [] a = tt
+absent-without i zero (p ∷ w) (n, a) = a
+absent-without i (suc k) (p ∷ w) (n, a) = (n, absent-without i k w a)
+
+good-without : (k : ℕ) (w : Wall) → GoodWall w → GoodWall (without (At k) w)
+good-without zero [] good = tt
+good-without (suc k) [] good = tt
+good-without zero (p ∷ w) (g, a, good) = good
+good-without (suc k) (p ∷ w) (g, a, good) = (g, absent-without (p .id) k w a, good-without k w good)
+
+-- a change of each panel for itself that keeps its ID and its goodness
+module _ (f : Panel → Panel) (same : (p : Panel) → f p .id ≡ p .id) (keeps : (p : Panel) → GoodPanel p → GoodPanel (f p)) where
+  absent-map : (i : MonitorId) (w : Wall) → Absent i w → Absent i (map f w)
+  absent-map i [] a = tt
+  absent-map i (p ∷ w) (n, a) = ((λ e. n (ap (λ (j : MonitorId). j .0) (sym (same p)) ∙ e)), absent-map i w a)
+
+  pub good-map : (w : Wall) → GoodWall w → GoodWall (map f w)
+  good-map [] good = tt
+  good-map (p ∷ w) (g, a, good) = (keeps p g, absent-map (f p .id) w (subst (λ (j : MonitorId). Absent j w) (sym (same p)) a), good-map w good)
+
+pub fresh-good : (i : MonitorId) (g : GroupId) → (i .0 ≡ 0 → ⊥) → (g .0 ≡ 0 → ⊥) → GoodPanel (freshPanel i g)
+fresh-good i g named grouped = record { named = named; grouped = grouped; full = fresh-count; inRange = λ row h. fresh-allowed h }
+
+pub empty-formed : WellFormed (tableOf [])
+empty-formed = formed [] (omega arith) tt
+
+-- what add has found where it refuses nothing
+pub record MayAdd (w : Wall) (i : MonitorId) (g : GroupId) : Type 0 where
+  pub room : length w < 32
+  pub named : i .0 ≡ 0 → ⊥
+  pub new : placeOf i w ≡ Nowhere
+  pub grouped : g .0 ≡ 0 → ⊥
+
+pub may-add : (w : Wall) (i : MonitorId) (g : GroupId) → addRefusal w i g ≡ Nothing → MayAdd w i g
+unfolding addRefusal
+may-add w i g e = go (leb 32 (length w)) (eqb (i .0) 0) (placeOf i w) (eqb (g .0) 0) refl refl refl refl e
+  where
+    go : (a b : Bool) (q : Place) (c : Bool) → leb 32 (length w) ≡ a → eqb (i .0) 0 ≡ b → placeOf i w ≡ q → eqb (g .0) 0 ≡ c
+        → cond a Full (cond b IdZero (ifThere q IdTaken (cond c GroupZero Nothing))) ≡ Nothing → MayAdd w i g
+    go true b q c ea eb eq ec n = let z : _≡_ {A = ℕ} 0 1 = cc in absurd (omega arith)
+    go false true q c ea eb eq ec n = let z : _≡_ {A = ℕ} 0 1 = cc in absurd (omega arith)
+    go false false (At k) c ea eb eq ec n = let z : _≡_ {A = ℕ} 0 1 = cc in absurd (omega arith)
+    go false false Nowhere true ea eb eq ec n = let z : _≡_ {A = ℕ} 0 1 = cc in absurd (omega arith)
+    go false false Nowhere false ea eb eq ec n =
+        record { room = leb-false _ _ ea; named = eqb-false _ _ eb; new = eq; grouped = eqb-false _ _ ec }
+
+good-added : (w : Wall) (i : MonitorId) (g : GroupId) (r : Refusal) → length w ≤ 32 → GoodWall w → addRefusal w i g ≡ r
+    → WellFormed (tableOf (unlessRefused r (w ++ freshPanel i g ∷ []) w))
+good-added w i g Nothing few good e =
+    let m = may-add w i g e in
+    formed _ (simp length-append (omega arith)) (good-snoc w _ good (fresh-good i g (m .named) (m .grouped)) (nowhere-absent i 0 w (m .new)))
+good-added w i g Full few good e = formed w few good
+good-added w i g IdZero few good e = formed w few good
+good-added w i g IdTaken few good e = formed w few good
+good-added w i g GroupZero few good e = formed w few good
+good-added w i g NoPanel few good e = formed w few good
+
+pub added-formed : {t : Table} → WellFormed t → (i : MonitorId) (g : GroupId) → WellFormed (tableOf (added (panelsOf t) i g))
+unfolding added
+added-formed f i g = good-added _ i g _ (f .few) (f .good) refl
+
+good-removed : (w : Wall) (q : Place) → length w ≤ 32 → GoodWall w → WellFormed (tableOf (without q w))
+good-removed w Nowhere few good = formed w few good
+good-removed w (At k) few good = formed _ (simp (length-append, length-take, length-drop) (omega arith)) (good-without k w good)
+
+pub removed-formed : {t : Table} → WellFormed t → (i : MonitorId) → WellFormed (tableOf (removed (panelsOf t) i))
+unfolding removed
+removed-formed {t} f i = good-removed (panelsOf t) (placeOf i (panelsOf t)) (f .few) (f .good)

@@ -1,0 +1,37 @@
+-- Lists that are changed place by place. Assumes nothing.
+use mathlib.Core.Path.{_≡_, refl, sym, ap, _∙_}
+use mathlib.Core.List.{List, [], _∷_, _++_}
+use Prim.Native.Nat.{ℕ, zero, suc, _+_, _-_, _≤_, _<_}
+use native.Mathlib.Nat.{le-of-suc-le-suc, not-suc-le-zero}
+use native.Mathlib.Omega.{arith}
+use lib.ListN.{length, getD, take, drop, set}
+
+module _ {A : Type 0} where
+  pub getD-inside : (l : List A) (k : ℕ) (d e : A) → k < length l → getD l k d ≡ getD l k e
+  getD-inside [] k d e h = absurd (not-suc-le-zero h)
+  getD-inside (x ∷ l) zero d e h = refl
+  getD-inside (x ∷ l) (suc k) d e h = getD-inside l k d e (le-of-suc-le-suc h)
+
+  -- the first j elements are those of src, the rest those of dst: one more is copied
+  pub store : (src dst : List A) (j : ℕ) (d : A) → j < length src → j < length dst
+      → set (take j src ++ drop j dst) j (getD src j d) ≡ take (suc j) src ++ drop (suc j) dst
+  store [] dst j d h k = absurd (not-suc-le-zero h)
+  store (x ∷ src) [] j d h k = absurd (not-suc-le-zero k)
+  store (x ∷ src) (y ∷ dst) zero d h k = refl
+  store (x ∷ src) (y ∷ dst) (suc j) d h k = ap (λ (l : List A). x ∷ l) (store src dst j d (le-of-suc-le-suc h) (le-of-suc-le-suc k))
+
+  -- what is behind them is still dst's
+  pub behind : (src dst : List A) (j : ℕ) (d : A) → j ≤ length src → j ≤ length dst
+      → getD (take j src ++ drop j dst) (suc j) d ≡ getD dst (suc j) d
+  behind src dst zero d h k = refl
+  behind [] dst (suc j) d h k = absurd (not-suc-le-zero h)
+  behind (x ∷ src) [] (suc j) d h k = absurd (not-suc-le-zero k)
+  behind (x ∷ src) (y ∷ dst) (suc j) d h k = behind src dst j d (le-of-suc-le-suc h) (le-of-suc-le-suc k)
+
+  -- where one element is gone, the later ones stand one place further up
+  pub moved-up : (l : List A) (k j : ℕ) (d : A) → k ≤ j → getD (take k l ++ drop (suc k) l) j d ≡ getD l (suc j) d
+  moved-up [] zero j d h = refl
+  moved-up [] (suc k) j d h = refl
+  moved-up (x ∷ l) zero j d h = refl
+  moved-up (x ∷ l) (suc k) zero d h = absurd (not-suc-le-zero h)
+  moved-up (x ∷ l) (suc k) (suc j) d h = moved-up l k j d (le-of-suc-le-suc h)

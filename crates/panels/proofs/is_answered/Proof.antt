@@ -1,0 +1,16 @@
+-- Each test decides a case of `isHeard`. Assumes nothing.
+use borrow.Author.Tests.{eq-eqb, ne-eqb}
+use Rattle.panels.specs.Addressed.{isHeard}
+use Rattle.panels.proofs.is_answered.Statement.{statement}
+use Rattle.panels.proofs.is_answered.Tie as tie
+
+returns : tie.Need-returns
+unfolding isHeard
+returns c = simp (eq-eqb _ _ (c .before .if1 .taken))
+
+returns-2 : tie.Need-returns-2
+unfolding isHeard
+returns-2 c = simp (ne-eqb _ _ (c .if1 .left))
+
+pub is-answered-spec : {M : Type 1} → statement M
+is-answered-spec = tie.close (tie.spec returns returns-2)

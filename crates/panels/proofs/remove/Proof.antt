@@ -1,0 +1,49 @@
+-- The panel with the ID is found, and the table is closed up over its place. Assumes nothing.
+use mathlib.Core.Path.{_≡_, sym, ap, _∙_}
+use native.Mathlib.Omega.{arith}
+use borrow.Author.Needs.{needs}
+use Rattle.panels.specs.declared.Place.the-variants.{At}
+use Rattle.panels.specs.Wall.{panelsOf, placeOf}
+use Rattle.panels.specs.Calls.{removed}
+use Rattle.panels.proofs.Laws.{count-is, place-there}
+use Rattle.panels.proofs.remove.Statement.{statement}
+use Rattle.panels.proofs.remove.Tie as tie
+use Rattle.panels.proofs.remove.Reads as reads
+use Rattle.panels.proofs.remove.Lts as lts
+use Rattle.panels.proofs.closed_up.Reads as closed-up-reads
+use Rattle.panels.proofs.find_panel.Reads as find-panel-reads
+
+find-panel-requires : tie.Need-find-panel-requires
+find-panel-requires c κs = search needs
+
+enum-known-place : tie.Need-enum-known-place
+enum-known-place c = search needs
+
+enum-told : tie.Need-enum-told
+enum-told c = search needs
+
+returns : tie.Need-returns
+unfolding removed
+returns c =
+    let found = c .before .before in
+    let nowhere = sym (found .find-panel .ensures) ∙ c .enum-told .given .1 in
+    rw (nowhere, ← found .before .pre .held)
+
+-- the place that was found
+at : (c : tie.After-known-told)
+    → let a = c .before .before .before .before .args in placeOf (a .id) (panelsOf (a .t)) ≡ At (c .before .place .given .0 .0)
+at c = sym (c .before .before .before .find-panel .ensures) ∙ c .before .place .given .1
+
+closed-up-requires : tie.Need-closed-up-requires
+closed-up-requires c κs =
+    let f = c .before .before .before .before .pre in
+    (f, omega (arith, count-is f, place-there _ _ _ (at c)))
+
+returns-2 : tie.Need-returns-2
+unfolding removed
+returns-2 c = rw (at (c .before), c .closed-up .ensures)
+
+pub remove-spec : {M : Type 1} → statement M
+remove-spec =
+    tie.close
+    (tie.spec find-panel-requires enum-known-place enum-told returns closed-up-requires returns-2)

@@ -1,0 +1,58 @@
+-- Add and remove. 01, "Table calls and numbers": lower numbers first, and a refusal changes nothing.
+use Prim.Native.Nat.{ℕ, suc}
+use mathlib.Core.Bool.{cond}
+use mathlib.Core.List.{List, [], _∷_, _++_}
+use lib.Dec.{eqb, leb}
+use lib.ListN.{length, take, drop}
+use Rattle.packet.specs.declared.MonitorId.{MonitorId}
+use Rattle.packet.specs.declared.GroupId.{GroupId}
+use Rattle.panels.specs.declared.Place.{Place}
+use Rattle.panels.specs.declared.Place.the-variants.{At, Nowhere}
+use Rattle.panels.specs.declared.Refusal.{Refusal}
+use Rattle.panels.specs.declared.Refusal.the-variants.{Nothing, Full, IdZero, IdTaken, GroupZero, NoPanel}
+use Rattle.panels.specs.declared.Changed.{Changed}
+use Rattle.panels.specs.Wall.{Wall, freshPanel, tableOf, placeOf}
+
+-- 01's number, 0 where nothing was refused
+unfoldable pub refusalOf : Refusal → ℕ
+refusalOf Nothing = 0
+refusalOf Full = 1
+refusalOf IdZero = 2
+refusalOf IdTaken = 3
+refusalOf GroupZero = 4
+refusalOf NoPanel = 6
+
+abbrev pub ifThere : {A : Type 0} → Place → A → A → A
+ifThere (At k) a b = a
+ifThere Nowhere a b = b
+
+unfoldable pub addRefusal : Wall → MonitorId → GroupId → Refusal
+addRefusal w i g =
+    cond (leb 32 (length w)) Full
+    (cond (eqb (i .0) 0) IdZero (ifThere (placeOf i w) IdTaken (cond (eqb (g .0) 0) GroupZero Nothing)))
+
+abbrev pub unlessRefused : Refusal → Wall → Wall → Wall
+unlessRefused Nothing then w = then
+unlessRefused Full then w = w
+unlessRefused IdZero then w = w
+unlessRefused IdTaken then w = w
+unlessRefused GroupZero then w = w
+unlessRefused NoPanel then w = w
+
+-- a fresh panel at the end
+unfoldable pub added : Wall → MonitorId → GroupId → Wall
+added w i g = unlessRefused (addRefusal w i g) (w ++ freshPanel i g ∷ []) w
+
+abbrev pub addedTo : Wall → MonitorId → GroupId → Changed
+addedTo w i g = record { refusal = addRefusal w i g; table = tableOf (added w i g) }
+
+-- later panels move up
+abbrev pub without : Place → Wall → Wall
+without (At k) w = take k w ++ drop (suc k) w
+without Nowhere w = w
+
+unfoldable pub removed : Wall → MonitorId → Wall
+removed w i = without (placeOf i w) w
+
+abbrev pub removedFrom : Wall → MonitorId → Changed
+removedFrom w i = record { refusal = ifThere (placeOf i w) Nothing NoPanel; table = tableOf (removed w i) }

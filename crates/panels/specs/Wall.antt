@@ -1,0 +1,44 @@
+-- A wall is a list of panels; a table holds it in 32 places. 01, "The settings", "Table calls and numbers".
+use Prim.Native.Nat.{ℕ, suc, _-_}
+use mathlib.Core.Bool.{cond}
+use mathlib.Core.List.{List, [], _∷_, _++_}
+use lib.Dec.{eqb}
+use lib.ListN.{length, take, drop, replicate}
+use Rattle.settings.specs.Settings.{byteCount, place, freshValues}
+use Rattle.packet.specs.declared.MonitorId.{MonitorId}
+use Rattle.packet.specs.declared.GroupId.{GroupId}
+use Rattle.packet.specs.Packet.{monitorId, groupId}
+use Rattle.panels.specs.declared.Panel.{Panel}
+use Rattle.panels.specs.declared.Table.{Table}
+use Rattle.panels.specs.declared.Place.{Place}
+use Rattle.panels.specs.declared.Place.the-variants.{At, Nowhere}
+
+abbrev pub Wall : Type 0
+Wall = List Panel
+
+-- a panel before anything is set
+abbrev pub freshPanel : MonitorId → GroupId → Panel
+freshPanel i g = record { id = i; group = g; values = freshValues }
+
+-- the values of a row among a panel's 15
+abbrev pub valuesOf : ℕ → List ℕ → List ℕ
+valuesOf row values = take (byteCount row) (drop (place row) values)
+
+-- what stands in a place that no panel has
+unfoldable pub blank : Panel
+blank = record { id = monitorId 0; group = groupId 0; values = replicate 15 0 }
+
+-- a wall of at most 32 panels in a table
+unfoldable pub tableOf : Wall → Table
+tableOf w = record { panels = w ++ replicate (32 - length w) blank; count = length w }
+
+abbrev pub panelsOf : Table → Wall
+panelsOf t = take (t .count) (t .panels)
+
+-- the place of the first panel, counted from k, that has the ID
+unfoldable pub placeFrom : MonitorId → ℕ → Wall → Place
+placeFrom i k [] = Nowhere
+placeFrom i k (p ∷ w) = cond (eqb (p .id .0) (i .0)) (At k) (placeFrom i (suc k) w)
+
+abbrev pub placeOf : MonitorId → Wall → Place
+placeOf i w = placeFrom i 0 w

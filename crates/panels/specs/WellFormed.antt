@@ -1,0 +1,34 @@
+-- Tables come only from the empty one by add, remove, image reading and bursts. 01, "The settings": every setting of every
+-- panel is in its allowed range at all times.
+use Prim.Native.Nat.{ℕ, _≤_, _<_}
+use mathlib.Core.Bool.{true}
+use mathlib.Core.List.{List, [], _∷_}
+use mathlib.Core.Path.{_≡_}
+use lib.ListN.{length}
+use Rattle.settings.specs.Settings.{allowedFor}
+use Rattle.packet.specs.declared.MonitorId.{MonitorId}
+use Rattle.panels.specs.declared.Panel.{Panel}
+use Rattle.panels.specs.declared.Table.{Table}
+use Rattle.panels.specs.Wall.{Wall, valuesOf, tableOf, panelsOf}
+
+pub record GoodPanel (p : Panel) : Type 0 where
+  pub named : p .id .0 ≡ 0 → ⊥
+  pub grouped : p .group .0 ≡ 0 → ⊥
+  pub full : length (p .values) ≡ 15
+  pub inRange : (row : ℕ) → row < 8 → allowedFor row (valuesOf row (p .values)) ≡ true
+
+-- no panel has the ID
+abbrev pub Absent : MonitorId → Wall → Type 0
+Absent i [] = Unit {0}
+Absent i (p ∷ w) = (p .id .0 ≡ i .0 → ⊥) × Absent i w
+
+-- every panel is good, and no later one has its ID
+abbrev pub GoodWall : Wall → Type 0
+GoodWall [] = Unit {0}
+GoodWall (p ∷ w) = GoodPanel p × Absent (p .id) w × GoodWall w
+
+-- the table holds a good wall of at most 32 panels, and every other place is blank
+pub record WellFormed (t : Table) : Type 0 where
+  pub held : t ≡ tableOf (panelsOf t)
+  pub few : length (panelsOf t) ≤ 32
+  pub good : GoodWall (panelsOf t)

@@ -1,0 +1,179 @@
+// The panels of a line: a panel, the table of at most 32, add, remove, and who is addressed.
+ghost use mathlib.Core.Path.{_≡_};
+ghost use mathlib.Core.List.{[]};
+ghost use Prim.Native.Nat.{_<_};
+ghost use Rattle.panels.specs.Wall.{freshPanel, blank, tableOf, panelsOf, placeOf};
+ghost use Rattle.panels.specs.Addressed.{reaches, isHeard};
+ghost use Rattle.panels.specs.Calls.{addedTo, without, removedFrom};
+ghost use Rattle.panels.specs.WellFormed.{WellFormed};
+use packet::GroupId;
+use packet::MonitorId;
+
+pub struct Panel {
+    pub id: MonitorId,
+    pub group: GroupId,
+    pub values: [u8; 15],
+}
+
+pub struct Table {
+    pub panels: [Panel; 32],
+    pub count: usize,
+}
+
+// The place of an ID in the table.
+pub enum Place {
+    At(usize),
+    Nowhere,
+}
+
+// What a table call refused, if anything.
+pub enum Refusal {
+    Nothing,
+    Full,
+    IdZero,
+    IdTaken,
+    GroupZero,
+    NoPanel,
+}
+
+pub struct Changed {
+    pub refusal: Refusal,
+    pub table: Table,
+}
+
+fn blank_panel() -> Panel
+    ensures { λ r. ⌜ r ≡ blank ⌝ }
+{
+    Panel {
+        id: MonitorId(0),
+        group: GroupId(0),
+        values: [0u8; 15],
+    }
+}
+
+pub fn empty_table() -> Table
+    ensures { λ r. ⌜ r ≡ tableOf [] ⌝ }
+{
+    let p = blank_panel();
+    Table {
+        panels: [p; 32],
+        count: 0,
+    }
+}
+
+pub fn find_panel(t: Table, id: MonitorId) -> Place
+    requires { ⌜ WellFormed t ⌝ }
+    ensures { λ r. ⌜ r ≡ placeOf id (panelsOf t) ⌝ }
+{
+    let mut k = 0;
+    while k < t.count {
+        let p = t.panels[k];
+        if p.id.0 == id.0 {
+            return Place::At(k);
+        }
+        k += 1;
+    }
+    Place::Nowhere
+}
+
+// Whether a packet with this ID and group addresses a panel.
+pub fn addresses(id: MonitorId, group: GroupId, p: Panel) -> bool
+    ensures { λ r. ⌜ r ≡ reaches id group p ⌝ }
+{
+    if group.0 == 0 {
+        return id.0 == 0 || p.id.0 == id.0;
+    }
+    group.0 != 255 && p.group.0 == group.0
+}
+
+// Whether a packet with this ID and group is answered.
+pub fn is_answered(id: MonitorId, group: GroupId) -> bool
+    ensures { λ r. ⌜ r ≡ isHeard id group ⌝ }
+{
+    group.0 == 0 && id.0 != 0
+}
+
+fn fresh_panel(id: MonitorId, group: GroupId) -> Panel
+    ensures { λ r. ⌜ r ≡ freshPanel id group ⌝ }
+{
+    let values = settings::fresh();
+    Panel { id, group, values }
+}
+
+// A fresh panel at the end.
+pub fn add(t: Table, id: MonitorId, group: GroupId) -> Changed
+    requires { ⌜ WellFormed t ⌝ }
+    ensures { λ r. ⌜ r ≡ addedTo (panelsOf t) id group ⌝ }
+{
+    let n = t.count;
+    if 32 <= n {
+        return Changed {
+            refusal: Refusal::Full,
+            table: t,
+        };
+    }
+    if id.0 == 0 {
+        return Changed {
+            refusal: Refusal::IdZero,
+            table: t,
+        };
+    }
+    let place = find_panel(t, id);
+    if let Place::At(_) = place {
+        return Changed {
+            refusal: Refusal::IdTaken,
+            table: t,
+        };
+    }
+    if group.0 == 0 {
+        return Changed {
+            refusal: Refusal::GroupZero,
+            table: t,
+        };
+    }
+    let mut next = t;
+    let p = fresh_panel(id, group);
+    next.panels[n] = p;
+    next.count = n + 1;
+    Changed {
+        refusal: Refusal::Nothing,
+        table: next,
+    }
+}
+
+// The table without the panel at place k: later panels move up.
+fn closed_up(t: Table, k: usize) -> Table
+    requires { ⌜ WellFormed t × (k < t .count) ⌝ }
+    ensures { λ r. ⌜ r ≡ tableOf (without (Place.At k) (panelsOf t)) ⌝ }
+{
+    let mut next = t;
+    let last = t.count - 1;
+    let mut j = k;
+    while j < last {
+        let p = next.panels[j + 1];
+        next.panels[j] = p;
+        j += 1;
+    }
+    let b = blank_panel();
+    next.panels[last] = b;
+    next.count = last;
+    next
+}
+
+pub fn remove(t: Table, id: MonitorId) -> Changed
+    requires { ⌜ WellFormed t ⌝ }
+    ensures { λ r. ⌜ r ≡ removedFrom (panelsOf t) id ⌝ }
+{
+    let place = find_panel(t, id);
+    let Place::At(k) = place else {
+        return Changed {
+            refusal: Refusal::NoPanel,
+            table: t,
+        };
+    };
+    let table = closed_up(t, k);
+    Changed {
+        refusal: Refusal::Nothing,
+        table,
+    }
+}
