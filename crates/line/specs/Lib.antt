@@ -1,0 +1,6 @@
+-- What is right of the answers. `Reply` is an answer and the bytes that go out, `Judged` what one panel makes of a command,
+-- `Played` a burst's outcome, `Session` many bursts, and the bytes and quiet marks of the line.
+pub mod Reply
+pub mod Judged
+pub mod Played
+pub mod Session

@@ -1,0 +1,1 @@
+-- Many bursts, and the line's bytes and quiet marks. 01, "Packet and burst".
