@@ -1,3 +1,6 @@
--- `Orders` has what an order says of the data that it was made of, `Turns` what a packet does to the wall.
+-- `Orders` has what an order says of the data that it was made of, `Turns` what a packet does to the wall,
+-- `Bursts` what a burst does by its bytes, `Streams` that a stream is the session of its bursts.
 pub mod Orders
 pub mod Turns
+pub mod Bursts
+pub mod Streams

@@ -2,10 +2,13 @@
 mod answering;
 mod judging;
 mod playing;
+mod receiving;
 
+pub use answering::write_answer;
 use packet::Control;
 use packet::MonitorId;
 use panels::Table;
+pub use playing::play;
 
 // Silence, a control word, or a report, whose bytes stand beside it.
 pub enum Answer {
@@ -31,6 +34,20 @@ pub enum Order {
 
 // What a burst leaves: the table and the reply.
 pub struct Played {
+    pub table: Table,
+    pub reply: Reply,
+}
+
+// The receiver of one line: the first 40 bytes since the last quiet mark, and how many there were, where 41 stands for
+// more than 40.
+pub struct Receiver {
+    pub bytes: [u8; 40],
+    pub count: usize,
+}
+
+// What a quiet mark leaves.
+pub struct Heard {
+    pub receiver: Receiver,
     pub table: Table,
     pub reply: Reply,
 }

@@ -111,7 +111,7 @@ fn play_unheard(t: Table, id: MonitorId, group: GroupId, d: &[u8]) -> Played
 }
 
 // A damaged burst: NACK from the panel that it seems to be for.
-fn damaged_reply(t: Table, burst: &[u8]) -> Reply
+pub fn damaged_reply(t: Table, burst: &[u8]) -> Reply
     requires { ⌜ WellFormed t ⌝ }
     ensures { λ r. ⌜ r ≡ damagedReply (panelsOf t) (now (burst .entry)) ⌝ }
 {

@@ -59,8 +59,7 @@ loop-again c =
     let start = loop .before .before in
     let a = start .args in
     let f = start .pre .0 in
-    let turned-next = turn-next (change (a .id) (a .group) (a .row) (a .d .now)) (a .t .panels) (loop .loop .k) (omega (arith, count-few f, places-count f)) in
-    (
+    let turned-next = turn-next (change (a .id) (a .group) (a .row) (a .d .now)) (a .t .panels) (loop .loop .k) (omega (arith, count-few f, places-count f)) in (
       omega arith,
       ap (λ (t : Table). t .count) (c .store-at .ensures) ∙ loop .loop .inv .1,
       ap (λ (t : Table). t .panels) (c .store-at .ensures) ∙ rw (loop .loop .inv .2, add-one) turned-next,
@@ -78,7 +77,7 @@ returns c =
     let rest = ap (drop (a .t .count)) (places-are f) ∙ drop-at w (replicate (32 - length w) blank) (a .t .count) (sym (count-is f)) in
     table-is _ (map g w)
     ((rw all at (loop .loop .inv .2)) ∙ ap₂ (λ (l m : Wall). l ++ m) (take-map g (a .t .count) (a .t .panels)) rest
-      ∙ ap (λ (n : ℕ). map g w ++ replicate (32 - n) blank) (sym (length-map w g)))
+    ∙ ap (λ (n : ℕ). map g w ++ replicate (32 - n) blank) (sym (length-map w g)))
     (loop .loop .inv .1 ∙ count-is f ∙ sym (length-map w g))
 
 pub store-in-all-spec : {M : Type 1} → statement M
