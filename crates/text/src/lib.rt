@@ -1,7 +1,7 @@
 // What the programs read and print: steps of standard input, and bytes in upper-case hex.
 ghost use mathlib.Core.Path.{_≡_};
 ghost use Prim.Native.Nat.{_<_, _≤_};
-ghost use lib.ListN.{length};
+ghost use lib.ListN.{length, take};
 ghost use Rattle.io.specs.Counts.{Counts};
 ghost use Rattle.text.specs.Hex.{digitOf, hexCount, hexOver};
 ghost use Rattle.text.specs.Steps.{Within};
@@ -39,6 +39,13 @@ pub fn hex(bytes: &[u8], out: &mut [u8]) -> usize
         i += 1;
     }
     2 * n
+}
+
+// The first n of some bytes, or all where there are fewer.
+pub fn front(bytes: &[u8], n: usize) -> &[u8]
+    ensures { λ r. ⌜ now r ≡ take n (now (bytes .entry)) ⌝ }
+{
+    if n < bytes.len() { &bytes[..n] } else { bytes }
 }
 
 fn count_of(b: u8) -> usize
