@@ -78,11 +78,10 @@ stored-good row vs p ok g =
       grouped = g .grouped;
       full = length-laid (p .values) vs (place row) fits ∙ g .full;
       inRange = λ other h. by-rows (allowedFor other _ ≡ true) other row
-        (λ below. rw (before (p .values) vs (place row) fits (place other) (byteCount other) (places-apart other row below)) (g .inRange other h))
-        (λ above. rw (behind (p .values) vs (place row) fits (place other) (rw n (places-apart row other above))) (g .inRange other h))
-        (λ same. rw (same, ← n, own (p .values) vs (place row) fits) ok);
+          (λ below. rw (before (p .values) vs (place row) fits (place other) (byteCount other) (places-apart other row below)) (g .inRange other h))
+          (λ above. rw (behind (p .values) vs (place row) fits (place other) (rw n (places-apart row other above))) (g .inRange other h))
+          (λ same. rw (same, ← n, own (p .values) vs (place row) fits) ok);
     })
-
 
 -- what a panel does with a command keeps its ID and keeps it good
 judged-id : (c : Command) (p : Panel) → panelAfter (judge c p) p .id ≡ p .id

@@ -39,7 +39,7 @@ with-byte-short l b h =
     simp (lt-ltb (min (length l) 41) 40 (omega arith))
     (ap₂ receiver
     (rw (count, take-all 40 l (omega arith), room, take-all 40 (l ++ b ∷ []) (omega arith), left)
-      (set-at l 0 _ b (length l) refl ∙ sym (append-snoc l b _)))
+    (set-at l 0 _ b (length l) refl ∙ sym (append-snoc l b _)))
     (ap (λ (k : ℕ). k + 1) count ∙ sym next))
 
 -- past 40 bytes only the count goes on
@@ -77,7 +77,7 @@ long-alike w l h =
     let three : 3 ≤ length (take 40 l) = simp length-take (omega arith) in
     ap (played w) cut ∙ played-long w _ n
     ∙ ap {B = Outcome} (λ (r : Reply). record { wall = w; reply = r })
-        (damaged-alike w (take 40 l) (0 ∷ []) (drop 40 l) three ∙ ap (damagedReply w) (take-append-drop 40 l))
+    (damaged-alike w (take 40 l) (0 ∷ []) (drop 40 l) three ∙ ap (damagedReply w) (take-append-drop 40 l))
     ∙ sym (played-long w l h)
 
 burst-alike : (w : Wall) (l : List ℕ) → played w (burstOf (receiverOf l)) ≡ played w l

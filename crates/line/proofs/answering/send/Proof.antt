@@ -51,10 +51,9 @@ same-length c = search needs
 -- what was written, whatever the match told
 written : (c : tie.After-write-packet) (w : Written) → c .write-packet .result ≡ w
     → let a = c .before .before .before .before .args in
-      (passed-on w ≡ sent.Bytes (length (a .d .now) + 4)) × (c .write-packet .last .0 ≡ laidOver (packetOf (a .id) (groupId 0) (a .d .now)) (a .out .now))
+    (passed-on w ≡ sent.Bytes (length (a .d .now) + 4)) × (c .write-packet .last .0 ≡ laidOver (packetOf (a .id) (groupId 0) (a .d .now)) (a .out .now))
 written c w e =
-    let start = c .before .before .before .before in
-    (
+    let start = c .before .before .before .before in (
       ap passed-on (sym e ∙ c .write-packet .ensures .0 ∙ fits _ _ (start .pre .0) (start .pre .1)),
       c .write-packet .ensures .1 ∙ laid _ _ _ _ (start .pre .0) (start .pre .1),
     )
