@@ -36,11 +36,14 @@ fn play_one(t: Table, k: usize, order: Order, d: &[u8]) -> Played
             Played { table: t, reply }
         }
         Order::Store(row) => {
-            let mut table = t;
+            let mut after = t;
             let q = judging::with_values(p, row, d);
-            table.panels[k] = q;
+            after.panels[k] = q;
             let reply = answering::word_from(id, Control::Ack);
-            Played { table, reply }
+            Played {
+                table: after,
+                reply,
+            }
         }
         Order::NotAvailable => {
             let reply = answering::word_from(id, Control::Nav);
