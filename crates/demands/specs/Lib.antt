@@ -1,0 +1,2 @@
+-- The three demands, over the definitions that the code is proved equal to.
+pub mod Demand3
