@@ -1,2 +1,3 @@
 -- The three demands, over the definitions that the code is proved equal to.
+pub mod Demand2
 pub mod Demand3

@@ -5,8 +5,8 @@ use mathlib.Core.List.{List, [], _∷_, _++_, map, append-assoc}
 use Prim.Native.Nat.{ℕ, zero, suc, _+_, _-_, _≤_, _<_}
 use native.Mathlib.Nat.{le-antisymm}
 use native.Mathlib.Omega.{arith}
-use borrow.Author.Tests.{ltb-true, ltb-false}
-use lib.Dec.{ltb}
+use borrow.Author.Tests.{ltb-true, ltb-false, eqb-true, eqb-false}
+use lib.Dec.{ltb, eqb}
 use lib.ListN.{length, take, drop, length-append, length-take, length-drop, length-map}
 use lib.Seq.{take-at, drop-at, take-take, drop-drop}
 use Rattle.settings.specs.Settings.{setting, byteCount, place, allowedFor}
@@ -67,21 +67,42 @@ by-rows P a b f g h = go (ltb a b) refl (ltb b a) refl
     go false e true i = g (ltb-true b a i)
     go false e false i = h (le-antisymm (ltb-false b a i) (ltb-false a b e))
 
+-- A row that was stored to has the values, and every other row has what it had.
+module _ (row : ℕ) (vs : List ℕ) (p : Panel) (ok : allowedFor row vs ≡ true) (full : length (p .values) ≡ 15) where
+  n : length vs ≡ byteCount row
+  n = allowed-count (setting row .allowed) vs ok
+
+  fits : place row + length vs ≤ length (p .values)
+  fits = omega (arith, place-fits row, n, full)
+
+  pub stored-own : valuesOf row (stored row vs p .values) ≡ vs
+  unfolding stored
+  stored-own = rw (← n) (own (p .values) vs (place row) fits)
+
+  pub stored-others : (other : ℕ) → (other ≡ row → ⊥) → valuesOf other (stored row vs p .values) ≡ valuesOf other (p .values)
+  unfolding stored
+  stored-others other apart = rw (← n) (by-rows _ other row
+      (λ below. before (p .values) vs (place row) fits (place other) (byteCount other) (places-apart other row below))
+      (λ above. ap (take (byteCount other)) (behind (p .values) vs (place row) fits (place other) (rw n (places-apart row other above))))
+      (λ same. absurd (apart same)))
+
+  stored-full : length (stored row vs p .values) ≡ 15
+  unfolding stored
+  stored-full = rw (← n) (length-laid (p .values) vs (place row) fits ∙ full)
+
 -- a good panel with allowed values stored in a row is good
 stored-good : (row : ℕ) (vs : List ℕ) (p : Panel) → allowedFor row vs ≡ true → GoodPanel p → GoodPanel (stored row vs p)
 unfolding stored
-stored-good row vs p ok g =
-    let n = allowed-count (setting row .allowed) vs ok in
-    let fits : place row + length vs ≤ length (p .values) = omega (arith, place-fits row, g .full) in
-    rw (← n) (record {
-      named = g .named;
-      grouped = g .grouped;
-      full = length-laid (p .values) vs (place row) fits ∙ g .full;
-      inRange = λ other h. by-rows (allowedFor other _ ≡ true) other row
-          (λ below. rw (before (p .values) vs (place row) fits (place other) (byteCount other) (places-apart other row below)) (g .inRange other h))
-          (λ above. rw (behind (p .values) vs (place row) fits (place other) (rw n (places-apart row other above))) (g .inRange other h))
-          (λ same. rw (same, ← n, own (p .values) vs (place row) fits) ok);
-    })
+stored-good row vs p ok g = record {
+  named = g .named;
+  grouped = g .grouped;
+  full = stored-full row vs p ok (g .full);
+  inRange = λ other h. in-row other h (eqb other row) refl;
+}
+  where
+    in-row : (other : ℕ) → other < 8 → (t : Bool) → eqb other row ≡ t → allowedFor other (valuesOf other (stored row vs p .values)) ≡ true
+    in-row other h true e = rw (eqb-true other row e, stored-own row vs p ok (g .full)) ok
+    in-row other h false e = rw (stored-others row vs p ok (g .full) other (eqb-false other row e)) (g .inRange other h)
 
 -- what a panel does with a command keeps its ID and keeps it good
 judged-id : (c : Command) (p : Panel) → panelAfter (judge c p) p .id ≡ p .id
