@@ -2,7 +2,7 @@
 use Prim.Native.Nat.{ℕ}
 use mathlib.Core.Path.{_≡_}
 use mathlib.Core.Bool.{cond}
-use mathlib.Core.List.{List, [], flatten}
+use mathlib.Core.List.{List, flatten}
 use lib.ListN.{length, replicate}
 use lib.Dec.{leb}
 use Rattle.packet.specs.Packet.{laidOver}

@@ -6,8 +6,7 @@ use lib.ListN.{length, drop, replicate}
 use lib.Dec.{ltb}
 use Rattle.packet.specs.Packet.{monitorId, groupId}
 use Rattle.host.specs.declared.Request.{Request}
-use Rattle.host.specs.declared.Refusal.{Refusal}
-use Rattle.host.specs.declared.Refusal.the-variants.{NoRoom, Busy, NotARequest}
+use Rattle.host.specs.declared.Refusal.the-variants.{Busy, NotARequest}
 use Rattle.host.specs.declared.Outcome.{Outcome}
 use Rattle.host.specs.declared.Outcome.the-variants.{Idle, Waiting, Unheard, Ack as Acked, Nav as NotAvailable, Report as Reported, GivenUp, Refused}
 use Rattle.host.specs.declared.Said.{Said}

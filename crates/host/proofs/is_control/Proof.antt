@@ -5,9 +5,6 @@ use Rattle.host.proofs.Words.{control-other, control-two}
 use borrow.Author.Needs.{needs}
 use Rattle.host.proofs.is_control.Statement.{statement}
 use Rattle.host.proofs.is_control.Tie as tie
-use Rattle.host.proofs.is_control.Reads as reads
-use Rattle.host.proofs.is_control.Lts as lts
-use Rattle.packet.proofs.control_byte.Reads as control-byte-reads
 
 returns : tie.Need-returns
 returns c = sym (control-other _ _ (c .if1 .taken))

@@ -3,8 +3,6 @@ use borrow.Author.Tests.{eq-eqb, ne-eqb}
 use Rattle.host.specs.Request.{isDue}
 use Rattle.host.proofs.is_due.Statement.{statement}
 use Rattle.host.proofs.is_due.Tie as tie
-use Rattle.host.proofs.is_due.Reads as reads
-use Rattle.host.proofs.is_due.Lts as lts
 
 returns : tie.Need-returns
 unfolding isDue
