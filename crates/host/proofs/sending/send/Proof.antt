@@ -16,8 +16,8 @@ use Rattle.packet.specs.declared.GroupId.{GroupId}
 use Rattle.packet.proofs.Packets.{packet-length}
 use Rattle.host.specs.declared.Request.{Request}
 use Rattle.host.specs.Request.{requestData, requestPacket}
-use Rattle.host.proofs.send.Statement.{statement}
-use Rattle.host.proofs.send.Tie as tie
+use Rattle.host.proofs.sending.send.Statement.{statement}
+use Rattle.host.proofs.sending.send.Tie as tie
 
 in-use : (n count : ℕ) (v : List ℕ) → length v ≡ 7 → n ≡ min count 7 → take n v ≡ take count v
 in-use n count v len e = go (leb count 7) refl

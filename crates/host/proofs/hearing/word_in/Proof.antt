@@ -5,8 +5,8 @@ use Rattle.settings.specs.declared.Found.{Found}
 use Rattle.settings.proofs.Laws.{IsFound, found-right}
 use Rattle.host.specs.Heard.{endedBy, wordIn}
 use Rattle.host.proofs.Words.{word-found}
-use Rattle.host.proofs.word_in.Statement.{statement}
-use Rattle.host.proofs.word_in.Tie as tie
+use Rattle.host.proofs.hearing.word_in.Statement.{statement}
+use Rattle.host.proofs.hearing.word_in.Tie as tie
 
 -- past both tests the code decides
 past : (c : tie.After-find-setting) (f : Found) → c .find-setting .result ≡ f

@@ -9,8 +9,8 @@ use Rattle.settings.specs.declared.Found.{Found}
 use Rattle.settings.proofs.Laws.{IsFound, found-right}
 use Rattle.host.specs.declared.Request.{Request}
 use Rattle.host.specs.Request.{isTaken, isRequest}
-use Rattle.host.proofs.is_request.Statement.{statement}
-use Rattle.host.proofs.is_request.Tie as tie
+use Rattle.host.proofs.sending.is_request.Statement.{statement}
+use Rattle.host.proofs.sending.is_request.Tie as tie
 
 few : (r : Request) (f : Found) → r .count ≤ 7 → foundBy (r .code) ≡ f → isRequest r ≡ isTaken r f
 unfolding isRequest
