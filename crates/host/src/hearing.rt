@@ -6,6 +6,7 @@ use crate::Said;
 use packet::Control;
 use settings::Found;
 
+// Whether the data is this control word: 0x00 and its byte.
 fn is_control(d: &[u8], word: Control) -> bool
     ensures { λ r. ⌜ r ≡ isControl word (now (d .entry)) ⌝ }
 {
@@ -18,6 +19,7 @@ fn is_control(d: &[u8], word: Control) -> bool
     d[1] == packet::control_byte(word)
 }
 
+// Whether the data is a report of this row: its get code, and behind it values that it allows.
 fn is_report(row: usize, d: &[u8]) -> bool
     requires { ⌜ row < 8 ⌝ }
     ensures { λ r. ⌜ r ≡ isReport row (now (d .entry)) ⌝ }

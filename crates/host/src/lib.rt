@@ -76,6 +76,7 @@ pub fn refusal_number(refusal: Refusal) -> u8
     }
 }
 
+// An answer without values.
 fn plain(host: Host, length: usize, outcome: Outcome) -> Step
     ensures { λ r. ⌜ r ≡ plainStep host length outcome ⌝ }
 {
@@ -130,6 +131,7 @@ fn send_again(host: Host, out: &mut [u8]) -> Step
     )
 }
 
+// A report has come, and these are its values.
 fn reported(sendings: usize, v: &[u8]) -> Step
     requires { ⌜ length (now v) ≤ 7 ⌝ }
     ensures { λ r. ⌜ r ≡ stepOf (over (Outcome.Report sendings) (now (v .entry))) ⌝ }

@@ -54,6 +54,7 @@ pub(crate) fn is_request(request: Request) -> bool
     }
 }
 
+// The code, and behind it the values.
 fn data_bytes(code: u8, v: [u8; 7]) -> [u8; 8]
     ensures { λ r. ⌜ r ≡ code ∷ v ⌝ }
 {
