@@ -1,13 +1,13 @@
 -- What a call's plain answers mean. Assumes nothing.
 use mathlib.Core.Path.{_≡_, refl}
-use mathlib.Core.List.{List, [], _∷_, _++_, flatten, append-nil}
+use mathlib.Core.List.{List, [], _∷_, flatten, append-nil}
 use Prim.Native.Nat.{ℕ}
-use lib.ListN.{length, replicate, length-replicate}
+use lib.ListN.{length, length-replicate}
 use Rattle.packet.specs.Packet.{laidOver}
 use Rattle.host.specs.declared.Host.{Host}
 use Rattle.host.specs.declared.Step.{Step}
 use Rattle.host.specs.declared.Outcome.{Outcome}
-use Rattle.host.specs.Machine.{Move, State, idle, quiet, over}
+use Rattle.host.specs.Machine.{Move, State, quiet, over}
 use Rattle.host.specs.Calls.{hostOf, stateOf, nothingWaits, padded, stepOf, plainStep, Answers}
 
 -- a host is what its state says

@@ -2,7 +2,7 @@
 use Prim.Native.Nat.{ℕ}
 use mathlib.Core.Path.{_≡_}
 use mathlib.Core.Bool.{cond}
-use mathlib.Core.List.{List, [], flatten}
+use mathlib.Core.List.{List, flatten}
 use lib.ListN.{length, replicate}
 use lib.Dec.{leb}
 use Rattle.packet.specs.Packet.{laidOver}
@@ -40,6 +40,7 @@ abbrev pub bytesOf : Move → List ℕ
 unfolding flatten
 bytesOf m = flatten (m .sent)
 
+-- what a call answers for a move
 unfoldable pub stepOf : Move → Step
 stepOf m = record {
   host = hostOf (m .next);
@@ -49,6 +50,7 @@ stepOf m = record {
   count = length (m .values);
 }
 
+-- an answer without values
 abbrev pub plainStep : Host → ℕ → Outcome → Step
 plainStep h n o = record { host = h; length = n; outcome = o; values = replicate 7 0; count = 0 }
 

@@ -17,12 +17,14 @@ use Rattle.host.specs.declared.Request.{Request}
 use Rattle.host.specs.declared.Said.{Said}
 use Rattle.host.specs.declared.Said.the-variants.{Ack, Nack, Nav, Report, Nothing}
 
+-- the same bytes
 unfoldable pub same : List ℕ → List ℕ → Bool
 same [] [] = true
 same [] (y ∷ ys) = false
 same (x ∷ xs) [] = false
 same (x ∷ xs) (y ∷ ys) = eqb x y && same xs ys
 
+-- the data of a control word
 unfoldable pub isControl : Control → List ℕ → Bool
 isControl word d = same d (controlData word)
 
@@ -31,6 +33,7 @@ unfoldable pub isReport : ℕ → List ℕ → Bool
 isReport k [] = false
 isReport k (c ∷ values) = eqb c (getCode k) && allowedFor k values
 
+-- an ACK ends a set, a report a get
 unfoldable pub endedBy : Found → List ℕ → Said
 endedBy (Set row) d = cond (isControl AckWord d) Ack Nothing
 endedBy (Get row) d = cond (isReport row d) Report Nothing
@@ -40,6 +43,7 @@ endedBy NoSetting d = Nothing
 unfoldable pub wordIn : ℕ → List ℕ → Said
 wordIn code d = cond (isControl NackWord d) Nack (cond (isControl NavWord d) Nav (endedBy (foundBy code) d))
 
+-- what a burst with that verdict and data says to the host that waits for r
 unfoldable pub saidBy : Request → Verdict → List ℕ → Said
 saidBy r Empty d = Nothing
 saidBy r Damaged d = Nothing

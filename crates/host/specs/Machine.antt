@@ -6,8 +6,7 @@ use lib.ListN.{length, drop, replicate}
 use lib.Dec.{ltb}
 use Rattle.packet.specs.Packet.{monitorId, groupId}
 use Rattle.host.specs.declared.Request.{Request}
-use Rattle.host.specs.declared.Refusal.{Refusal}
-use Rattle.host.specs.declared.Refusal.the-variants.{NoRoom, Busy, NotARequest}
+use Rattle.host.specs.declared.Refusal.the-variants.{Busy, NotARequest}
 use Rattle.host.specs.declared.Outcome.{Outcome}
 use Rattle.host.specs.declared.Outcome.the-variants.{Idle, Waiting, Unheard, Ack as Acked, Nav as NotAvailable, Report as Reported, GivenUp, Refused}
 use Rattle.host.specs.declared.Said.{Said}
@@ -33,6 +32,7 @@ pub record Move : Type 0 where
   pub outcome : Outcome
   pub values : List ℕ
 
+-- what stands in the place of a request where nothing waits
 abbrev pub noRequest : Request
 noRequest = record { id = monitorId 0; group = groupId 0; code = 0; values = replicate 7 0; count = 0 }
 
@@ -50,6 +50,7 @@ waits s = ltb 0 (sendings s)
 abbrev pub quiet : State → Outcome → Move
 quiet s o = record { next = s; sent = []; outcome = o; values = [] }
 
+-- the request is over
 abbrev pub over : Outcome → List ℕ → Move
 over o vs = record { next = idle; sent = []; outcome = o; values = vs }
 
@@ -80,6 +81,7 @@ ending s d Nothing = quiet s Waiting
 unfoldable pub heard : State → List ℕ → Move
 heard s b = ending s (dataIn b) (saidTo (s .request) b)
 
+-- one happening
 unfoldable pub step : State → Happening → Move
 step s (start r) = cond (waits s) (quiet s (Refused Busy)) (cond (isRequest r) (begun r) (quiet s (Refused NotARequest)))
 step s (burst b) = cond (waits s) (heard s b) (quiet s Idle)

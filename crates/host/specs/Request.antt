@@ -1,6 +1,6 @@
 -- A request and its packet. 01, "Host side".
 use Prim.Native.Nat.{ℕ}
-use mathlib.Core.Bool.{Bool, true, false, not, _&&_}
+use mathlib.Core.Bool.{Bool, false, not, _&&_}
 use mathlib.Core.List.{List, _∷_}
 use lib.ListN.{take}
 use lib.Dec.{leb, eqb}

@@ -1,19 +1,16 @@
 // The host side of the line: it asks, waits, sends the same packet at most twice more, and always comes to an end.
+mod hearing;
+mod sending;
+
 ghost use mathlib.Core.Path.{_≡_};
-ghost use Prim.Native.Nat.{_≤_, _<_, min};
-ghost use mathlib.Core.List.{_∷_};
-ghost use lib.ListN.{length, take};
-ghost use Rattle.settings.specs.Settings.{allowedFor};
-ghost use Rattle.packet.specs.Packet.{laidOver};
-ghost use Rattle.host.specs.Request.{isRequest, isDue, requestPacket};
-ghost use Rattle.host.specs.Heard.{isControl, isReport, wordIn};
+ghost use Prim.Native.Nat.{_≤_};
+ghost use lib.ListN.{length};
+ghost use Rattle.host.specs.Heard.{wordIn};
 ghost use Rattle.host.specs.Machine.{start, burst, mark, over, begun, again, ending, heard};
 ghost use Rattle.host.specs.Calls.{refusalOf, nothingWaits, stateOf, stepOf, plainStep, call, Answers};
-use packet::Control;
 use packet::GroupId;
 use packet::MonitorId;
 use packet::Verdict;
-use settings::Found;
 
 // A set with its values or a get. The first count of the values are the request's; the others mean nothing.
 pub struct Request {
@@ -79,126 +76,7 @@ pub fn refusal_number(refusal: Refusal) -> u8
     }
 }
 
-// Whether a panel answers: not to ID 0, and not to a group.
-fn is_due(id: MonitorId, group: GroupId) -> bool
-    ensures { λ r. ⌜ r ≡ isDue id group ⌝ }
-{
-    id.0 != 0 && group.0 == 0
-}
-
-// Whether the first count of these values may be set in a row.
-fn may_set(row: usize, v: [u8; 7], count: usize) -> bool
-    requires { ⌜ (row < 8) × (count ≤ 7) ⌝ }
-    ensures { λ r. ⌜ r ≡ allowedFor row (take count v) ⌝ }
-{
-    settings::allowed(row, &v[..count])
-}
-
-// Whether the table has this request.
-fn is_request(request: Request) -> bool
-    ensures { λ r. ⌜ r ≡ isRequest request ⌝ }
-{
-    let count = request.count;
-    if 7 < count {
-        return false;
-    }
-    let group = request.group;
-    let found = settings::find_setting(request.code);
-    match found {
-        Found::Set(row) => {
-            if group.0 == 255 {
-                return false;
-            }
-            let values = request.values;
-            may_set(row, values, count)
-        }
-        Found::Get(_) => {
-            if count != 0 {
-                return false;
-            }
-            is_due(request.id, group)
-        }
-        Found::Nothing => false,
-    }
-}
-
-fn data_bytes(code: u8, v: [u8; 7]) -> [u8; 8]
-    ensures { λ r. ⌜ r ≡ code ∷ v ⌝ }
-{
-    [code, v[0], v[1], v[2], v[3], v[4], v[5], v[6]]
-}
-
-// How many of the seven values count.
-fn in_use(count: usize) -> usize
-    ensures { λ r. ⌜ r ≡ min count 7 ⌝ }
-{
-    if count < 7 { count } else { 7 }
-}
-
-// Puts the request's packet, for which there is room, at the front of out and answers its length.
-fn send(request: Request, out: &mut [u8]) -> usize
-    requires { ⌜ 40 ≤ length (now out) ⌝ }
-    ensures { λ r. ⌜ r ≡ length (requestPacket request) ⌝ }
-    ensures { λ _. ⌜ now (out .exit) ≡ laidOver (requestPacket request) (now (out .entry)) ⌝ }
-{
-    let values = request.values;
-    let data = data_bytes(request.code, values);
-    let n = in_use(request.count) + 1;
-    packet::write_packet(out, request.id, request.group, &data[..n]);
-    n + 4
-}
-
-fn is_control(d: &[u8], word: Control) -> bool
-    ensures { λ r. ⌜ r ≡ isControl word (now (d .entry)) ⌝ }
-{
-    if d.len() != 2 {
-        return false;
-    }
-    if d[0] != 0 {
-        return false;
-    }
-    d[1] == packet::control_byte(word)
-}
-
-fn is_report(row: usize, d: &[u8]) -> bool
-    requires { ⌜ row < 8 ⌝ }
-    ensures { λ r. ⌜ r ≡ isReport row (now (d .entry)) ⌝ }
-{
-    if d.len() == 0 {
-        return false;
-    }
-    if d[0] != settings::get_code(row) {
-        return false;
-    }
-    settings::allowed(row, &d[1..])
-}
-
-// What the data of a burst from the panel that was asked says: an ACK to a set, a report to a get, NACK or NAV to either.
-fn word_in(code: u8, d: &[u8]) -> Said
-    ensures { λ r. ⌜ r ≡ wordIn code (now (d .entry)) ⌝ }
-{
-    if is_control(d, Control::Nack) {
-        return Said::Nack;
-    }
-    if is_control(d, Control::Nav) {
-        return Said::Nav;
-    }
-    let found = settings::find_setting(code);
-    match found {
-        Found::Set(_) => if is_control(d, Control::Ack) {
-            Said::Ack
-        } else {
-            Said::Nothing
-        },
-        Found::Get(row) => if is_report(row, d) {
-            Said::Report
-        } else {
-            Said::Nothing
-        },
-        Found::Nothing => Said::Nothing,
-    }
-}
-
+// An answer without values.
 fn plain(host: Host, length: usize, outcome: Outcome) -> Step
     ensures { λ r. ⌜ r ≡ plainStep host length outcome ⌝ }
 {
@@ -217,8 +95,8 @@ fn begin(request: Request, out: &mut [u8]) -> Step
     requires { ⌜ 40 ≤ length (now out) ⌝ }
     ensures { λ r. ⌜ Answers (begun request) (now (out .entry)) r (now (out .exit)) ⌝ }
 {
-    let length = send(request, out);
-    if is_due(request.id, request.group) {
+    let length = sending::send(request, out);
+    if sending::is_due(request.id, request.group) {
         plain(
             Host {
                 request,
@@ -242,7 +120,7 @@ fn send_again(host: Host, out: &mut [u8]) -> Step
         return plain(Host::idle(), 0, Outcome::GivenUp(sendings));
     }
     let request = host.request;
-    let length = send(request, out);
+    let length = sending::send(request, out);
     plain(
         Host {
             request,
@@ -253,6 +131,7 @@ fn send_again(host: Host, out: &mut [u8]) -> Step
     )
 }
 
+// A report has come, and these are its values.
 fn reported(sendings: usize, v: &[u8]) -> Step
     requires { ⌜ length (now v) ≤ 7 ⌝ }
     ensures { λ r. ⌜ r ≡ stepOf (over (Outcome.Report sendings) (now (v .entry))) ⌝ }
@@ -276,7 +155,7 @@ fn told(host: Host, d: &[u8], out: &mut [u8]) -> Step
     ensures { λ r. ⌜ Answers (ending (stateOf host) (now (d .entry)) (wordIn (host .request .code) (now (d .entry)))) (now (out .entry)) r (now (out .exit)) ⌝ }
 {
     let request = host.request;
-    let word = word_in(request.code, d);
+    let word = hearing::word_in(request.code, d);
     match word {
         Said::Ack => plain(Host::idle(), 0, Outcome::Ack(host.sendings)),
         Said::Nack => send_again(host, out),
@@ -340,7 +219,7 @@ impl Host {
         if self.sendings != 0 {
             return plain(self, 0, Outcome::Refused(Refusal::Busy));
         }
-        if !is_request(request) {
+        if !sending::is_request(request) {
             return plain(self, 0, Outcome::Refused(Refusal::NotARequest));
         }
         begin(request, out)

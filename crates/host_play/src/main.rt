@@ -27,12 +27,14 @@ fn request_of(step: &[u8]) -> Request
     }
 }
 
+// Prints up to 40 bytes in hex.
 fn print_hex(bytes: &[u8]) {
     let mut digits = [0u8; 80];
     let n = text::hex(bytes, &mut digits);
     io::write_all(1, &digits[..n]);
 }
 
+// Prints a word and a number.
 fn print_counted(word: &[u8], n: u64) {
     io::write_all(1, word);
     io::write_all(1, b" ");
@@ -78,6 +80,7 @@ fn show(step: Step, out: &[u8]) -> Host {
     step.host
 }
 
+// Says that a step is none of the three.
 fn unknown(host: Host) -> Host {
     io::write_all(1, b"- unknown\n");
     host
@@ -113,6 +116,8 @@ fn play(host: Host, step: &[u8]) -> Host {
     }
 }
 
+// Every step of standard input, in order. The loop counts its turns, since a proved loop has to end and nothing says that the
+// input does.
 fn main() {
     let mut host = Host::idle();
     let mut number = 0u64;

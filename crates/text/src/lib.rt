@@ -48,6 +48,7 @@ pub fn front(bytes: &[u8], n: usize) -> &[u8]
     if n < bytes.len() { &bytes[..n] } else { bytes }
 }
 
+// The number that a count byte stands for.
 fn count_of(b: u8) -> usize
     ensures { λ r. ⌜ r ≤ 255 ⌝ }
 {

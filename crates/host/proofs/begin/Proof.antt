@@ -1,5 +1,5 @@
 -- The packet is given out; whether an answer is due decides what then waits. Assumes nothing.
-use mathlib.Core.Path.{_≡_, refl, sym, ap, subst, _∙_}
+use mathlib.Core.Path.{refl, sym, _∙_}
 use borrow.Author.Needs.{needs}
 use mathlib.Core.List.{[], _∷_}
 use Rattle.host.specs.Machine.{idle, begun}
@@ -7,12 +7,6 @@ use Rattle.host.specs.Request.{requestPacket}
 use Rattle.host.proofs.Answers.{gives}
 use Rattle.host.proofs.begin.Statement.{statement}
 use Rattle.host.proofs.begin.Tie as tie
-use Rattle.host.proofs.begin.Reads as reads
-use Rattle.host.proofs.begin.Lts as lts
-use Rattle.host.proofs.Host.idle.Reads as idle-reads
-use Rattle.host.proofs.is_due.Reads as is-due-reads
-use Rattle.host.proofs.plain.Reads as plain-reads
-use Rattle.host.proofs.send.Reads as send-reads
 
 send-requires : tie.Need-send-requires
 send-requires c κs = search needs

@@ -1,27 +1,17 @@
 -- Each test decides a case of what the burst says. Assumes nothing.
-use mathlib.Core.Path.{_≡_, refl, sym, ap, subst, _∙_}
+use mathlib.Core.Path.{_≡_, sym, ap, subst, _∙_}
 use borrow.Author.Needs.{needs}
-use Prim.Native.Nat.{ℕ}
 use mathlib.Core.List.{[], _∷_}
 use types.Run.{OneOf}
 use denote.Enum.Declared.{tagOf}
 use Rattle.packet.specs.Packet.{verdictOf, dataOf}
-use Rattle.packet.specs.declared.Verdict.{Verdict}
 use Rattle.packet.specs.declared.Verdict.the-variants.{Intact}
 use Rattle.packet.proofs.Verdict.{the-type}
-use Rattle.host.specs.Machine.{ending}
-use Rattle.host.specs.Heard.{wordIn}
 use Rattle.host.specs.Calls.{stateOf}
 use Rattle.host.proofs.Moves.{ignored, not-intact, other-group, other-id, addressed}
 use Rattle.host.proofs.Answers.{stays}
 use Rattle.host.proofs.heeded.Statement.{statement}
 use Rattle.host.proofs.heeded.Tie as tie
-use Rattle.host.proofs.heeded.Reads as reads
-use Rattle.host.proofs.heeded.Lts as lts
-use Rattle.host.proofs.plain.Reads as plain-reads
-use Rattle.host.proofs.told.Reads as told-reads
-use Rattle.packet.proofs.data_part.Reads as data-part-reads
-use Rattle.packet.proofs.verdict_on.Reads as verdict-on-reads
 
 intact : (c : tie.After-verdict)
     → let b = c .before .before .before .before .before .args .b .now in

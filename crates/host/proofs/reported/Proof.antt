@@ -1,5 +1,5 @@
 -- The values are laid over seven zeros. Assumes nothing.
-use mathlib.Core.Path.{_≡_, refl, sym, ap, subst, _∙_}
+use mathlib.Core.Path.{_≡_}
 use borrow.Author.Needs.{needs}
 use Prim.Native.Nat.{ℕ}
 use mathlib.Core.List.{List, _++_, flatten}
@@ -13,10 +13,6 @@ use Rattle.host.specs.Machine.{over}
 use Rattle.host.specs.Calls.{nothingWaits, padded, stepOf}
 use Rattle.host.proofs.reported.Statement.{statement}
 use Rattle.host.proofs.reported.Tie as tie
-use Rattle.host.proofs.reported.Reads as reads
-use Rattle.host.proofs.reported.Lts as lts
-use Rattle.bytes.proofs.copy.Reads as copy-reads
-use Rattle.host.proofs.Host.idle.Reads as idle-reads
 
 made : (h : Host) (n sendings : ℕ) (v values : List ℕ) → h ≡ nothingWaits → n ≡ length v
     → values ≡ take (length v) v ++ drop (length v) (replicate 7 0)

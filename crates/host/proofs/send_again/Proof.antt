@@ -1,8 +1,8 @@
 -- The third sending is the last. Assumes nothing.
-use mathlib.Core.Path.{_≡_, refl, sym, ap, subst, _∙_}
+use mathlib.Core.Path.{_≡_}
 use borrow.Author.Needs.{needs}
 use mathlib.Core.List.{[], _∷_}
-use Prim.Native.Nat.{ℕ, _≤_, _<_}
+use Prim.Native.Nat.{_≤_, _<_}
 use native.Mathlib.Numerals.{add-one}
 use borrow.Author.Tests.{lt-ltb, le-ltb}
 use lib.ListN.{length-replicate}
@@ -14,11 +14,6 @@ use Rattle.host.specs.Calls.{stateOf}
 use Rattle.host.proofs.Answers.{ends, gives}
 use Rattle.host.proofs.send_again.Statement.{statement}
 use Rattle.host.proofs.send_again.Tie as tie
-use Rattle.host.proofs.send_again.Reads as reads
-use Rattle.host.proofs.send_again.Lts as lts
-use Rattle.host.proofs.Host.idle.Reads as idle-reads
-use Rattle.host.proofs.plain.Reads as plain-reads
-use Rattle.host.proofs.send.Reads as send-reads
 
 gives-up : (h : Host) → 3 ≤ h .sendings → again (stateOf h) ≡ over (GivenUp (h .sendings)) []
 unfolding again

@@ -1,28 +1,18 @@
 -- Each word is a case of `ending`. Assumes nothing.
-use mathlib.Core.Path.{_≡_, refl, sym, ap, subst, _∙_}
+use mathlib.Core.Path.{_≡_, sym, _∙_}
 use borrow.Author.Needs.{needs}
 use native.Mathlib.Omega.{arith}
-use mathlib.Core.List.{[], flatten}
 use Prim.Native.Nat.{_≤_}
 use lib.ListN.{length, drop, length-drop, length-replicate}
-use Rattle.packet.specs.Packet.{laidOver}
 use Rattle.host.specs.declared.Said.{Said}
 use Rattle.host.specs.declared.Said.the-variants.{Report}
 use Rattle.host.specs.declared.Outcome.the-variants.{Report as Reported}
 use Rattle.host.specs.Heard.{wordIn}
-use Rattle.host.specs.Machine.{over, ending}
-use Rattle.host.specs.Calls.{stateOf, stepOf}
+use Rattle.host.specs.Machine.{ending}
 use Rattle.host.proofs.Words.{report-length, rest}
 use Rattle.host.proofs.Answers.{stays, ends, reports}
 use Rattle.host.proofs.told.Statement.{statement}
 use Rattle.host.proofs.told.Tie as tie
-use Rattle.host.proofs.told.Reads as reads
-use Rattle.host.proofs.told.Lts as lts
-use Rattle.host.proofs.Host.idle.Reads as idle-reads
-use Rattle.host.proofs.plain.Reads as plain-reads
-use Rattle.host.proofs.reported.Reads as reported-reads
-use Rattle.host.proofs.send_again.Reads as send-again-reads
-use Rattle.host.proofs.word_in.Reads as word-in-reads
 
 word : (c : tie.After-word-in) (w : Said) → c .word-in .result ≡ w
     → let a = c .before .before .before .before .args in wordIn (a .host .request .code) (a .d .now) ≡ w

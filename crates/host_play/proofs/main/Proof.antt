@@ -1,18 +1,8 @@
 -- Each step read is one turn; the measure is the turns that are left of a number that no run uses up. Assumes nothing.
 use Prim.Native.Nat.{_^_, _-_}
-use native.Mathlib.Omega.{arith}
 use borrow.Author.Needs.{needs}
 use Rattle.host_play.proofs.main.Statement.{statement}
 use Rattle.host_play.proofs.main.Tie as tie
-use Rattle.host_play.proofs.main.Reads as reads
-use Rattle.host_play.proofs.main.Lts as lts
-use Rattle.host.proofs.Host.idle.Reads as idle-reads
-use Rattle.host_play.proofs.play.Reads as play-reads
-use Rattle.host_play.proofs.print_counted.Reads as print-counted-reads
-use Rattle.io.proofs.print_decimal.Reads as print-decimal-reads
-use Rattle.io.proofs.write_all.Reads as write-all-reads
-use Rattle.text.proofs.front.Reads as front-reads
-use Rattle.text.proofs.read_step.Reads as read-step-reads
 
 abbrev Inv-loop : tie.InvT-loop
 Inv-loop host₀ number₀ t6 t7 t8 t9 t10 host number = Unit {0}

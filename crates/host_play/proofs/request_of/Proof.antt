@@ -1,5 +1,5 @@
 -- The values are laid over seven zeros. Assumes nothing.
-use mathlib.Core.Path.{_≡_, refl, _∙_}
+use mathlib.Core.Path.{_≡_, _∙_}
 use mathlib.Core.List.{List, _++_}
 use Prim.Native.Nat.{ℕ, _-_}
 use native.Mathlib.Omega.{arith}
@@ -10,10 +10,6 @@ use Rattle.packet.specs.Packet.{laidOver}
 use Rattle.host_play.specs.Steps.{requestOf}
 use Rattle.host_play.proofs.request_of.Statement.{statement}
 use Rattle.host_play.proofs.request_of.Tie as tie
-use Rattle.host_play.proofs.request_of.Reads as reads
-use Rattle.host_play.proofs.request_of.Lts as lts
-use Rattle.bytes.proofs.copy.Reads as copy-reads
-use Rattle.text.proofs.front.Reads as front-reads
 
 kept : (s v values : List ℕ) → v ≡ take 7 (take (length s - 4) (drop 4 s))
     → values ≡ take (length v) v ++ drop (length v) (replicate 7 0) → values ≡ laidOver (take 7 (drop 4 s)) (replicate 7 0)

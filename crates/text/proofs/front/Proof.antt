@@ -5,8 +5,6 @@ use borrow.Author.Needs.{needs}
 use lib.Seq.{length-take-le, take-all}
 use Rattle.text.proofs.front.Statement.{statement}
 use Rattle.text.proofs.front.Tie as tie
-use Rattle.text.proofs.front.Reads as reads
-use Rattle.text.proofs.front.Lts as lts
 
 slice-aggregate-result : tie.Need-slice-aggregate-result
 slice-aggregate-result c = sym (length-take-le _ _ (omega arith))

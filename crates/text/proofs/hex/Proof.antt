@@ -1,19 +1,16 @@
 -- The invariant: the digits of the bytes passed stand at the front of the output, and the rest is as it was.
 -- Assumes nothing.
-use mathlib.Core.Path.{_≡_, refl, sym, ap, _∙_}
+use mathlib.Core.Path.{_≡_, refl, sym, _∙_}
 use mathlib.Core.List.{List, [], _∷_, _++_, append-assoc}
 use Prim.Native.Nat.{ℕ, suc, _+_, _*_, _-_, _/_, _%_, _≤_, _<_}
 use native.Mathlib.Numerals.{add-one}
 use native.Mathlib.Omega.{arith}
 use borrow.Author.Tests.{le-leb, lt-leb}
-use lib.ListN.{length, getD, take, drop, set, length-set, length-append, length-drop}
-use lib.Seq.{take-suc, take-all, take-at, length-take-le, drop-cons, set-at, append-snoc}
+use lib.ListN.{length, getD, take, drop, set, length-set}
+use lib.Seq.{take-suc, take-all, length-take-le, drop-cons}
 use Rattle.text.specs.Hex.{digitOf, hexOf, hexCount, hexOver}
 use Rattle.text.proofs.hex.Statement.{statement}
 use Rattle.text.proofs.hex.Tie as tie
-use Rattle.text.proofs.hex.Reads as reads
-use Rattle.text.proofs.hex.Lts as lts
-use Rattle.text.proofs.digit.Reads as digit-reads
 
 length-hex : (bs : List ℕ) → length (hexOf bs) ≡ 2 * length bs
 unfolding hexOf

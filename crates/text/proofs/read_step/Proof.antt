@@ -9,10 +9,6 @@ use lib.Seq.{length-take-le}
 use Rattle.io.specs.Counts.{Counts}
 use Rattle.text.proofs.read_step.Statement.{statement}
 use Rattle.text.proofs.read_step.Tie as tie
-use Rattle.text.proofs.read_step.Reads as reads
-use Rattle.text.proofs.read_step.Lts as lts
-use Rattle.io.proofs.read_full.Reads as read-full-reads
-use Rattle.text.proofs.count_of.Reads as count-of-reads
 
 front : (n : ℕ) (a b : List ℕ) → n ≤ length a → Counts n (a ++ b)
 front n a b h =

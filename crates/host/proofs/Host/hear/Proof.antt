@@ -1,14 +1,9 @@
 -- Each test decides a case of the call. Assumes nothing.
-use mathlib.Core.Path.{_≡_, refl, sym, ap, subst, _∙_}
 use borrow.Author.Needs.{needs}
 use Rattle.host.proofs.Moves.{no-room, idle-burst, burst-heard}
 use Rattle.host.proofs.Answers.{stays}
 use Rattle.host.proofs.Host.hear.Statement.{statement}
 use Rattle.host.proofs.Host.hear.Tie as tie
-use Rattle.host.proofs.Host.hear.Reads as reads
-use Rattle.host.proofs.Host.hear.Lts as lts
-use Rattle.host.proofs.heeded.Reads as heeded-reads
-use Rattle.host.proofs.plain.Reads as plain-reads
 
 plain-requires : tie.Need-plain-requires
 plain-requires c κs = search needs

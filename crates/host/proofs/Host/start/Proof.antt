@@ -1,16 +1,11 @@
 -- Each test decides a case of the call. Assumes nothing.
-use mathlib.Core.Path.{_≡_, refl, sym, ap, subst, _∙_}
+use mathlib.Core.Path.{sym, _∙_}
 use borrow.Author.Needs.{needs}
 use Rattle.host.proofs.Moves.{no-room, busy, not-started, started}
 use Rattle.host.proofs.Answers.{stays}
 use borrow.Author.Tests.{not-true, not-false}
 use Rattle.host.proofs.Host.start.Statement.{statement}
 use Rattle.host.proofs.Host.start.Tie as tie
-use Rattle.host.proofs.Host.start.Reads as reads
-use Rattle.host.proofs.Host.start.Lts as lts
-use Rattle.host.proofs.begin.Reads as begin-reads
-use Rattle.host.proofs.is_request.Reads as is-request-reads
-use Rattle.host.proofs.plain.Reads as plain-reads
 
 plain-requires : tie.Need-plain-requires
 plain-requires c κs = search needs

@@ -10,12 +10,8 @@ use Rattle.settings.specs.Settings.{allowedFor}
 use Rattle.host.specs.Heard.{isReport}
 use Rattle.host.proofs.Words.{report-some, rest}
 use borrow.Author.Needs.{needs}
-use Rattle.host.proofs.is_report.Statement.{statement}
-use Rattle.host.proofs.is_report.Tie as tie
-use Rattle.host.proofs.is_report.Reads as reads
-use Rattle.host.proofs.is_report.Lts as lts
-use Rattle.settings.proofs.allowed.Reads as allowed-reads
-use Rattle.settings.proofs.get_code.Reads as get-code-reads
+use Rattle.host.proofs.hearing.is_report.Statement.{statement}
+use Rattle.host.proofs.hearing.is_report.Tie as tie
 
 none : (k : ℕ) (d : List ℕ) → length d ≡ 0 → false ≡ isReport k d
 unfolding isReport

@@ -1,8 +1,8 @@
 -- What is written is the request's packet: the values in use are those that count. Assumes nothing.
-use mathlib.Core.Path.{_≡_, refl, sym, ap, subst, _∙_}
+use mathlib.Core.Path.{_≡_, refl, sym, ap, _∙_}
 use mathlib.Core.Bool.{Bool, true, false}
 use mathlib.Core.List.{List, _∷_}
-use Prim.Native.Nat.{ℕ, _+_, _≤_, _<_, min}
+use Prim.Native.Nat.{ℕ, _+_, _≤_, min}
 use native.Mathlib.Numerals.{add-one}
 use native.Mathlib.Omega.{arith}
 use borrow.Author.Needs.{needs}
@@ -16,13 +16,8 @@ use Rattle.packet.specs.declared.GroupId.{GroupId}
 use Rattle.packet.proofs.Packets.{packet-length}
 use Rattle.host.specs.declared.Request.{Request}
 use Rattle.host.specs.Request.{requestData, requestPacket}
-use Rattle.host.proofs.send.Statement.{statement}
-use Rattle.host.proofs.send.Tie as tie
-use Rattle.host.proofs.send.Reads as reads
-use Rattle.host.proofs.send.Lts as lts
-use Rattle.host.proofs.data_bytes.Reads as data-bytes-reads
-use Rattle.host.proofs.in_use.Reads as in-use-reads
-use Rattle.packet.proofs.write_packet.Reads as write-packet-reads
+use Rattle.host.proofs.sending.send.Statement.{statement}
+use Rattle.host.proofs.sending.send.Tie as tie
 
 in-use : (n count : ℕ) (v : List ℕ) → length v ≡ 7 → n ≡ min count 7 → take n v ≡ take count v
 in-use n count v len e = go (leb count 7) refl

@@ -1,10 +1,8 @@
 -- Both tests are those of `isDue`. Assumes nothing.
 use borrow.Author.Tests.{eq-eqb, ne-eqb}
 use Rattle.host.specs.Request.{isDue}
-use Rattle.host.proofs.is_due.Statement.{statement}
-use Rattle.host.proofs.is_due.Tie as tie
-use Rattle.host.proofs.is_due.Reads as reads
-use Rattle.host.proofs.is_due.Lts as lts
+use Rattle.host.proofs.sending.is_due.Statement.{statement}
+use Rattle.host.proofs.sending.is_due.Tie as tie
 
 returns : tie.Need-returns
 unfolding isDue

@@ -5,10 +5,8 @@ use mathlib.Core.Path.{_≡_, refl}
 use lib.ListN.{length, getD}
 use native.Mathlib.Omega.{arith}
 use borrow.Author.Needs.{needs}
-use Rattle.host.proofs.data_bytes.Statement.{statement}
-use Rattle.host.proofs.data_bytes.Tie as tie
-use Rattle.host.proofs.data_bytes.Reads as reads
-use Rattle.host.proofs.data_bytes.Lts as lts
+use Rattle.host.proofs.sending.data_bytes.Statement.{statement}
+use Rattle.host.proofs.sending.data_bytes.Tie as tie
 
 behind : (c : ℕ) (v : List ℕ) → length v ≡ 7
     → c ∷ getD v 0 0 ∷ getD v 1 0 ∷ getD v 2 0 ∷ getD v 3 0 ∷ getD v 4 0 ∷ getD v 5 0 ∷ getD v 6 0 ∷ [] ≡ c ∷ v

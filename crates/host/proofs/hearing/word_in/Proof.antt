@@ -1,18 +1,12 @@
 -- Each test is a case of `wordIn`. Assumes nothing.
-use mathlib.Core.Path.{_≡_, refl, sym, ap, subst, _∙_}
-use Prim.Native.Nat.{ℕ}
+use mathlib.Core.Path.{_≡_, sym, subst, _∙_}
 use borrow.Author.Needs.{needs}
 use Rattle.settings.specs.declared.Found.{Found}
 use Rattle.settings.proofs.Laws.{IsFound, found-right}
 use Rattle.host.specs.Heard.{endedBy, wordIn}
 use Rattle.host.proofs.Words.{word-found}
-use Rattle.host.proofs.word_in.Statement.{statement}
-use Rattle.host.proofs.word_in.Tie as tie
-use Rattle.host.proofs.word_in.Reads as reads
-use Rattle.host.proofs.word_in.Lts as lts
-use Rattle.host.proofs.is_control.Reads as is-control-reads
-use Rattle.host.proofs.is_report.Reads as is-report-reads
-use Rattle.settings.proofs.find_setting.Reads as find-setting-reads
+use Rattle.host.proofs.hearing.word_in.Statement.{statement}
+use Rattle.host.proofs.hearing.word_in.Tie as tie
 
 -- past both tests the code decides
 past : (c : tie.After-find-setting) (f : Found) → c .find-setting .result ≡ f

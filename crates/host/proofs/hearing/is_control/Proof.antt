@@ -3,11 +3,8 @@ use mathlib.Core.Path.{sym, _∙_}
 use borrow.Author.Tests.{eq-eqb, ne-eqb}
 use Rattle.host.proofs.Words.{control-other, control-two}
 use borrow.Author.Needs.{needs}
-use Rattle.host.proofs.is_control.Statement.{statement}
-use Rattle.host.proofs.is_control.Tie as tie
-use Rattle.host.proofs.is_control.Reads as reads
-use Rattle.host.proofs.is_control.Lts as lts
-use Rattle.packet.proofs.control_byte.Reads as control-byte-reads
+use Rattle.host.proofs.hearing.is_control.Statement.{statement}
+use Rattle.host.proofs.hearing.is_control.Tie as tie
 
 returns : tie.Need-returns
 returns c = sym (control-other _ _ (c .if1 .taken))

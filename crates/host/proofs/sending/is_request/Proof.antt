@@ -1,6 +1,6 @@
 -- Each test is a case of `isRequest`. Assumes nothing.
-use mathlib.Core.Path.{_≡_, refl, sym, ap, subst, _∙_}
-use Prim.Native.Nat.{ℕ, _≤_}
+use mathlib.Core.Path.{_≡_, sym, subst, _∙_}
+use Prim.Native.Nat.{_≤_}
 use native.Mathlib.Omega.{arith}
 use borrow.Author.Needs.{needs}
 use borrow.Author.Tests.{le-leb, lt-leb, eq-eqb, ne-eqb}
@@ -9,13 +9,8 @@ use Rattle.settings.specs.declared.Found.{Found}
 use Rattle.settings.proofs.Laws.{IsFound, found-right}
 use Rattle.host.specs.declared.Request.{Request}
 use Rattle.host.specs.Request.{isTaken, isRequest}
-use Rattle.host.proofs.is_request.Statement.{statement}
-use Rattle.host.proofs.is_request.Tie as tie
-use Rattle.host.proofs.is_request.Reads as reads
-use Rattle.host.proofs.is_request.Lts as lts
-use Rattle.host.proofs.is_due.Reads as is-due-reads
-use Rattle.host.proofs.may_set.Reads as may-set-reads
-use Rattle.settings.proofs.find_setting.Reads as find-setting-reads
+use Rattle.host.proofs.sending.is_request.Statement.{statement}
+use Rattle.host.proofs.sending.is_request.Tie as tie
 
 few : (r : Request) (f : Found) → r .count ≤ 7 → foundBy (r .code) ≡ f → isRequest r ≡ isTaken r f
 unfolding isRequest
