@@ -2,12 +2,13 @@
 use mathlib.Core.Path.{_≡_, refl, sym, ap, _∙_}
 use mathlib.Core.List.{List, [], _∷_, _++_, append-assoc, append-nil, flatten}
 use Prim.Native.Nat.{ℕ, zero, suc, _+_, _-_, _≤_, _<_}
-use native.Mathlib.Nat.{add-assoc, add-zero, not-suc-le-zero, le-of-suc-le-suc}
+use native.Mathlib.Nat.{add-assoc, zero-add, add-zero, not-suc-le-zero, le-of-suc-le-suc}
 use native.Mathlib.Numerals.{add-one}
 use native.Mathlib.Omega.{arith}
 use borrow.Rule.Slice.PartMut.{midOf, putMid}
 use lib.ListN.{length, getD, take, drop, set, length-append, length-take, length-drop, take-append-drop}
 use lib.Seq.{length-take-le, take-length, take-at, drop-at, drop-drop, set-split, drop-append-add, take-all}
+use Rattle.packet.specs.Packet.{laidOver}
 use Rattle.image.specs.Laid.{laidAt}
 
 -- the part before the seam
@@ -22,6 +23,10 @@ length-laid at b l h =
 pub laid-none : (at : ℕ) (l : List ℕ) → laidAt at [] l ≡ l
 unfolding laidAt
 laid-none at l = rw (append-nil, add-zero) (take-append-drop at l)
+
+pub laid-over : (b l : List ℕ) → laidAt 0 b l ≡ laidOver b l
+unfolding laidAt laidOver
+laid-over b l = rw zero-add
 
 -- one piece behind the other
 pub laid-then : (at m : ℕ) (a b l : List ℕ) → m ≡ at + length a → m + length b ≤ length l

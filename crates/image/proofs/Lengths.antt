@@ -10,7 +10,7 @@ use mathlib.Core.Bool.{true}
 use lib.Dec.{leb}
 use lib.ListN.{length, getD, take, drop, length-append, length-take, length-drop, length-map, List·getD-map}
 use lib.Seq.{take-all}
-use Rattle.settings.specs.Settings.{settings, setCode, byteCount, place}
+use Rattle.settings.specs.Settings.{settings, setCode, byteCount, place, startOf}
 use Rattle.settings.specs.Numbers.{each}
 use Rattle.settings.proofs.Laws.{place-fits}
 use Rattle.settings.proofs.WrittenOut.{in-each, alike}
@@ -18,12 +18,17 @@ use Rattle.panels.specs.declared.Panel.{Panel}
 use Rattle.panels.specs.Wall.{Wall, valuesOf, blank}
 use Rattle.panels.specs.WellFormed.{GoodPanel, GoodWall}
 use Rattle.panels.proofs.Lists.{getD-inside}
-use Rattle.image.specs.Written.{field, fieldsOf, recordOf, recordsOf, highLow}
+use Rattle.image.specs.Written.{field, fieldsOf, recordOf, recordsOf, highLow, startsOf}
 use Rattle.image.proofs.Laid.{flat-more}
 
 pub length-each : {A : Type 0} (f : ℕ → A) (n : ℕ) → length (each f n) ≡ n
 length-each f zero = refl
 length-each f (suc n) = ap suc (length-each (λ k. f (suc k)) n)
+
+pub each-alike : {A : Type 0} (f g : ℕ → A) (n : ℕ) → ((k : ℕ) → k < n → f k ≡ g k) → each f n ≡ each g n
+each-alike f g zero same = refl
+each-alike f g (suc n) same =
+    rw (same 0 (omega arith), each-alike (λ k. f (suc k)) (λ k. g (suc k)) n (λ k h. same (suc k) (omega arith)))
 
 -- the values of a row are as many as it has
 pub length-values : (row : ℕ) (values : List ℕ) → length values ≡ 15 → length (valuesOf row values) ≡ byteCount row
@@ -102,3 +107,10 @@ records-before w good k h =
     alike-long 33 (recordsOf w)
     (λ j g. let g′ : j < length w = omega arith in rw (record-at w j g′) (record-length (getD w j blank) (good-at w good j g′ .full)))
     k (omega arith)
+
+pub starts-are : (w : Wall) → GoodWall w → startsOf (recordsOf w) ≡ each (λ k. highLow (33 * k)) (length w)
+unfolding startsOf flatten
+starts-are w good =
+    rw (length-map w recordOf)
+    (each-alike (λ k. highLow (startOf (recordsOf w) k)) (λ k. highLow (33 * k)) (length w)
+    (λ k h. ap highLow (records-before w good k (omega arith))))
