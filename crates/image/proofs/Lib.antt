@@ -1,3 +1,6 @@
--- `Laid` has the laws of bytes laid over others, `Lengths` the lengths of a record and of its parts.
+-- `Laid` has the laws of bytes laid over others, `Lengths` the lengths of a record and of its parts, `Steps` the walk over
+-- a record's fields, `Values` what a field that is taken does to a panel's values.
 pub mod Laid
 pub mod Lengths
+pub mod Steps
+pub mod Values

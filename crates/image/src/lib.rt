@@ -1,16 +1,60 @@
 // The setup image, which the box keeps across updates: a table written out, and read again.
+mod walk;
+mod whole;
 mod write;
 
 ghost use mathlib.Core.Path.{_≡_};
-ghost use Rattle.panels.specs.Wall.{panelsOf};
+ghost use Prim.Native.Nat.{_<_};
+ghost use Rattle.panels.specs.Wall.{panelsOf, tableOf};
 ghost use Rattle.panels.specs.WellFormed.{WellFormed};
 ghost use Rattle.image.specs.Written.{writtenOf, outputOf};
+ghost use Rattle.image.specs.Read.{isSound};
 use panels::Table;
 
 // An image's size, once it is written; or the output has no room for it.
 pub enum Written {
     Bytes(usize),
     NoRoom,
+}
+
+// Why an image was refused, if it was.
+pub enum Refusal {
+    Nothing,
+    TooShort,
+    OtherForm,
+    TooMany,
+    NoStarts,
+    Starts,
+    Record,
+    Field,
+    Value,
+}
+
+// The table that was read; on a refusal it is empty.
+pub struct Read {
+    pub refusal: Refusal,
+    pub table: Table,
+}
+
+// What stands at the front of a record's bytes: a field of a row, one whose values are not allowed, a broken one, or the end.
+pub enum Step {
+    Field(usize),
+    NotAllowed(usize),
+    Broken,
+    End,
+}
+
+// A place among a record's fields: which rows were seen before it, and the values with those fields taken.
+pub struct Cursor {
+    pub at: usize,
+    pub seen: [bool; 8],
+    pub values: [u8; 15],
+}
+
+// A panel's values with its record's fields taken, and why the walk over them stopped.
+pub struct Fields {
+    pub refusal: Refusal,
+    pub values: [u8; 15],
 }
 
 // The table's image at the front of out, of which the rest stays as it was.
@@ -29,4 +73,20 @@ pub fn write_image(t: Table, out: &mut [u8]) -> Written
     out[35 * n] = n as u8;
     out[35 * n + 1] = 1;
     Written::Bytes(size)
+}
+
+fn is_sound(r: Refusal) -> bool
+    ensures { λ s. ⌜ s ≡ isSound r ⌝ }
+{
+    match r {
+        Refusal::Nothing => true,
+        Refusal::TooShort => false,
+        Refusal::OtherForm => false,
+        Refusal::TooMany => false,
+        Refusal::NoStarts => false,
+        Refusal::Starts => false,
+        Refusal::Record => false,
+        Refusal::Field => false,
+        Refusal::Value => false,
+    }
 }
