@@ -38,7 +38,7 @@ laid-then at m a b l e h =
     let rest = drop (at + length a) l in
     let taken : take m (p ++ rest) ≡ p = take-at p rest m n in
     let dropped : drop (m + length b) (p ++ rest) ≡ drop (at + length (a ++ b)) l =
-        rw (← n, drop-append-add p rest (length b), drop-drop (length b) (at + length a) l, length-append a b, add-assoc) in
+    rw (← n, drop-append-add p rest (length b), drop-drop (length b) (at + length a) l, length-append a b, add-assoc) in
     rw (taken, dropped, append-assoc (take at l) a b)
 
 pub laid-set : (at v : ℕ) (l : List ℕ) → at < length l → set l at v ≡ laidAt at (v ∷ []) l

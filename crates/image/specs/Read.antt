@@ -16,7 +16,7 @@ use Rattle.image.specs.Whole.{wholeRefusal, recordsIn}
 use Rattle.image.specs.Fields.{fieldsIn}
 
 -- 01's number, 0 where nothing was refused
-unfoldable pub readRefusalOf : Refusal → ℕ
+abbrev pub readRefusalOf : Refusal → ℕ
 readRefusalOf Nothing = 0
 readRefusalOf TooShort = 11
 readRefusalOf OtherForm = 12
@@ -28,15 +28,7 @@ readRefusalOf Field = 17
 readRefusalOf Value = 18
 
 abbrev pub isSound : Refusal → Bool
-isSound Nothing = true
-isSound TooShort = false
-isSound OtherForm = false
-isSound TooMany = false
-isSound NoStarts = false
-isSound Starts = false
-isSound Record = false
-isSound Field = false
-isSound Value = false
+isSound r = eqb (readRefusalOf r) 0
 
 -- a wall read, or a refusal and no panels
 pub record Reading : Type 0 where

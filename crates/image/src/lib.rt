@@ -1,14 +1,14 @@
 // The setup image, which the box keeps across updates: a table written out, and read again.
+mod records;
 mod walk;
 mod whole;
 mod write;
 
 ghost use mathlib.Core.Path.{_≡_};
-ghost use Prim.Native.Nat.{_<_};
-ghost use Rattle.panels.specs.Wall.{panelsOf, tableOf};
+ghost use Rattle.panels.specs.Wall.{panelsOf};
 ghost use Rattle.panels.specs.WellFormed.{WellFormed};
 ghost use Rattle.image.specs.Written.{writtenOf, outputOf};
-ghost use Rattle.image.specs.Read.{isSound};
+ghost use Rattle.image.specs.Read.{readRefusalOf, readOf, inTable};
 use panels::Table;
 
 // An image's size, once it is written; or the output has no room for it.
@@ -75,18 +75,31 @@ pub fn write_image(t: Table, out: &mut [u8]) -> Written
     Written::Bytes(size)
 }
 
-fn is_sound(r: Refusal) -> bool
-    ensures { λ s. ⌜ s ≡ isSound r ⌝ }
+// 01's number for a refusal, 0 where there was none.
+pub fn refusal_number(r: Refusal) -> u8
+    ensures { λ n. ⌜ n ≡ readRefusalOf r ⌝ }
 {
     match r {
-        Refusal::Nothing => true,
-        Refusal::TooShort => false,
-        Refusal::OtherForm => false,
-        Refusal::TooMany => false,
-        Refusal::NoStarts => false,
-        Refusal::Starts => false,
-        Refusal::Record => false,
-        Refusal::Field => false,
-        Refusal::Value => false,
+        Refusal::Nothing => 0,
+        Refusal::TooShort => 11,
+        Refusal::OtherForm => 12,
+        Refusal::TooMany => 13,
+        Refusal::NoStarts => 14,
+        Refusal::Starts => 15,
+        Refusal::Record => 16,
+        Refusal::Field => 17,
+        Refusal::Value => 18,
     }
+}
+
+// The table that an image holds; or the first refusal, and no panels.
+pub fn read_image(image: &[u8]) -> Read
+    ensures { λ r. ⌜ r ≡ inTable (readOf (now (image .entry))) ⌝ }
+{
+    let refusal = whole::refusal_of(image);
+    if refusal_number(refusal) != 0 {
+        let table = panels::empty_table();
+        return Read { refusal, table };
+    }
+    records::all(image)
 }

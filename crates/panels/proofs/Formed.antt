@@ -41,7 +41,7 @@ absent-snoc : (i : MonitorId) (w : Wall) (p : Panel) → Absent i w → (p .id .
 absent-snoc i [] p a n = (n, tt)
 absent-snoc i (q ∷ w) p (m, a) n = (m, absent-snoc i w p a n)
 
-good-snoc : (w : Wall) (p : Panel) → GoodWall w → GoodPanel p → Absent (p .id) w → GoodWall (w ++ p ∷ [])
+pub good-snoc : (w : Wall) (p : Panel) → GoodWall w → GoodPanel p → Absent (p .id) w → GoodWall (w ++ p ∷ [])
 good-snoc [] p good g a = (g, tt, tt)
 good-snoc (q ∷ w) p (gq, aq, good) g (n, a) = (gq, absent-snoc (q .id) w p aq (λ e. n (sym e)), good-snoc w p good g a)
 

@@ -119,9 +119,10 @@ returns-2 c =
     let fits = le-leb (sizeOf w) (length out) room in
     let answer : writtenOf w out ≡ Bytes (sizeOf w) = simp fits in
     let after : outputOf w out ≡ laidOver (imageOf (recordsOf w)) out = simp fits in
-    let held = starts .starts .ensures ∙ ap₂ (λ (m : ℕ) (l : List ℕ). laidAt (33 * m) (starts-of m) l) n (records .records .ensures) in
-    (ap (λ (m : ℕ). Bytes (35 * m + 2)) n ∙ sym answer,
-    ap₂ (λ (m : ℕ) (l : List ℕ). set (set l (35 * m) m) (35 * m + 1) 1) n held ∙ image-laid w (start .pre .good) out room ∙ sym after)
+    let held = starts .starts .ensures ∙ ap₂ (λ (m : ℕ) (l : List ℕ). laidAt (33 * m) (starts-of m) l) n (records .records .ensures) in (
+      ap (λ (m : ℕ). Bytes (35 * m + 2)) n ∙ sym answer,
+      ap₂ (λ (m : ℕ) (l : List ℕ). set (set l (35 * m) m) (35 * m + 1) 1) n held ∙ image-laid w (start .pre .good) out room ∙ sym after,
+    )
 
 pub write-image-spec : {M : Type 1} → statement M
 write-image-spec =

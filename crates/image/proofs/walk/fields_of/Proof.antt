@@ -94,10 +94,11 @@ loop-again c =
     let n = c .taken .ensures .0 in
     let room = taken-requires known (c .taken .lifetimes) .2 in
     let as-many : length (valuesIn row left) ≡ byteCount row = simp (length-take, length-drop) (omega arith) in
-    let rest : behind row left ≡ drop (at + 2 + byteCount row) bytes = drop-drop (2 + byteCount row) at bytes ∙ ap (λ (k : ℕ). drop k bytes) (sym (add-assoc at 2 (byteCount row))) in
-    (omega arith,
-    ap length (c .taken .ensures .2) ∙ length-with row (valuesIn row left) (loop .loop .c .values) as-many (loop .loop .inv .1),
-    goes-on call (Field row) (known .before .step .given .1) ∙ rw (rest, c .taken .ensures .0, c .taken .ensures .1, c .taken .ensures .2))
+    let rest : behind row left ≡ drop (at + 2 + byteCount row) bytes = drop-drop (2 + byteCount row) at bytes ∙ ap (λ (k : ℕ). drop k bytes) (sym (add-assoc at 2 (byteCount row))) in (
+      omega arith,
+      ap length (c .taken .ensures .2) ∙ length-with row (valuesIn row left) (loop .loop .c .values) as-many (loop .loop .inv .1),
+      goes-on call (Field row) (known .before .step .given .1) ∙ rw (rest, c .taken .ensures .0, c .taken .ensures .1, c .taken .ensures .2),
+    )
 
 enum-told : tie.Need-enum-told Inv-loop μ-loop
 enum-told c = search needs

@@ -72,13 +72,14 @@ loop-again c =
     let len = length-values row (a .values) (omega (arith, loop .before .before .good)) in
     let len′ : length (getD (fieldsOf (a .values)) row []) ≡ 2 + byteCount row = rw (e, len) (omega arith) in
     let next = fields-before (a .values) (omega (arith, loop .before .before .good)) (row + 1) (omega arith) in
-    let laid = laid-more (a .at) (loop .loop .next) row (fieldsOf (a .values)) (a .out .now) (omega (arith, fields-count (a .values))) (loop .loop .inv .1) (rw len′ (omega arith)) in
-    (omega arith,
-    rw next (unfold fieldBytes in rw add-one (omega arith)),
-    one .one-field .ensures ∙ rw (loop .loop .inv .2, ← e) laid)
+    let laid = laid-more (a .at) (loop .loop .next) row (fieldsOf (a .values)) (a .out .now) (omega (arith, fields-count (a .values))) (loop .loop .inv .1) (rw len′ (omega arith)) in (
+      omega arith,
+      rw next (unfold fieldBytes in rw add-one (omega arith)),
+      one .one-field .ensures ∙ rw (loop .loop .inv .2, ← e) laid,
+    )
 
 same-length : tie.Need-same-length Inv-loop μ-loop
-same-length c = 
+same-length c =
     let loop = c .before in
     let a = loop .before .before .args in
     let n = fields-before (a .values) (omega (arith, loop .before .before .good)) (loop .loop .row) (omega arith) in

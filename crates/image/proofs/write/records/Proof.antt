@@ -53,9 +53,10 @@ one-record-requires c κs =
     let start = loop .before .before in
     let f = start .pre .0 in
     let w = panelsOf (start .args .t2) in
-    let good = good-at w (f .good) (loop .loop .k) (omega (arith, count-is f)) in
-    (ap (λ (p : Panel). length (p .values)) (in-wall f (loop .loop .k) _ (omega arith)) ∙ good .full,
-    omega (arith, so-far loop, start .pre .1))
+    let good = good-at w (f .good) (loop .loop .k) (omega (arith, count-is f)) in (
+      ap (λ (p : Panel). length (p .values)) (in-wall f (loop .loop .k) _ (omega arith)) ∙ good .full,
+      omega (arith, so-far loop, start .pre .1),
+    )
 
 add-k : tie.Need-add-k Inv-loop μ-loop
 add-k c = omega arith
@@ -75,10 +76,12 @@ loop-again c =
     let (n, long) = so-far loop in
     let len : length (getD (recordsOf w) k []) ≡ 33 = rw (record-at w k here) (record-length (getD w k blank) (good-at w (f .good) k here .full)) in
     let is-panel = in-wall f k _ (omega arith) in
-    let laid = laid-more 0 (33 * k) k (recordsOf w) (start .args .out .now) (rw (length-map w recordOf) here) (rw n (omega arith)) (rw len (omega (arith, start .pre .1))) in
-    (omega arith, one .one-record .ensures
-    ∙ ap (λ (p : Panel). laidAt (33 * k) (recordOf p) (loop .loop .out)) is-panel
-    ∙ rw (loop .loop .inv .1, ← record-at w k here) laid)
+    let laid = laid-more 0 (33 * k) k (recordsOf w) (start .args .out .now) (rw (length-map w recordOf) here) (rw n (omega arith)) (rw len (omega (arith, start .pre .1))) in (
+      omega arith,
+      one .one-record .ensures
+          ∙ ap (λ (p : Panel). laidAt (33 * k) (recordOf p) (loop .loop .out)) is-panel
+          ∙ rw (loop .loop .inv .1, ← record-at w k here) laid,
+    )
 
 same-length : tie.Need-same-length Inv-loop μ-loop
 same-length c = so-far (c .before) .1
