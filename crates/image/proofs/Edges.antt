@@ -10,7 +10,7 @@ use borrow.Author.Tests.{ltb-true, ltb-false, eqb-true, le-ltb}
 use lib.Dec.{ltb, eqb}
 use lib.ListN.{length, getD}
 use Rattle.image.specs.declared.Refusal.{Refusal}
-use Rattle.image.specs.declared.Refusal.the-variants.{Nothing, TooShort, OtherForm, TooMany, NoStarts, Starts}
+use Rattle.image.specs.declared.Refusal.the-variants.{Nothing, TooShort, OtherForm, TooMany, NoStarts, Starts, Record, Field, Value}
 use Rattle.image.specs.Whole.{formOf, countOf, startsAt, edge, rises, startsFit, wholeRefusal}
 use Rattle.image.specs.Read.{isSound}
 
@@ -18,6 +18,17 @@ pub both : (a b : Bool) → (a && b) ≡ true → (a ≡ true) × (b ≡ true)
 both true true e = (refl, refl)
 both true false e = absurd (false≢true e)
 both false b e = absurd (false≢true e)
+
+pub sound-nothing : (r : Refusal) → isSound r ≡ true → r ≡ Nothing
+sound-nothing Nothing e = refl
+sound-nothing TooShort e = absurd (false≢true e)
+sound-nothing OtherForm e = absurd (false≢true e)
+sound-nothing TooMany e = absurd (false≢true e)
+sound-nothing NoStarts e = absurd (false≢true e)
+sound-nothing Starts e = absurd (false≢true e)
+sound-nothing Record e = absurd (false≢true e)
+sound-nothing Field e = absurd (false≢true e)
+sound-nothing Value e = absurd (false≢true e)
 
 pub record Fits (image : List ℕ) : Type 0 where
   pub two : 2 ≤ length image

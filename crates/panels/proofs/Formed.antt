@@ -37,7 +37,7 @@ nowhere-absent i k (p ∷ w) e = go (eqb (p .id .0) (i .0)) refl e (nowhere-abse
     go true s n ih = let z : _≡_ {A = ℕ} 0 1 = cc in absurd (omega arith)
     go false s n ih = (eqb-false _ _ s, ih n)
 
-absent-snoc : (i : MonitorId) (w : Wall) (p : Panel) → Absent i w → (p .id .0 ≡ i .0 → ⊥) → Absent i (w ++ p ∷ [])
+pub absent-snoc : (i : MonitorId) (w : Wall) (p : Panel) → Absent i w → (p .id .0 ≡ i .0 → ⊥) → Absent i (w ++ p ∷ [])
 absent-snoc i [] p a n = (n, tt)
 absent-snoc i (q ∷ w) p (m, a) n = (m, absent-snoc i w p a n)
 
