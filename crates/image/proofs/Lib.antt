@@ -9,3 +9,4 @@ pub mod Edges
 pub mod Sound
 pub mod Entries
 pub mod Order
+pub mod Split
