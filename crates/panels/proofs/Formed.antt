@@ -37,11 +37,11 @@ nowhere-absent i k (p ∷ w) e = go (eqb (p .id .0) (i .0)) refl e (nowhere-abse
     go true s n ih = let z : _≡_ {A = ℕ} 0 1 = cc in absurd (omega arith)
     go false s n ih = (eqb-false _ _ s, ih n)
 
-absent-snoc : (i : MonitorId) (w : Wall) (p : Panel) → Absent i w → (p .id .0 ≡ i .0 → ⊥) → Absent i (w ++ p ∷ [])
+pub absent-snoc : (i : MonitorId) (w : Wall) (p : Panel) → Absent i w → (p .id .0 ≡ i .0 → ⊥) → Absent i (w ++ p ∷ [])
 absent-snoc i [] p a n = (n, tt)
 absent-snoc i (q ∷ w) p (m, a) n = (m, absent-snoc i w p a n)
 
-good-snoc : (w : Wall) (p : Panel) → GoodWall w → GoodPanel p → Absent (p .id) w → GoodWall (w ++ p ∷ [])
+pub good-snoc : (w : Wall) (p : Panel) → GoodWall w → GoodPanel p → Absent (p .id) w → GoodWall (w ++ p ∷ [])
 good-snoc [] p good g a = (g, tt, tt)
 good-snoc (q ∷ w) p (gq, aq, good) g (n, a) = (gq, absent-snoc (q .id) w p aq (λ e. n (sym e)), good-snoc w p good g a)
 

@@ -123,6 +123,14 @@ pub fn find_setting(code: u8) -> Found
     Found::Nothing
 }
 
+// A row's set code, with which its field in a setup image begins.
+pub fn set_code(row: usize) -> u8
+    requires { ⌜ row < 8 ⌝ }
+    ensures { λ r. ⌜ r ≡ setCode row ⌝ }
+{
+    row_at(row).0
+}
+
 // A row's get code, with which its report begins.
 pub fn get_code(row: usize) -> u8
     requires { ⌜ row < 8 ⌝ }

@@ -1,0 +1,12 @@
+-- `Laid` has the laws of bytes laid over others, `Lengths` the lengths of a record and of its parts, `Steps` the walk over
+-- a record's fields, `Values` what a field that is taken does to a panel's values, `Edges` where records begin and end,
+-- `Sound` that reading gives only well-formed tables, `Entries` and `Order` that fields go by code and not by place.
+pub mod Laid
+pub mod Lengths
+pub mod Steps
+pub mod Values
+pub mod Edges
+pub mod Sound
+pub mod Entries
+pub mod Order
+pub mod Split

@@ -1,0 +1,143 @@
+-- Records, starts, count and form byte stand one behind the other. Assumes nothing.
+use mathlib.Core.Path.{_≡_, refl, sym, ap, ap₂, _∙_}
+use mathlib.Core.List.{List, [], _∷_, _++_, flatten}
+use Prim.Native.Nat.{ℕ, _+_, _-_, _*_, _≤_, _<_}
+use native.Mathlib.Omega.{arith}
+use borrow.Author.Tests.{le-leb, lt-leb}
+use lib.ListN.{length, set, take, length-set, length-append, length-map}
+use lib.Seq.{take-all}
+use Rattle.settings.specs.Numbers.{each}
+use Rattle.packet.specs.Packet.{laidOver}
+use Rattle.panels.specs.Wall.{Wall, panelsOf}
+use Rattle.panels.specs.WellFormed.{GoodWall}
+use Rattle.panels.proofs.Laws.{count-is, count-few}
+use Rattle.image.specs.declared.Written.the-variants.{Bytes}
+use Rattle.image.specs.Laid.{laidAt}
+use Rattle.image.specs.Written.{highLow, recordsOf, imageOf, recordOf, sizeOf, writtenOf, outputOf}
+use Rattle.image.proofs.Laid.{length-laid, laid-over, laid-two, laid-then}
+use Rattle.image.proofs.Lengths.{length-each, pairs-before, records-before, starts-are}
+use borrow.Author.Needs.{needs}
+use Rattle.image.proofs.write_image.Statement.{statement}
+use Rattle.image.proofs.write_image.Tie as tie
+use Rattle.image.proofs.write_image.Reads as reads
+use Rattle.image.proofs.write_image.Lts as lts
+use Rattle.image.proofs.write.records.Reads as records-reads
+use Rattle.image.proofs.write.starts.Reads as starts-reads
+
+-- the starts of n records, the output with the records in it, and with the starts behind them
+abbrev starts-of : ℕ → List ℕ
+starts-of n = flatten (each (λ k. highLow (33 * k)) n)
+
+abbrev with-records : Wall → List ℕ → List ℕ
+with-records w out = laidAt 0 (flatten (recordsOf w)) out
+
+abbrev with-starts : Wall → List ℕ → List ℕ
+with-starts w out = laidAt (33 * length w) (starts-of (length w)) (with-records w out)
+
+module _ (w : Wall) (good : GoodWall w) (out : List ℕ) (room : 35 * length w + 2 ≤ length out) where
+  records-long : length (flatten (recordsOf w)) ≡ 33 * length w
+  records-long =
+      let all = take-all (length w) (recordsOf w) (omega (arith, length-map w recordOf)) in
+      ap (λ (ls : List (List ℕ)). length (flatten ls)) (sym all) ∙ records-before w good (length w) (omega arith)
+
+  starts-long : length (starts-of (length w)) ≡ 2 * length w
+  starts-long =
+      let ls = each (λ k. highLow (33 * k)) (length w) in
+      let all = take-all (length w) ls (omega (arith, length-each (λ k. highLow (33 * k)) (length w))) in
+      ap (λ (ls : List (List ℕ)). length (flatten ls)) (sym all) ∙ pairs-before (λ k. 33 * k) (length w) (length w) (omega arith)
+
+  long-1 : length (with-records w out) ≡ length out
+  long-1 = length-laid 0 (flatten (recordsOf w)) out (rw records-long (omega arith))
+
+  long-2 : length (with-starts w out) ≡ length out
+  long-2 = length-laid (33 * length w) (starts-of (length w)) (with-records w out) (rw (starts-long, long-1) (omega arith)) ∙ long-1
+
+  image-laid : set (set (with-starts w out) (35 * length w) (length w)) (35 * length w + 1) 1 ≡ laidOver (imageOf (recordsOf w)) out
+  unfolding imageOf
+  image-laid =
+      let n = length w in
+      let r = flatten (recordsOf w) in
+      let trailer = n ∷ 1 ∷ [] in
+      let two = laid-two (35 * n) n 1 (with-starts w out) (rw long-2 (omega arith)) in
+      let first = laid-then 0 (33 * n) r (starts-of n) out (rw records-long (omega arith)) (rw starts-long (omega arith)) in
+      let more = laid-then 0 (35 * n) (r ++ starts-of n) trailer out (rw (length-append r (starts-of n), records-long, starts-long) (omega arith)) (omega arith) in
+      two ∙ ap (λ (l : List ℕ). laidAt (35 * n) trailer l) first ∙ more ∙ rw (starts-are w good, length-map w recordOf) (laid-over _ _)
+
+mul-size : tie.Need-mul-size
+mul-size c = omega (arith, count-few (c .before .pre))
+
+add-size : tie.Need-add-size
+add-size c = omega (arith, count-few (c .before .pre))
+
+returns : tie.Need-returns
+unfolding writtenOf outputOf
+returns c =
+    let start = c .before .before in
+    let short = lt-leb (sizeOf (panelsOf (start .args .t))) (length (start .args .out .now)) (omega (arith, count-is (start .pre))) in
+    (simp short, simp short)
+
+records-requires : tie.Need-records-requires
+records-requires c κs = search needs
+
+starts-requires : tie.Need-starts-requires
+starts-requires c κs =
+    let records = c .before .before .before in
+    let start = records .before .before .before .before in
+    (count-few (start .pre), omega (arith, records .records .kept .0))
+
+cast-out : tie.Need-cast-out
+cast-out c = omega (arith, count-few (c .before .before .before .before .before .before .before .before .before .before .pre))
+
+mul-out : tie.Need-mul-out
+mul-out c = search needs
+
+slice-write-out : tie.Need-slice-write-out
+slice-write-out c = search needs
+
+mul-out-2 : tie.Need-mul-out-2
+mul-out-2 c = search needs
+
+add-out : tie.Need-add-out
+add-out c = search needs
+
+slice-write-out-2 : tie.Need-slice-write-out-2
+slice-write-out-2 c = simp length-set (omega (arith, c .before .before .starts .kept .0, c .before .before .before .before .before .before .records .kept .0))
+
+same-length : tie.Need-same-length
+same-length c = simp length-set (c .before .before .starts .kept .0 ∙ c .before .before .before .before .before .before .records .kept .0)
+
+returns-2 : tie.Need-returns-2
+unfolding writtenOf outputOf
+returns-2 c =
+    let starts = c .before .before in
+    let records = starts .before .before .before .before in
+    let start = records .before .before .before .before in
+    let w = panelsOf (start .args .t) in
+    let out = start .args .out .now in
+    let n = count-is (start .pre) in
+    let room : sizeOf w ≤ length out = omega arith in
+    let fits = le-leb (sizeOf w) (length out) room in
+    let answer : writtenOf w out ≡ Bytes (sizeOf w) = simp fits in
+    let after : outputOf w out ≡ laidOver (imageOf (recordsOf w)) out = simp fits in
+    let held = starts .starts .ensures ∙ ap₂ (λ (m : ℕ) (l : List ℕ). laidAt (33 * m) (starts-of m) l) n (records .records .ensures) in (
+      ap (λ (m : ℕ). Bytes (35 * m + 2)) n ∙ sym answer,
+      ap₂ (λ (m : ℕ) (l : List ℕ). set (set l (35 * m) m) (35 * m + 1) 1) n held ∙ image-laid w (start .pre .good) out room ∙ sym after,
+    )
+
+pub write-image-spec : {M : Type 1} → statement M
+write-image-spec =
+    tie.close
+    (tie.spec
+    mul-size
+    add-size
+    returns
+    records-requires
+    starts-requires
+    cast-out
+    mul-out
+    slice-write-out
+    mul-out-2
+    add-out
+    slice-write-out-2
+    same-length
+    returns-2)

@@ -1,0 +1,105 @@
+// The setup image, which the box keeps across updates: a table written out, and read again.
+mod records;
+mod walk;
+mod whole;
+mod write;
+
+ghost use mathlib.Core.Path.{_≡_};
+ghost use Rattle.panels.specs.Wall.{panelsOf};
+ghost use Rattle.panels.specs.WellFormed.{WellFormed};
+ghost use Rattle.image.specs.Written.{writtenOf, outputOf};
+ghost use Rattle.image.specs.Read.{readRefusalOf, readOf, inTable};
+use panels::Table;
+
+// An image's size, once it is written; or the output has no room for it.
+pub enum Written {
+    Bytes(usize),
+    NoRoom,
+}
+
+// Why an image was refused, if it was.
+pub enum Refusal {
+    Nothing,
+    TooShort,
+    OtherForm,
+    TooMany,
+    NoStarts,
+    Starts,
+    Record,
+    Field,
+    Value,
+}
+
+// The table that was read; on a refusal it is empty.
+pub struct Read {
+    pub refusal: Refusal,
+    pub table: Table,
+}
+
+// What stands at the front of a record's bytes: a field of a row, one whose values are not allowed, a broken one, or the end.
+pub enum Step {
+    Field(usize),
+    NotAllowed(usize),
+    Broken,
+    End,
+}
+
+// A place among a record's fields: which rows were seen before it, and the values with those fields taken.
+pub struct Cursor {
+    pub at: usize,
+    pub seen: [bool; 8],
+    pub values: [u8; 15],
+}
+
+// A panel's values with its record's fields taken, and why the walk over them stopped.
+pub struct Fields {
+    pub refusal: Refusal,
+    pub values: [u8; 15],
+}
+
+// The table's image at the front of out, of which the rest stays as it was.
+pub fn write_image(t: Table, out: &mut [u8]) -> Written
+    requires { ⌜ WellFormed t ⌝ }
+    ensures { λ r. ⌜ r ≡ writtenOf (panelsOf t) (now (out .entry)) ⌝ }
+    ensures { λ _. ⌜ now (out .exit) ≡ outputOf (panelsOf t) (now (out .entry)) ⌝ }
+{
+    let n = t.count;
+    let size = 35 * n + 2;
+    if out.len() < size {
+        return Written::NoRoom;
+    }
+    write::records(out, t);
+    write::starts(out, n);
+    out[35 * n] = n as u8;
+    out[35 * n + 1] = 1;
+    Written::Bytes(size)
+}
+
+// 01's number for a refusal, 0 where there was none.
+pub fn refusal_number(r: Refusal) -> u8
+    ensures { λ n. ⌜ n ≡ readRefusalOf r ⌝ }
+{
+    match r {
+        Refusal::Nothing => 0,
+        Refusal::TooShort => 11,
+        Refusal::OtherForm => 12,
+        Refusal::TooMany => 13,
+        Refusal::NoStarts => 14,
+        Refusal::Starts => 15,
+        Refusal::Record => 16,
+        Refusal::Field => 17,
+        Refusal::Value => 18,
+    }
+}
+
+// The table that an image holds; or the first refusal, and no panels.
+pub fn read_image(image: &[u8]) -> Read
+    ensures { λ r. ⌜ r ≡ inTable (readOf (now (image .entry))) ⌝ }
+{
+    let refusal = whole::refusal_of(image);
+    if refusal_number(refusal) != 0 {
+        let table = panels::empty_table();
+        return Read { refusal, table };
+    }
+    records::all(image)
+}
