@@ -8,14 +8,14 @@ use native.Mathlib.Omega.{arith}
 use borrow.Author.Tests.{le-leb, ne-eqb}
 use lib.Dec.{leb, eqb}
 use lib.ListN.{length, getD, take, drop, replicate, length-append, length-map}
-use lib.Seq.{append-snoc}
+use lib.Seq.{append-snoc, take-at}
 use Rattle.settings.specs.declared.Found.the-variants.{Set}
 use Rattle.settings.specs.Settings.{foundBy, setCode, byteCount, allowedFor, freshValues}
 use Rattle.settings.specs.Numbers.{each}
 use Rattle.settings.proofs.Laws.{set-found, fresh-count}
 use Rattle.settings.proofs.WrittenOut.{in-each}
 use Rattle.packet.specs.declared.MonitorId.{MonitorId}
-use Rattle.packet.specs.Packet.{monitorId, groupId}
+use Rattle.packet.specs.Packet.{laidOver}
 use Rattle.panels.specs.declared.Panel.{Panel}
 use Rattle.panels.specs.declared.Table.{Table}
 use Rattle.panels.specs.declared.Place.the-variants.{Nowhere}
@@ -25,12 +25,12 @@ use Rattle.panels.proofs.Formed.{absent-snoc}
 use Rattle.image.specs.declared.Refusal.the-variants.{Nothing}
 use Rattle.image.specs.declared.Fields.{Fields}
 use Rattle.image.specs.declared.Read.{Read}
-use Rattle.image.specs.Written.{field, fieldsOf, recordOf, recordsOf, imageOf, sizeOf}
+use Rattle.image.specs.Written.{field, fieldsOf, recordOf, recordsOf, imageOf, sizeOf, outputOf}
 use Rattle.image.specs.Whole.{recordsIn, wholeRefusal}
 use Rattle.image.specs.Fields.{valuesWith, fieldsIn}
 use Rattle.image.specs.Read.{Reading, isSound, headFits, recordRefusal, panelIn, wallWith, refused, readRecords, readOf, inTable}
 use Rattle.image.specs.Entries.{Entry, entryBytes, bytesOf, entryOf, Without}
-use Rattle.image.proofs.Lengths.{length-each, each-alike, length-values, good-at, record-at, record-length, records-before}
+use Rattle.image.proofs.Lengths.{length-each, each-alike, length-values, good-at, record-at, record-length, records-long}
 use Rattle.image.proofs.Values.{length-with, set-row, other-row, by-rows}
 use Rattle.image.proofs.Entries.{rowOf, row-is, Good, GoodEntries, stored, count-of, other-rows, all-taken}
 use Rattle.image.proofs.Order.{none-seen}
@@ -168,6 +168,14 @@ module _ (w : Wall) (good : GoodWall w) (few : length w ≤ 32) where
       apart-none : (v : Wall) → Apart [] v
       apart-none [] = tt
       apart-none (p ∷ v) = (tt, apart-none v)
+
+-- The image has as many bytes as it should, and stands at the front of the output.
+pub image-size : (w : Wall) → GoodWall w → length (imageOf (recordsOf w)) ≡ sizeOf w
+image-size w good = image-length (recordsOf w) ∙ rw (records-long w good, length-map w recordOf) (omega arith)
+
+pub front-is-image : (w : Wall) → GoodWall w → (out : List ℕ) → sizeOf w ≤ length out → take (sizeOf w) (outputOf w out) ≡ imageOf (recordsOf w)
+unfolding outputOf laidOver
+front-is-image w good out room = rw (le-leb (sizeOf w) (length out) room) (take-at (imageOf (recordsOf w)) _ (sizeOf w) (image-size w good))
 
 -- Reading a written table gives that table.
 pub table-back : {t : Table} → WellFormed t → _≡_ {A = Read} (inTable (readOf (imageOf (recordsOf (panelsOf t))))) (record { refusal = Nothing; table = t })
