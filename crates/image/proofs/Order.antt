@@ -99,7 +99,7 @@ with-own row values full =
     go r true e = let s = eqb-true r row e in rw s (set-row row (valuesOf row values) values n full)
     go r false e = other-row row (valuesOf row values) values n full r (eqb-false r row e)
 
-none-seen : (es : List Entry) → GoodEntries es → Unseen (replicate 8 false) es
+pub none-seen : (es : List Entry) → GoodEntries es → Unseen (replicate 8 false) es
 none-seen [] good = tt
 none-seen (e ∷ es) (g, w, good) = (getD-replicate 8 (rowOf e) false false (g .in-table), none-seen es good)
 
