@@ -79,7 +79,7 @@ abbrev pub ReadsBack : Type 0
 ReadsBack =
     (t : Table) → WellFormed t → (out : List ℕ) → sizeOf (panelsOf t) ≤ length out
     → let image = take (sizeOf (panelsOf t)) (outputOf (panelsOf t) out) in
-      (inTable (readOf image) .refusal ≡ Sound) × (inTable (readOf image) .table ≡ t)
+    (inTable (readOf image) .refusal ≡ Sound) × (inTable (readOf image) .table ≡ t)
 
 -- Fields go by code: in whatever order they stand, two images that are sound read as the same table; and a record without a
 -- field reads as with that field at its fresh value.

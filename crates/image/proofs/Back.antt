@@ -62,9 +62,11 @@ without-each c f (suc n) ne = (ne 0 (omega arith), without-each c (λ k. f (suc 
 
 good-each : (f : ℕ → Entry) (n : ℕ) → ((k : ℕ) → k < n → Good (f k)) → ((j k : ℕ) → j < k → k < n → f k .code ≡ f j .code → ⊥) → GoodEntries (each f n)
 good-each f zero good ne = tt
-good-each f (suc n) good ne =
-    (good 0 (omega arith), without-each (f 0 .code) (λ k. f (suc k)) n (λ k h. ne 0 (suc k) (omega arith) (omega arith)),
-    good-each (λ k. f (suc k)) n (λ k h. good (suc k) (omega arith)) (λ j k l h. ne (suc j) (suc k) (omega arith) (omega arith)))
+good-each f (suc n) good ne = (
+  good 0 (omega arith),
+  without-each (f 0 .code) (λ k. f (suc k)) n (λ k h. ne 0 (suc k) (omega arith) (omega arith)),
+  good-each (λ k. f (suc k)) n (λ k h. good (suc k) (omega arith)) (λ j k l h. ne (suc j) (suc k) (omega arith) (omega arith)),
+)
 
 -- each entry's values are stored in its row
 kept-by : (row : ℕ) (es : List Entry) (values : List ℕ) → GoodEntries es → Without (setCode row) es → length values ≡ 15
