@@ -38,4 +38,4 @@ Lossless =
     (t : Table) → WellFormed t → (r : Request) (k : ℕ) → isRequest r ≡ true → isDue (r .id) (r .group) ≡ true
     → placeOf (r .id) (panelsOf t) ≡ At k
     → let answer = sentBytes (played (panelsOf t) (requestPacket r) .reply) in
-      EndsWith (foundBy (r .code)) (getD (panelsOf t) k blank) (step (step idle (start r) .next) (burst answer))
+    EndsWith (foundBy (r .code)) (getD (panelsOf t) k blank) (step (step idle (start r) .next) (burst answer))
