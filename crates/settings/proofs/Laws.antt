@@ -5,8 +5,8 @@ use mathlib.Core.List.{List, [], _∷_, flatten}
 use Prim.Native.Nat.{ℕ, zero, suc, _+_, _≤_, _<_}
 use native.Mathlib.Numerals.{add-one}
 use native.Mathlib.Omega.{arith}
-use borrow.Author.Tests.{eqb-true, ltb-true}
-use lib.Dec.{eqb, ltb}
+use borrow.Author.Tests.{eqb-true, leb-true, ltb-true}
+use lib.Dec.{eqb, leb, ltb}
 use lib.ListN.{length, getD, take, drop, List·getD-map}
 use lib.Seq.{drop-cons}
 use Rattle.settings.specs.declared.Found.{Found}
@@ -64,6 +64,11 @@ found-right c = found-after c 8 0 refl
 pub fresh-allowed : {row : ℕ} → row < 8 → allowedFor row (take (byteCount row) (drop (place row) freshValues)) ≡ true
 unfolding settings freshValues allowedByRow flatten within allAllowed
 fresh-allowed h = alike (λ k. allowedFor k (take (byteCount k) (drop (place k) freshValues))) (λ k. true) 8 refl h
+
+-- a row has at most 7 value bytes
+pub byte-count-few : {row : ℕ} → row < 8 → byteCount row ≤ 7
+unfolding settings
+byte-count-few h = leb-true _ 7 (alike (λ k. leb (byteCount k) 7) (λ k. true) 8 refl h)
 
 pub fresh-count : length freshValues ≡ 15
 unfolding settings freshValues flatten

@@ -1,0 +1,135 @@
+-- Demand 2. Assumes nothing.
+use Prim.Native.Nat.{ℕ, zero, suc, _<_}
+use mathlib.Core.Bool.{Bool, true, false, cond, _&&_}
+use mathlib.Core.Logic.{_⊎_, inl, inr}
+use mathlib.Core.Path.{_≡_, refl, _∙_}
+use mathlib.Core.List.{List, [], _∷_, map}
+use native.Mathlib.Nat.{le-of-suc-le-suc, not-suc-le-zero}
+use lib.Dec.{leb, eqb}
+use lib.ListN.{length, getD, length-map, List·getD-map}
+use Rattle.settings.specs.Settings.{allowedFor}
+use Rattle.packet.specs.declared.MonitorId.{MonitorId}
+use Rattle.packet.specs.declared.GroupId.{GroupId}
+use Rattle.packet.specs.declared.Control.the-variants.{Ack, Nack, Nav}
+use Rattle.packet.specs.declared.Verdict.{Verdict}
+use Rattle.packet.specs.declared.Verdict.the-variants.{Empty, Damaged, Intact}
+use Rattle.packet.specs.Packet.{monitorId, verdictOf, dataOf}
+use Rattle.panels.specs.declared.Panel.{Panel}
+use Rattle.panels.specs.declared.Table.{Table}
+use Rattle.panels.specs.declared.Place.{Place}
+use Rattle.panels.specs.declared.Place.the-variants.{At, Nowhere}
+use Rattle.panels.specs.Wall.{Wall, valuesOf, blank, panelsOf, placeOf}
+use Rattle.panels.specs.Addressed.{reaches, isHeard}
+use Rattle.panels.specs.WellFormed.{GoodPanel, GoodWall, WellFormed}
+use Rattle.panels.proofs.Laws.{place-there}
+use Rattle.panels.proofs.Lists.{getD-inside}
+use Rattle.panels.proofs.Formed.{empty-formed, added-formed, removed-formed}
+use Rattle.line.specs.Reply.{silence, wordFrom, reportFrom}
+use Rattle.line.specs.Judged.{Command, getOf, setOf, unavailable, command, judge, panelAfter, stored, taken, notAvailable, replyBy}
+use Rattle.line.specs.Played.{turned, replyFrom, nackTo, damagedReply, playedBy, played}
+use Rattle.line.proofs.Formed.{stored-own, stored-others, played-formed}
+use Rattle.demands.specs.Demand2.{SetBy, OnlyAddressed, Answer·Is, Answers, Comes, empty, add, remove, burst, InRange}
+
+pub in-range : InRange
+in-range t empty = empty-formed
+in-range t (add c i g) = added-formed (in-range _ c) i g
+in-range t (remove c i) = removed-formed (in-range _ c) i
+in-range t (burst c b) = played-formed (in-range _ c) b
+
+-- one panel and a command: it stays, or values that are allowed are stored
+module _ (b : List ℕ) (i : MonitorId) (g : GroupId) (n : ℕ) (e : verdictOf b ≡ Intact i g n) (p : Panel) (ok : GoodPanel p) where
+  set-by : (c : Command) → command (dataOf b (Intact i g n)) ≡ c → reaches i g p ≡ true
+      → (panelAfter (judge c p) p ≡ p) ⊎ SetBy b p (panelAfter (judge c p) p)
+  unfolding judge
+  set-by (getOf row) d r = inl refl
+  set-by unavailable d r = inl refl
+  set-by (setOf row vs) d r = go (allowedFor row vs) refl
+    where
+      go : (t : Bool) → allowedFor row vs ≡ t
+          → (panelAfter (cond t (taken (stored row vs p)) notAvailable) p ≡ p)
+          ⊎ SetBy b p (panelAfter (cond t (taken (stored row vs p)) notAvailable) p)
+      go false a = inl refl
+      go true a = inr (record {
+        id = i;
+        group = g;
+        count = n;
+        row = row;
+        values = vs;
+        intact = e;
+        addressed = r;
+        named = d;
+        inRange = a;
+        same = unfold stored in (refl, refl);
+        stored = stored-own row vs p a (ok .full);
+        others = stored-others row vs p a (ok .full);
+      })
+
+  turned-by : (turned i g (command (dataOf b (Intact i g n))) p ≡ p) ⊎ SetBy b p (turned i g (command (dataOf b (Intact i g n))) p)
+  unfolding turned
+  turned-by = go (reaches i g p) refl
+    where
+      go : (t : Bool) → reaches i g p ≡ t
+          → let q = cond t (panelAfter (judge (command (dataOf b (Intact i g n))) p) p) p in (q ≡ p) ⊎ SetBy b p q
+      go true r = set-by _ refl r
+      go false r = inl refl
+
+-- the panel at a place of a good wall is good
+good-at : (w : Wall) (k : ℕ) → GoodWall w → k < length w → GoodPanel (getD w k blank)
+good-at [] k good h = absurd (not-suc-le-zero h)
+good-at (p ∷ w) zero (g, a, good) h = g
+good-at (p ∷ w) (suc k) (g, a, good) h = good-at w k good (le-of-suc-le-suc h)
+
+by-verdict : (v : Verdict) (w : Wall) (b : List ℕ) (k : ℕ) → verdictOf b ≡ v → GoodWall w → k < length w
+    → let p = getD w k blank in let q = getD (playedBy v w b .wall) k blank in (q ≡ p) ⊎ SetBy b p q
+by-verdict Empty w b k e good h = inl refl
+by-verdict Damaged w b k e good h = inl refl
+by-verdict (Intact i g n) w b k e good h =
+    let f = turned i g (command (dataOf b (Intact i g n))) in
+    let at = getD-inside (map f w) k blank (f blank) (rw (length-map w f) h) ∙ List·getD-map f w k blank in
+    rw at (turned-by b i g n e (getD w k blank) (good-at w k good h))
+
+pub only-addressed : OnlyAddressed
+unfolding played
+only-addressed t f b k h = by-verdict (verdictOf b) (panelsOf t) b k refl (f .good) h
+
+-- Answers.
+judged-answer : (w : Wall) (i : MonitorId) (k : ℕ) (c : Command) → k < length w → getD w k blank .id .0 ≡ i .0
+    → Answer·Is w (replyBy i (judge c (getD w k blank)))
+unfolding judge
+judged-answer w i k (getOf row) h e = inr (inr (i, k, row, h, e, refl))
+judged-answer w i k unavailable h e = inr (inl (i, Nav, refl))
+judged-answer w i k (setOf row vs) h e = go (allowedFor row vs)
+  where
+    go : (t : Bool) → Answer·Is w (replyBy i (cond t (taken (stored row vs (getD w k blank))) notAvailable))
+    go true = inr (inl (i, Ack, refl))
+    go false = inr (inl (i, Nav, refl))
+
+heard-answer : (w : Wall) (i : MonitorId) (c : Command) (q : Place) → placeOf i w ≡ q → Answer·Is w (replyFrom w i c q)
+heard-answer w i c Nowhere e = inl refl
+heard-answer w i c (At k) e = let (h, same) = place-there i w k e in judged-answer w i k c h same
+
+packet-answer : (w : Wall) (i : MonitorId) (c : Command) (t : Bool) → Answer·Is w (cond t (replyFrom w i c (placeOf i w)) silence)
+packet-answer w i c true = heard-answer w i c (placeOf i w) refl
+packet-answer w i c false = inl refl
+
+nack-answer : (w : Wall) (i : MonitorId) (q : Place) → Answer·Is w (nackTo i q)
+nack-answer w i Nowhere = inl refl
+nack-answer w i (At k) = inr (inl (i, Nack, refl))
+
+damaged-answer : (w : Wall) (i : MonitorId) (q : Place) (t : Bool) → Answer·Is w (cond t (nackTo i q) silence)
+damaged-answer w i q true = nack-answer w i q
+damaged-answer w i q false = inl refl
+
+damaged-burst : (w : Wall) (b : List ℕ) → Answer·Is w (damagedReply w b)
+unfolding damagedReply
+damaged-burst w b =
+    let i = monitorId (getD b 1 0) in damaged-answer w i (placeOf i w) (leb 3 (length b) && eqb (getD b 2 0) 0)
+
+pub answers : Answers
+unfolding played
+answers w b = go (verdictOf b)
+  where
+    go : (v : Verdict) → Answer·Is w (playedBy v w b .reply)
+    go Empty = inl refl
+    go Damaged = damaged-burst w b
+    go (Intact i g n) = packet-answer w i _ (isHeard i g)

@@ -1,0 +1,67 @@
+-- Demand 2. Each burst gets exactly the answer that 01 gives: that is `played`, to which `line::play` is proved equal. What
+-- it never does is said here.
+use Prim.Native.Nat.{ℕ, _<_}
+use mathlib.Core.Bool.{true}
+use mathlib.Core.Logic.{_⊎_}
+use mathlib.Core.Path.{_≡_}
+use mathlib.Core.List.{List, [], _∷_}
+use lib.ListN.{length, getD}
+use Rattle.settings.specs.Settings.{getCode, allowedFor}
+use Rattle.packet.specs.declared.MonitorId.{MonitorId}
+use Rattle.packet.specs.declared.GroupId.{GroupId}
+use Rattle.packet.specs.declared.Control.{Control}
+use Rattle.packet.specs.declared.Verdict.the-variants.{Intact}
+use Rattle.packet.specs.Packet.{verdictOf, dataOf}
+use Rattle.panels.specs.declared.Panel.{Panel}
+use Rattle.panels.specs.declared.Table.{Table}
+use Rattle.panels.specs.Wall.{Wall, valuesOf, blank, tableOf, panelsOf}
+use Rattle.panels.specs.Addressed.{reaches}
+use Rattle.panels.specs.Calls.{added, removed}
+use Rattle.panels.specs.WellFormed.{WellFormed}
+use Rattle.line.specs.Reply.{silence, wordFrom, reportFrom}
+use Rattle.line.specs.declared.Reply.{Reply}
+use Rattle.line.specs.Judged.{command, setOf}
+use Rattle.line.specs.Played.{played}
+
+-- a panel that a set changed: it was addressed, and only the row that the set code names is another, with allowed values
+pub record SetBy (b : List ℕ) (p q : Panel) : Type 0 where
+  pub id : MonitorId
+  pub group : GroupId
+  pub count : ℕ
+  pub row : ℕ
+  pub values : List ℕ
+  pub intact : verdictOf b ≡ Intact id group count
+  pub addressed : reaches id group p ≡ true
+  pub named : command (dataOf b (Intact id group count)) ≡ setOf row values
+  pub inRange : allowedFor row values ≡ true
+  pub same : (q .id ≡ p .id) × (q .group ≡ p .group)
+  pub stored : valuesOf row (q .values) ≡ values
+  pub others : (other : ℕ) → (other ≡ row → ⊥) → valuesOf other (q .values) ≡ valuesOf other (p .values)
+
+-- every panel stays, or such a set changed it
+abbrev pub OnlyAddressed : Type 0
+OnlyAddressed = (t : Table) → WellFormed t → (b : List ℕ) (k : ℕ) → k < length (panelsOf t)
+    → let p = getD (panelsOf t) k blank in
+    let q = getD (played (panelsOf t) b .wall) k blank in
+    (q ≡ p) ⊎ SetBy b p q
+
+-- an answer is silence, one of the three control words, or a report, which carries the stored values of the panel that it is from
+abbrev pub Answer·Is : Wall → Reply → Type 0
+Answer·Is w r =
+    (r ≡ silence)
+    ⊎ (((i : MonitorId) × (c : Control) × (r ≡ wordFrom i c))
+    ⊎ ((i : MonitorId) × (k : ℕ) × (row : ℕ) × (k < length w) × (getD w k blank .id .0 ≡ i .0)
+    × (r ≡ reportFrom i (getCode row ∷ valuesOf row (getD w k blank .values)))))
+
+abbrev pub Answers : Type 0
+Answers = (w : Wall) (b : List ℕ) → Answer·Is w (played w b .reply)
+
+-- tables come from the empty one by add, remove and bursts
+pub data Comes : Table → Type 0 where
+  empty : Comes (tableOf [])
+  add : {t : Table} → Comes t → (i : MonitorId) (g : GroupId) → Comes (tableOf (added (panelsOf t) i g))
+  remove : {t : Table} → Comes t → (i : MonitorId) → Comes (tableOf (removed (panelsOf t) i))
+  burst : {t : Table} → Comes t → (b : List ℕ) → Comes (tableOf (played (panelsOf t) b .wall))
+
+abbrev pub InRange : Type 0
+InRange = (t : Table) → Comes t → WellFormed t

@@ -1,0 +1,1 @@
+// The demands hold no code: specs/ states them and proofs/ proves them.

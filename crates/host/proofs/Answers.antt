@@ -1,0 +1,39 @@
+-- What a call's plain answers mean. Assumes nothing.
+use mathlib.Core.Path.{_≡_, refl}
+use mathlib.Core.List.{List, [], _∷_, flatten, append-nil}
+use Prim.Native.Nat.{ℕ}
+use lib.ListN.{length, length-replicate}
+use Rattle.packet.specs.Packet.{laidOver}
+use Rattle.host.specs.declared.Host.{Host}
+use Rattle.host.specs.declared.Step.{Step}
+use Rattle.host.specs.declared.Outcome.{Outcome}
+use Rattle.host.specs.Machine.{Move, State, quiet, over}
+use Rattle.host.specs.Calls.{hostOf, stateOf, nothingWaits, padded, stepOf, plainStep, Answers}
+
+-- a host is what its state says
+pub host-back : (h : Host) → hostOf (stateOf h) ≡ h
+host-back h = rw length-replicate
+
+module _ {m : Move} {r : Step} where
+  -- nothing is given out and nothing changes
+  pub stays : (h : Host) (o : Outcome) (out : List ℕ) → m ≡ quiet (stateOf h) o → r ≡ plainStep h 0 o → Answers m out r out
+  unfolding stepOf padded laidOver flatten
+  stays h o out e f = rw (e, f) (rw length-replicate, refl)
+
+  -- nothing is given out and nothing waits any more
+  pub ends : (h : Host) (o : Outcome) (out : List ℕ) → h ≡ nothingWaits → m ≡ over o [] → r ≡ plainStep h 0 o → Answers m out r out
+  unfolding stepOf padded laidOver flatten
+  ends h o out w e f = rw (e, f, w) (refl, refl)
+
+  -- the same, with a report's values
+  pub reports : (o : Outcome) (vs out : List ℕ) → m ≡ over o vs → r ≡ stepOf (over o vs) → Answers m out r out
+  unfolding laidOver flatten
+  reports o vs out e f = rw (e, f) (refl, refl)
+
+  -- a packet is given out
+  pub gives : (s : State) (p : List ℕ) (o : Outcome) (out out' : List ℕ) (h : Host) (n : ℕ)
+      → h ≡ hostOf s → n ≡ length p → out' ≡ laidOver p out
+      → m ≡ record { next = s; sent = p ∷ []; outcome = o; values = [] }
+      → r ≡ plainStep h n o → Answers m out r out'
+  unfolding stepOf padded laidOver flatten
+  gives s p o out out' h n eh en eo e f = rw (e, f, eh, en, eo) (rw append-nil, rw append-nil)

@@ -1,0 +1,92 @@
+-- What data says: control words and reports by their bytes. Assumes nothing.
+use mathlib.Core.Path.{_≡_, refl}
+use mathlib.Core.Bool.{Bool, true, false, false≢true, cond, and-true, and-false, _&&_}
+use mathlib.Core.List.{List, [], _∷_}
+use Prim.Native.Nat.{ℕ, _-_, _≤_, _<_}
+use native.Mathlib.Omega.{arith}
+use borrow.Author.Tests.{leb-true}
+use lib.Dec.{leb, eqb}
+use lib.ListN.{length, getD, take, drop, length-drop}
+use lib.Seq.{take-all}
+use Rattle.settings.specs.Settings.{settings, foundBy, getCode, setting, byteCount, allowedFor}
+use Rattle.settings.specs.declared.Found.{Found}
+use Rattle.settings.specs.declared.Found.the-variants.{Set, Get, Nothing as NoSetting}
+use Rattle.settings.proofs.WrittenOut.{alike}
+use Rattle.settings.proofs.Laws.{IsFound, found-right, allowed-count}
+use Rattle.packet.specs.Control.{controlByte}
+use Rattle.packet.specs.declared.Control.{Control}
+use Rattle.packet.specs.declared.Control.the-variants.{Ack as AckWord, Nack as NackWord, Nav as NavWord}
+use Rattle.host.specs.declared.Said.{Said}
+use Rattle.host.specs.declared.Said.the-variants.{Ack, Nack, Nav, Report, Nothing}
+use Rattle.host.specs.Heard.{same, isControl, isReport, endedBy, wordIn}
+
+pub control-other : (w : Control) (d : List ℕ) → (length d ≡ 2 → ⊥) → isControl w d ≡ false
+unfolding isControl same
+control-other w [] h = refl
+control-other w (x ∷ []) h = and-false (eqb x 0)
+control-other w (x ∷ y ∷ []) h = absurd (h refl)
+control-other w (x ∷ y ∷ z ∷ d) h = rw (and-false (eqb y (controlByte w))) (and-false (eqb x 0))
+
+pub control-two : (w : Control) (d : List ℕ) → length d ≡ 2 → isControl w d ≡ eqb (getD d 0 0) 0 && eqb (getD d 1 0) (controlByte w)
+unfolding isControl same
+control-two w [] h = absurd (omega arith)
+control-two w (x ∷ []) h = absurd (omega arith)
+control-two w (x ∷ y ∷ []) h = rw (and-true (eqb y (controlByte w)))
+control-two w (x ∷ y ∷ z ∷ d) h = absurd (omega arith)
+
+pub report-some : (k : ℕ) (d : List ℕ) → 0 < length d → isReport k d ≡ eqb (getD d 0 0) (getCode k) && allowedFor k (drop 1 d)
+unfolding isReport
+report-some k [] h = absurd (omega arith)
+report-some k (c ∷ values) h = refl
+
+pub word-found : (code : ℕ) (d : List ℕ) (f : Found)
+    → isControl NackWord d ≡ false → isControl NavWord d ≡ false → foundBy code ≡ f → wordIn code d ≡ endedBy f d
+unfolding wordIn
+word-found code d f nack nav e = rw (nack, nav, e)
+
+-- all bytes but the first
+pub rest : (d : List ℕ) → take (length d - 1) (drop 1 d) ≡ drop 1 d
+rest d = take-all (length d - 1) (drop 1 d) (simp length-drop (omega arith))
+
+-- no row has more than seven values
+seven : {row : ℕ} → row < 8 → byteCount row ≤ 7
+unfolding settings
+seven h = leb-true _ 7 (alike (λ k. leb (byteCount k) 7) (λ k. true) 8 refl h)
+
+abbrev Fits : List ℕ → Type 0
+Fits d = (1 ≤ length d) × (length d ≤ 8)
+
+and-right : (a b : Bool) → (a && b) ≡ true → b ≡ true
+and-right true b e = e
+and-right false b e = absurd (false≢true e)
+
+report-fits : (row : ℕ) (d : List ℕ) → row < 8 → isReport row d ≡ true → Fits d
+unfolding isReport
+report-fits row [] h e = absurd (false≢true e)
+report-fits row (c ∷ values) h e =
+    let n = allowed-count (setting row .allowed) values (and-right (eqb c (getCode row)) _ e) in
+    let most = seven h in
+    (omega arith, omega arith)
+
+only-report : (t : Bool) {x : Said} → (x ≡ Report → ⊥) → cond t Report x ≡ Report → t ≡ true
+only-report true h e = refl
+only-report false h e = absurd (h e)
+
+-- Data that is taken for a report has the code and at most seven values.
+pub report-length : (code : ℕ) (d : List ℕ) → wordIn code d ≡ Report → Fits d
+unfolding wordIn endedBy
+report-length code d e = by-found (foundBy code) (found-right code) (by-word (isControl NackWord d) (isControl NavWord d) (endedBy (foundBy code) d) e)
+  where
+    by-word : (a b : Bool) (s : Said) → cond a Nack (cond b Nav s) ≡ Report → s ≡ Report
+    by-word true b s e = let z : _≡_ {A = ℕ} 0 1 = cc in absurd (omega arith)
+    by-word false true s e = let z : _≡_ {A = ℕ} 0 1 = cc in absurd (omega arith)
+    by-word false false s e = e
+
+    no-ack : (t : Bool) → cond t Ack Nothing ≡ Report → ⊥
+    no-ack true e = let z : _≡_ {A = ℕ} 0 1 = cc in omega arith
+    no-ack false e = let z : _≡_ {A = ℕ} 0 1 = cc in omega arith
+
+    by-found : (f : Found) → IsFound code f → endedBy f d ≡ Report → Fits d
+    by-found (Set row) h e = absurd (no-ack (isControl AckWord d) e)
+    by-found (Get row) h e = report-fits row d (h .0) (only-report (isReport row d) (λ z. let y : _≡_ {A = ℕ} 0 1 = cc in omega arith) e)
+    by-found NoSetting h e = let z : _≡_ {A = ℕ} 0 1 = cc in absurd (omega arith)

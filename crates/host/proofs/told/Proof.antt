@@ -1,0 +1,137 @@
+-- Each word is a case of `ending`. Assumes nothing.
+use mathlib.Core.Path.{_≡_, sym, _∙_}
+use borrow.Author.Needs.{needs}
+use native.Mathlib.Omega.{arith}
+use Prim.Native.Nat.{_≤_}
+use lib.ListN.{length, drop, length-drop, length-replicate}
+use Rattle.host.specs.declared.Said.{Said}
+use Rattle.host.specs.declared.Said.the-variants.{Report}
+use Rattle.host.specs.declared.Outcome.the-variants.{Report as Reported}
+use Rattle.host.specs.Heard.{wordIn}
+use Rattle.host.specs.Machine.{ending}
+use Rattle.host.proofs.Words.{report-length, rest}
+use Rattle.host.proofs.Answers.{stays, ends, reports}
+use Rattle.host.proofs.told.Statement.{statement}
+use Rattle.host.proofs.told.Tie as tie
+
+word : (c : tie.After-word-in) (w : Said) → c .word-in .result ≡ w
+    → let a = c .before .before .before .before .args in wordIn (a .host .request .code) (a .d .now) ≡ w
+word c w e = sym (c .word-in .ensures) ∙ e
+
+-- what was taken for a report has a code and at most seven values
+report : (c : tie.At-match-keys4) (e : c .before .word-in .result ≡ Report)
+    → let d = c .before .before .before .before .before .args .d .now in (1 ≤ length d) × (length d ≤ 8)
+report c e = report-length _ _ (word (c .before) _ e)
+
+word-in-requires : tie.Need-word-in-requires
+word-in-requires c κs = search needs
+
+enum-told : tie.Need-enum-told
+enum-told c = search needs
+
+idle-requires : tie.Need-idle-requires
+idle-requires c κs = search needs
+
+plain-requires : tie.Need-plain-requires
+plain-requires c κs = search needs
+
+enum-told-2 : tie.Need-enum-told-2
+enum-told-2 c = search needs
+
+send-again-requires : tie.Need-send-again-requires
+send-again-requires c κs = search needs
+
+enum-told-3 : tie.Need-enum-told-3
+enum-told-3 c = search needs
+
+idle-requires-2 : tie.Need-idle-requires-2
+idle-requires-2 c κs = search needs
+
+plain-requires-2 : tie.Need-plain-requires-2
+plain-requires-2 c κs = search needs
+
+enum-told-4 : tie.Need-enum-told-4
+enum-told-4 c = search needs
+
+sub-reported : tie.Need-sub-reported
+sub-reported c = report (c .before) (c .enum-told4 .given .1) .0
+
+part-reported-start : tie.Need-part-reported-start
+part-reported-start c = report (c .before) (c .enum-told4 .given .1) .0
+
+part-reported-end : tie.Need-part-reported-end
+part-reported-end c = search needs
+
+reported-requires : tie.Need-reported-requires
+reported-requires c κs =
+    let d = c .before .before .before .before .before .before .before .args .d .now in
+    rw (rest d) (simp length-drop (omega (arith, report (c .before .before) (c .before .enum-told4 .given .1))))
+
+enum-told-5 : tie.Need-enum-told-5
+enum-told-5 c = search needs
+
+plain-requires-3 : tie.Need-plain-requires-3
+plain-requires-3 c κs = search needs
+
+returns : tie.Need-returns
+unfolding ending
+returns c =
+    let said = c .before .before in
+    ends _ _ _ (c .before .idle .ensures) (rw (word (said .before .before) _ (said .enum-told .given .1), length-replicate)) (c .plain .ensures)
+
+same-length : tie.Need-same-length
+same-length c = search needs
+
+returns-2 : tie.Need-returns-2
+unfolding ending
+returns-2 c =
+    let said = c .before .before .before .before in
+    rw (word (said .before .before) _ (said .enum-told2 .given .1)) (c .before .before .send-again .ensures)
+
+returns-3 : tie.Need-returns-3
+unfolding ending
+returns-3 c =
+    let said = c .before .before in
+    ends _ _ _ (c .before .idle2 .ensures) (rw (word (said .before .before) _ (said .enum-told3 .given .1), length-replicate)) (c .plain2 .ensures)
+
+returns-4 : tie.Need-returns-4
+unfolding ending
+returns-4 c =
+    let said = c .before .before in
+    let a = said .before .before .before .before .before .before .args in
+    reports (Reported (a .host .sendings)) (drop 1 (a .d .now)) _
+    (rw (word (said .before .before) _ (said .enum-told4 .given .1), length-replicate))
+    (c .reported .ensures ∙ rw (rest (a .d .now)))
+
+returns-5 : tie.Need-returns-5
+unfolding ending
+returns-5 c =
+    let said = c .before in
+    stays _ _ _ (rw (word (said .before .before) _ (said .enum-told5 .given .1))) (c .plain3 .ensures)
+
+pub told-spec : {M : Type 1} → statement M
+told-spec =
+    tie.close
+    (tie.spec
+    word-in-requires
+    enum-told
+    idle-requires
+    plain-requires
+    enum-told-2
+    send-again-requires
+    enum-told-3
+    idle-requires-2
+    plain-requires-2
+    enum-told-4
+    sub-reported
+    part-reported-start
+    part-reported-end
+    reported-requires
+    enum-told-5
+    plain-requires-3
+    returns
+    same-length
+    returns-2
+    returns-3
+    returns-4
+    returns-5)

@@ -1,0 +1,63 @@
+-- What each call answers: the machine's step, with its state by value and its packet at the front of a lent output.
+use Prim.Native.Nat.{ℕ}
+use mathlib.Core.Path.{_≡_}
+use mathlib.Core.Bool.{cond}
+use mathlib.Core.List.{List, flatten}
+use lib.ListN.{length, replicate}
+use lib.Dec.{leb}
+use Rattle.packet.specs.Packet.{laidOver}
+use Rattle.host.specs.declared.Host.{Host}
+use Rattle.host.specs.declared.Step.{Step}
+use Rattle.host.specs.declared.Refusal.{Refusal}
+use Rattle.host.specs.declared.Refusal.the-variants.{NoRoom, Busy, NotARequest}
+use Rattle.host.specs.declared.Outcome.{Outcome}
+use Rattle.host.specs.declared.Outcome.the-variants.{Refused}
+use Rattle.host.specs.Request.{requestPacket}
+use Rattle.host.specs.Machine.{Happening, State, Move, noRequest, quiet, step}
+
+-- 01's numbers
+abbrev pub refusalOf : Refusal → ℕ
+refusalOf NoRoom = 19
+refusalOf Busy = 21
+refusalOf NotARequest = 22
+
+-- a state by value has the number of the packets; they are all the request's own
+abbrev pub hostOf : State → Host
+hostOf s = record { request = s .request; sendings = length (s .given) }
+
+abbrev pub stateOf : Host → State
+stateOf h = record { request = h .request; given = replicate (h .sendings) (requestPacket (h .request)) }
+
+abbrev pub nothingWaits : Host
+nothingWaits = record { request = noRequest; sendings = 0 }
+
+-- the values of a report, then zeros
+unfoldable pub padded : List ℕ → List ℕ
+padded vs = laidOver vs (replicate 7 0)
+
+-- the bytes given out
+abbrev pub bytesOf : Move → List ℕ
+unfolding flatten
+bytesOf m = flatten (m .sent)
+
+-- what a call answers for a move
+unfoldable pub stepOf : Move → Step
+stepOf m = record {
+  host = hostOf (m .next);
+  length = length (bytesOf m);
+  outcome = m .outcome;
+  values = padded (m .values);
+  count = length (m .values);
+}
+
+-- an answer without values
+abbrev pub plainStep : Host → ℕ → Outcome → Step
+plainStep h n o = record { host = h; length = n; outcome = o; values = replicate 7 0; count = 0 }
+
+-- A call that was lent an output answers a move: with that step, and the bytes given out at the front of the output.
+abbrev pub Answers : Move → List ℕ → Step → List ℕ → Type 0
+Answers m out r out' = (r ≡ stepOf m) × (out' ≡ laidOver (bytesOf m) out)
+
+-- an output of under 40 bytes is refused first; then it is the machine's step
+unfoldable pub call : List ℕ → State → Happening → Move
+call out s h = cond (leb 40 (length out)) (step s h) (quiet s (Refused NoRoom))

@@ -1,0 +1,93 @@
+-- The host as a machine over happenings. 000, 2.2; 01, "Host side".
+use Prim.Native.Nat.{ℕ}
+use mathlib.Core.Bool.{Bool, cond}
+use mathlib.Core.List.{List, [], _∷_}
+use lib.ListN.{length, drop, replicate}
+use lib.Dec.{ltb}
+use Rattle.packet.specs.Packet.{monitorId, groupId}
+use Rattle.host.specs.declared.Request.{Request}
+use Rattle.host.specs.declared.Refusal.the-variants.{Busy, NotARequest}
+use Rattle.host.specs.declared.Outcome.{Outcome}
+use Rattle.host.specs.declared.Outcome.the-variants.{Idle, Waiting, Unheard, Ack as Acked, Nav as NotAvailable, Report as Reported, GivenUp, Refused}
+use Rattle.host.specs.declared.Said.{Said}
+use Rattle.host.specs.declared.Said.the-variants.{Ack, Nack, Nav, Report, Nothing}
+use Rattle.host.specs.Request.{isRequest, isDue, requestPacket}
+use Rattle.host.specs.Heard.{saidTo, dataIn}
+
+-- A request is started, a burst is heard, or the mark says that 500 ms have passed.
+pub data Happening : Type 0 where
+  start : Request → Happening
+  burst : List ℕ → Happening
+  mark : Happening
+
+-- the request that waits, and the packets given out for it since its start; none where nothing waits
+pub record State : Type 0 where
+  pub request : Request
+  pub given : List (List ℕ)
+
+-- what a happening leads to: the next state, the packet given out or none, what has become of the request, and a report's values
+pub record Move : Type 0 where
+  pub next : State
+  pub sent : List (List ℕ)
+  pub outcome : Outcome
+  pub values : List ℕ
+
+-- what stands in the place of a request where nothing waits
+abbrev pub noRequest : Request
+noRequest = record { id = monitorId 0; group = groupId 0; code = 0; values = replicate 7 0; count = 0 }
+
+abbrev pub idle : State
+idle = record { request = noRequest; given = [] }
+
+-- how many times the packet was sent: the number given out since start
+abbrev pub sendings : State → ℕ
+sendings s = length (s .given)
+
+abbrev pub waits : State → Bool
+waits s = ltb 0 (sendings s)
+
+-- nothing is given out and nothing changes
+abbrev pub quiet : State → Outcome → Move
+quiet s o = record { next = s; sent = []; outcome = o; values = [] }
+
+-- the request is over
+abbrev pub over : Outcome → List ℕ → Move
+over o vs = record { next = idle; sent = []; outcome = o; values = vs }
+
+-- the packet is given out; where no answer is due, the request is over
+unfoldable pub begun : Request → Move
+begun r =
+    let p = requestPacket r ∷ [] in
+    cond (isDue (r .id) (r .group))
+    (record { next = record { request = r; given = p }; sent = p; outcome = Waiting; values = [] })
+    (record { next = idle; sent = p; outcome = Unheard (length p); values = [] })
+
+-- the same packet again, or after the third sending given up
+unfoldable pub again : State → Move
+again s =
+    let p = requestPacket (s .request) in
+    cond (ltb (sendings s) 3)
+    (record { next = record { request = s .request; given = p ∷ s .given }; sent = p ∷ []; outcome = Waiting; values = [] })
+    (over (GivenUp (sendings s)) [])
+
+-- ACK, report and NAV end the request
+unfoldable pub ending : State → List ℕ → Said → Move
+ending s d Ack = over (Acked (sendings s)) []
+ending s d Nack = again s
+ending s d Nav = over (NotAvailable (sendings s)) []
+ending s d Report = over (Reported (sendings s)) (drop 1 d)
+ending s d Nothing = quiet s Waiting
+
+unfoldable pub heard : State → List ℕ → Move
+heard s b = ending s (dataIn b) (saidTo (s .request) b)
+
+-- one happening
+unfoldable pub step : State → Happening → Move
+step s (start r) = cond (waits s) (quiet s (Refused Busy)) (cond (isRequest r) (begun r) (quiet s (Refused NotARequest)))
+step s (burst b) = cond (waits s) (heard s b) (quiet s Idle)
+step s mark = cond (waits s) (again s) (quiet s Idle)
+
+-- for each happening its move
+unfoldable pub run : State → List Happening → List Move
+run s [] = []
+run s (h ∷ hs) = step s h ∷ run (step s h .next) hs

@@ -1,0 +1,82 @@
+// Which requests there are, and a request's packet given out.
+ghost use mathlib.Core.Path.{_≡_};
+ghost use Prim.Native.Nat.{_≤_, _<_, min};
+ghost use mathlib.Core.List.{_∷_};
+ghost use lib.ListN.{length, take};
+ghost use Rattle.settings.specs.Settings.{allowedFor};
+ghost use Rattle.packet.specs.Packet.{laidOver};
+ghost use Rattle.host.specs.Request.{isRequest, isDue, requestPacket};
+use crate::Request;
+use packet::GroupId;
+use packet::MonitorId;
+use settings::Found;
+
+// Whether a panel answers: not to ID 0, and not to a group.
+pub(crate) fn is_due(id: MonitorId, group: GroupId) -> bool
+    ensures { λ r. ⌜ r ≡ isDue id group ⌝ }
+{
+    id.0 != 0 && group.0 == 0
+}
+
+// Whether the first count of these values may be set in a row.
+fn may_set(row: usize, v: [u8; 7], count: usize) -> bool
+    requires { ⌜ (row < 8) × (count ≤ 7) ⌝ }
+    ensures { λ r. ⌜ r ≡ allowedFor row (take count v) ⌝ }
+{
+    settings::allowed(row, &v[..count])
+}
+
+// Whether the table has this request.
+pub(crate) fn is_request(request: Request) -> bool
+    ensures { λ r. ⌜ r ≡ isRequest request ⌝ }
+{
+    let count = request.count;
+    if 7 < count {
+        return false;
+    }
+    let group = request.group;
+    let found = settings::find_setting(request.code);
+    match found {
+        Found::Set(row) => {
+            if group.0 == 255 {
+                return false;
+            }
+            let values = request.values;
+            may_set(row, values, count)
+        }
+        Found::Get(_) => {
+            if count != 0 {
+                return false;
+            }
+            is_due(request.id, group)
+        }
+        Found::Nothing => false,
+    }
+}
+
+// The code, and behind it the values.
+fn data_bytes(code: u8, v: [u8; 7]) -> [u8; 8]
+    ensures { λ r. ⌜ r ≡ code ∷ v ⌝ }
+{
+    [code, v[0], v[1], v[2], v[3], v[4], v[5], v[6]]
+}
+
+// How many of the seven values count.
+fn in_use(count: usize) -> usize
+    ensures { λ r. ⌜ r ≡ min count 7 ⌝ }
+{
+    if count < 7 { count } else { 7 }
+}
+
+// Puts the request's packet, for which there is room, at the front of out and answers its length.
+pub(crate) fn send(request: Request, out: &mut [u8]) -> usize
+    requires { ⌜ 40 ≤ length (now out) ⌝ }
+    ensures { λ r. ⌜ r ≡ length (requestPacket request) ⌝ }
+    ensures { λ _. ⌜ now (out .exit) ≡ laidOver (requestPacket request) (now (out .entry)) ⌝ }
+{
+    let values = request.values;
+    let data = data_bytes(request.code, values);
+    let n = in_use(request.count) + 1;
+    packet::write_packet(out, request.id, request.group, &data[..n]);
+    n + 4
+}

@@ -1,0 +1,146 @@
+// Drives the host side over the steps of standard input and prints what comes of each.
+ghost use mathlib.Core.Path.{_≡_};
+ghost use Prim.Native.Nat.{_≤_};
+ghost use lib.ListN.{length};
+ghost use Rattle.host_play.specs.Steps.{requestOf};
+use host::Host;
+use host::Outcome;
+use host::Request;
+use host::Step;
+use packet::GroupId;
+use packet::MonitorId;
+use text::Read;
+
+// A start's ID, group, code and values, of which at most seven are kept; a request with more is refused by its count.
+fn request_of(step: &[u8]) -> Request
+    requires { ⌜ 4 ≤ length (now step) ⌝ }
+    ensures { λ r. ⌜ r ≡ requestOf (now (step .entry)) ⌝ }
+{
+    let mut values = [0u8; 7];
+    bytes::copy(text::front(&step[4..], 7), &mut values);
+    Request {
+        id: MonitorId(step[1]),
+        group: GroupId(step[2]),
+        code: step[3],
+        values,
+        count: step.len() - 4,
+    }
+}
+
+// Prints up to 40 bytes in hex.
+fn print_hex(bytes: &[u8]) {
+    let mut digits = [0u8; 80];
+    let n = text::hex(bytes, &mut digits);
+    io::write_all(1, &digits[..n]);
+}
+
+// Prints a word and a number.
+fn print_counted(word: &[u8], n: u64) {
+    io::write_all(1, word);
+    io::write_all(1, b" ");
+    io::print_decimal(1, n);
+}
+
+fn print_outcome(outcome: Outcome, values: &[u8]) {
+    match outcome {
+        Outcome::Idle => {
+            io::write_all(1, b"idle");
+        }
+        Outcome::Waiting => {
+            io::write_all(1, b"waiting");
+        }
+        Outcome::Unheard(n) => print_counted(b"unheard", n as u64),
+        Outcome::Ack(n) => print_counted(b"ack", n as u64),
+        Outcome::Nav(n) => print_counted(b"nav", n as u64),
+        Outcome::Report(n) => {
+            print_counted(b"report", n as u64);
+            io::write_all(1, b" ");
+            print_hex(values);
+        }
+        Outcome::GivenUp(n) => print_counted(b"given-up", n as u64),
+        Outcome::Refused(refusal) => print_counted(
+            b"refused",
+            host::refusal_number(refusal) as u64,
+        ),
+    }
+}
+
+// Prints the packet given out or a dash, and what has become of the request.
+fn show(step: Step, out: &[u8]) -> Host {
+    if step.length == 0 {
+        io::write_all(1, b"-");
+    } else {
+        print_hex(text::front(out, step.length));
+    }
+    io::write_all(1, b" ");
+    let values = step.values;
+    let outcome = step.outcome;
+    print_outcome(outcome, text::front(&values, step.count));
+    io::write_all(1, b"\n");
+    step.host
+}
+
+// Says that a step is none of the three.
+fn unknown(host: Host) -> Host {
+    io::write_all(1, b"- unknown\n");
+    host
+}
+
+// One step: its kind, 1 for a start, 2 for a burst, 3 for the mark, and what stands behind it.
+fn play(host: Host, step: &[u8]) -> Host {
+    let n = step.len();
+    if n == 0 {
+        return unknown(host);
+    }
+    let mut out = [0u8; 40];
+    match step[0] {
+        1 => {
+            if n < 4 {
+                return unknown(host);
+            }
+            let step = host.start(request_of(step), &mut out);
+            show(step, &out)
+        }
+        2 => {
+            let step = host.hear(&step[1..], &mut out);
+            show(step, &out)
+        }
+        3 => {
+            if n != 1 {
+                return unknown(host);
+            }
+            let step = host.mark(&mut out);
+            show(step, &out)
+        }
+        _ => unknown(host),
+    }
+}
+
+// Every step of standard input, in order. The loop counts its turns, since a proved loop has to end and nothing says that the
+// input does.
+fn main() {
+    let mut host = Host::idle();
+    let mut number = 0u64;
+    while number < u64::MAX {
+        let mut buffer = [0u8; 255];
+        let read = text::read_step(&mut buffer);
+        match read {
+            Read::Step(n) => {
+                number += 1;
+                io::print_decimal(1, number);
+                io::write_all(1, b" ");
+                host = play(host, text::front(&buffer, n));
+            }
+            Read::Cut => {
+                print_counted(b"cut", number);
+                io::write_all(1, b"\n");
+                return;
+            }
+            Read::End => {
+                print_counted(b"end", number);
+                io::write_all(1, b"\n");
+                return;
+            }
+        }
+    }
+}

@@ -1,0 +1,16 @@
+-- The ten P cases of 01, proved together: antt plays each burst. Assumes nothing.
+use mathlib.Core.Path.{_≡_, refl}
+use mathlib.Core.List.{map, flatten}
+use Rattle.settings.specs.Settings.{settings, foundFrom, allowedByRow, freshValues, within, allAllowed}
+use Rattle.packet.specs.Xor.{_⊕_, xorAll}
+use Rattle.packet.specs.Packet.{isIntact, verdictOf, dataOf, packetOf}
+use Rattle.panels.specs.Wall.{placeFrom}
+use Rattle.panels.specs.Addressed.{reaches, isHeard}
+use Rattle.line.specs.Reply.{sentBytes}
+use Rattle.line.specs.Judged.{command, stored, judge}
+use Rattle.line.specs.Played.{turned, damagedReply, played}
+use Rattle.line.specs.Cases.{Case, twoPanels, tried, cases}
+
+pub p-cases : map (λ (c : Case). tried (c .burst)) cases ≡ cases
+unfolding settings foundFrom allowedByRow freshValues within allAllowed flatten _⊕_ xorAll isIntact verdictOf dataOf packetOf placeFrom reaches isHeard sentBytes command stored judge turned damagedReply played twoPanels cases
+p-cases = refl

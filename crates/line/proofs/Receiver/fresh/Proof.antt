@@ -1,0 +1,14 @@
+-- Assumes nothing.
+use mathlib.Core.Path.{refl}
+use Rattle.line.specs.Session.{receiverOf}
+use Rattle.line.proofs.Receiver.fresh.Statement.{statement}
+use Rattle.line.proofs.Receiver.fresh.Tie as tie
+use Rattle.line.proofs.Receiver.fresh.Reads as reads
+use Rattle.line.proofs.Receiver.fresh.Lts as lts
+
+returns : tie.Need-returns
+unfolding receiverOf
+returns c = refl
+
+pub fresh-spec : {M : Type 1} → statement M
+fresh-spec = tie.close (tie.spec returns)

@@ -1,0 +1,74 @@
+-- The bytes that were kept are played; past 40 they are damaged, whatever came behind them. Assumes nothing.
+use mathlib.Core.Path.{_≡_, sym, ap, ap₂, _∙_}
+use mathlib.Core.List.{List, [], _∷_, _++_}
+use Prim.Native.Nat.{ℕ, _≤_, _<_}
+use native.Mathlib.Omega.{arith}
+use lib.ListN.{length, take, length-append}
+use lib.Seq.{take-all, length-take-le, take-append-le}
+use Rattle.panels.specs.declared.Table.{Table}
+use Rattle.panels.specs.Wall.{Wall, panelsOf}
+use Rattle.line.specs.declared.Heard.{Heard}
+use Rattle.line.specs.declared.Reply.{Reply}
+use Rattle.line.specs.declared.Played.{Played}
+use Rattle.line.specs.Played.{played, inTable}
+use Rattle.line.specs.Session.{receiverOf, burstOf, atMark}
+use Rattle.line.proofs.Bursts.{played-long, damaged-bare}
+use borrow.Author.Needs.{needs}
+use Rattle.line.proofs.Receiver.quiet.Statement.{statement}
+use Rattle.line.proofs.Receiver.quiet.Tie as tie
+use Rattle.line.proofs.Receiver.quiet.Reads as reads
+use Rattle.line.proofs.Receiver.quiet.Lts as lts
+use Rattle.line.proofs.playing.damaged_reply.Reads as damaged-reply-reads
+use Rattle.line.proofs.playing.play.Reads as play-reads
+
+slice-aggregate-damaged-reply : tie.Need-slice-aggregate-damaged-reply
+slice-aggregate-damaged-reply c = search needs
+
+damaged-reply-requires : tie.Need-damaged-reply-requires
+damaged-reply-requires c κs = search needs
+
+returns : tie.Need-returns
+unfolding receiverOf atMark burstOf
+returns c =
+    let start = c .before .before .before .before .before in
+    let a = start .args in
+    let n : length (a .self .bytes) ≡ 40 = search needs in
+    let burst = take-all (a .self .count) (a .self .bytes ++ 0 ∷ []) (simp length-append (omega arith)) in
+    let o = played-long (panelsOf (a .t)) (a .self .bytes ++ 0 ∷ []) (simp length-append (omega arith)) in
+    let reply = c .damaged-reply .ensures ∙ damaged-bare (panelsOf (a .t)) (a .self .bytes) (0 ∷ []) (omega arith) in
+    rw (burst, o) (ap₂ {C = Heard} (λ (t : Table) (r : Reply). record { receiver = receiverOf []; table = t; reply = r }) (start .pre .held) reply)
+
+array-share-prefix-bytes : tie.Need-array-share-prefix-bytes
+array-share-prefix-bytes c =
+    let n : length (c .before .before .before .args .self .bytes) ≡ 40 = search needs in
+    omega arith
+
+slice-aggregate-play : tie.Need-slice-aggregate-play
+slice-aggregate-play c =
+    let a = c .before .before .before .before .args in
+    let n : length (a .self .bytes) ≡ 40 = search needs in
+    sym (length-take-le (a .self .count) (a .self .bytes) (omega arith))
+
+play-requires : tie.Need-play-requires
+play-requires c κs = search needs
+
+returns-2 : tie.Need-returns-2
+unfolding receiverOf atMark burstOf
+returns-2 c =
+    let start = c .before .before .before .before .before .before .before in
+    let a = start .args in
+    let n : length (a .self .bytes) ≡ 40 = search needs in
+    let burst = take-append-le (a .self .count) (a .self .bytes) (0 ∷ []) (omega arith) in
+    rw burst (ap {B = Heard} (λ (p : Played). record { receiver = receiverOf []; table = p .table; reply = p .reply }) (c .before .before .play .ensures))
+
+pub quiet-spec : {M : Type 1} → statement M
+quiet-spec =
+    tie.close
+    (tie.spec
+    slice-aggregate-damaged-reply
+    damaged-reply-requires
+    returns
+    array-share-prefix-bytes
+    slice-aggregate-play
+    play-requires
+    returns-2)

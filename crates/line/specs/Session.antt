@@ -1,0 +1,64 @@
+-- Many bursts, and the line's bytes and quiet marks. 01, "Packet and burst".
+use Prim.Native.Nat.{ℕ, _+_, _-_, min}
+use mathlib.Core.Bool.{cond}
+use mathlib.Core.List.{List, [], _∷_, _++_}
+use lib.Dec.{ltb}
+use lib.ListN.{length, take, set, replicate}
+use Rattle.panels.specs.declared.Table.{Table}
+use Rattle.panels.specs.Wall.{Wall, panelsOf, tableOf}
+use Rattle.line.specs.declared.Reply.{Reply}
+use Rattle.line.specs.declared.Receiver.{Receiver}
+use Rattle.line.specs.declared.Heard.{Heard}
+use Rattle.line.specs.Played.{played}
+
+pub record Ended : Type 0 where
+  pub wall : Wall
+  pub replies : List Reply
+
+-- bursts played one after the other
+unfoldable pub session : Wall → List (List ℕ) → Ended
+session w [] = record { wall = w; replies = [] }
+session w (b ∷ bs) =
+    let o = played w b in
+    let e = session (o .wall) bs in
+    record { wall = e .wall; replies = o .reply ∷ e .replies }
+
+-- what the line driver reports
+pub data Event : Type 0 where
+  byte : ℕ → Event
+  quiet : Event
+
+-- the bytes between two marks are a burst; what was heard since the last mark comes first
+unfoldable pub burstsAfter : List ℕ → List Event → List (List ℕ)
+burstsAfter heard [] = []
+burstsAfter heard (byte b ∷ events) = burstsAfter (heard ++ b ∷ []) events
+burstsAfter heard (quiet ∷ events) = heard ∷ burstsAfter [] events
+
+-- A receiver keeps the first 40 bytes and counts to 41, which stands for "more than 40".
+unfoldable pub receiverOf : List ℕ → Receiver
+receiverOf heard = record { bytes = take 40 heard ++ replicate (40 - length heard) 0; count = min (length heard) 41 }
+
+unfoldable pub withByte : Receiver → ℕ → Receiver
+withByte r b =
+    cond (ltb (r .count) 40)
+    (record { bytes = set (r .bytes) (r .count) b; count = r .count + 1 })
+    (record { bytes = r .bytes; count = 41 })
+
+-- the burst that it has, with one byte behind the 40 for all that came past them
+unfoldable pub burstOf : Receiver → List ℕ
+burstOf r = take (r .count) (r .bytes ++ 0 ∷ [])
+
+-- a quiet mark: the burst is played, and the receiver is fresh
+unfoldable pub atMark : Receiver → Table → Heard
+atMark r t =
+    let o = played (panelsOf t) (burstOf r) in
+    record { receiver = receiverOf []; table = tableOf (o .wall); reply = o .reply }
+
+-- what the receiver makes of a stream
+unfoldable pub streamed : Receiver → Wall → List Event → Ended
+streamed r w [] = record { wall = w; replies = [] }
+streamed r w (byte b ∷ events) = streamed (withByte r b) w events
+streamed r w (quiet ∷ events) =
+    let o = played w (burstOf r) in
+    let e = streamed (receiverOf []) (o .wall) events in
+    record { wall = e .wall; replies = o .reply ∷ e .replies }
