@@ -1,16 +1,15 @@
 -- Reading what was written gives that table. Assumes nothing.
-use mathlib.Core.Path.{_≡_, refl, sym, ap, ap₂, subst, _∙_}
-use mathlib.Core.Bool.{Bool, true, false, cond}
+use mathlib.Core.Path.{_≡_, refl, sym, ap, subst, _∙_}
+use mathlib.Core.Bool.{false}
 use mathlib.Core.List.{List, [], _∷_, _++_, map, flatten, append-nil}
-use Prim.Native.Nat.{ℕ, zero, suc, _+_, _-_, _*_, _≤_, _<_}
+use Prim.Native.Nat.{ℕ, zero, suc, _+_, _-_, _≤_, _<_}
 use native.Mathlib.Nat.{not-suc-le-zero, le-of-suc-le-suc}
 use native.Mathlib.Omega.{arith}
 use borrow.Author.Tests.{le-leb, ne-eqb}
-use lib.Dec.{leb, eqb}
-use lib.ListN.{length, getD, take, drop, replicate, length-append, length-map}
+use lib.ListN.{length, getD, take, drop, replicate, length-map}
 use lib.Seq.{append-snoc, take-at}
 use Rattle.settings.specs.declared.Found.the-variants.{Set}
-use Rattle.settings.specs.Settings.{foundBy, setCode, byteCount, allowedFor, freshValues}
+use Rattle.settings.specs.Settings.{foundBy, setCode, freshValues}
 use Rattle.settings.specs.Numbers.{each}
 use Rattle.settings.proofs.Laws.{set-found, fresh-count}
 use Rattle.settings.proofs.WrittenOut.{in-each}
@@ -19,20 +18,19 @@ use Rattle.packet.specs.Packet.{laidOver}
 use Rattle.panels.specs.declared.Panel.{Panel}
 use Rattle.panels.specs.declared.Table.{Table}
 use Rattle.panels.specs.declared.Place.the-variants.{Nowhere}
-use Rattle.panels.specs.Wall.{Wall, valuesOf, blank, tableOf, panelsOf, placeFrom, placeOf}
+use Rattle.panels.specs.Wall.{Wall, valuesOf, blank, panelsOf, placeFrom}
 use Rattle.panels.specs.WellFormed.{GoodPanel, Absent, GoodWall, WellFormed}
 use Rattle.panels.proofs.Formed.{absent-snoc}
 use Rattle.image.specs.declared.Refusal.the-variants.{Nothing}
 use Rattle.image.specs.declared.Fields.{Fields}
 use Rattle.image.specs.declared.Read.{Read}
 use Rattle.image.specs.Written.{field, fieldsOf, recordOf, recordsOf, imageOf, sizeOf, outputOf}
-use Rattle.image.specs.Whole.{recordsIn, wholeRefusal}
 use Rattle.image.specs.Fields.{valuesWith, fieldsIn}
-use Rattle.image.specs.Read.{Reading, isSound, headFits, recordRefusal, panelIn, wallWith, refused, readRecords, readOf, inTable}
+use Rattle.image.specs.Read.{Reading, headFits, recordRefusal, panelIn, readRecords, readOf, inTable}
 use Rattle.image.specs.Entries.{Entry, entryBytes, bytesOf, entryOf, Without}
-use Rattle.image.proofs.Lengths.{length-each, each-alike, length-values, good-at, record-at, record-length, records-long}
+use Rattle.image.proofs.Lengths.{each-alike, length-values, good-at, record-at, record-length, records-long}
 use Rattle.image.proofs.Values.{length-with, set-row, other-row, by-rows}
-use Rattle.image.proofs.Entries.{rowOf, row-is, Good, GoodEntries, stored, count-of, other-rows, all-taken}
+use Rattle.image.proofs.Entries.{rowOf, row-is, Good, GoodEntries, stored, count-of, all-taken}
 use Rattle.image.proofs.Order.{none-seen}
 use Rattle.image.proofs.Split.{image-length, whole-sound, records-in}
 

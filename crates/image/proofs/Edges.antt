@@ -1,14 +1,14 @@
 -- Where the records of an image that is sound as a whole begin and end. Assumes nothing.
-use mathlib.Core.Path.{_≡_, refl, sym, ap, subst, _∙_}
+use mathlib.Core.Path.{_≡_, refl}
 use mathlib.Core.Bool.{Bool, true, false, cond, _&&_, false≢true}
-use mathlib.Core.List.{List, [], _∷_}
+use mathlib.Core.List.{List}
 use Prim.Native.Nat.{ℕ, zero, suc, _+_, _-_, _*_, _≤_, _<_}
 use mathlib.Core.Logic.{⊎-elim}
 use native.Mathlib.Nat.{eq-or-lt-of-le}
 use native.Mathlib.Omega.{arith}
 use borrow.Author.Tests.{ltb-true, ltb-false, eqb-true, le-ltb}
 use lib.Dec.{ltb, eqb}
-use lib.ListN.{length, getD}
+use lib.ListN.{length}
 use Rattle.image.specs.declared.Refusal.{Refusal}
 use Rattle.image.specs.declared.Refusal.the-variants.{Nothing, TooShort, OtherForm, TooMany, NoStarts, Starts, Record, Field, Value}
 use Rattle.image.specs.Whole.{formOf, countOf, startsAt, edge, rises, startsFit, wholeRefusal}

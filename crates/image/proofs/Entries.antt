@@ -1,28 +1,23 @@
 -- Entries that can be taken are all taken, and where there is no fault they can be. Assumes nothing.
-use mathlib.Core.Path.{_≡_, refl, sym, ap, ap₂, subst, _∙_}
+use mathlib.Core.Path.{_≡_, refl, sym, ap, ap₂, _∙_}
 use mathlib.Core.Bool.{Bool, true, false, cond, _||_, false≢true}
-use mathlib.Core.List.{List, [], _∷_, _++_, map, flatten}
-use Prim.Native.Nat.{ℕ, zero, suc, _+_, _-_, _≤_, _<_}
-use native.Mathlib.Nat.{not-suc-le-zero, le-of-suc-le-suc}
+use mathlib.Core.List.{List, [], _∷_, _++_, flatten}
+use Prim.Native.Nat.{ℕ, suc, _+_, _-_, _<_}
 use native.Mathlib.Omega.{arith}
-use borrow.Author.Tests.{eqb-true, eqb-false, ne-eqb}
-use lib.Dec.{eqb}
-use lib.ListN.{length, getD, take, drop, set, replicate, length-append, length-set}
+use borrow.Author.Tests.{ne-eqb}
+use lib.ListN.{length, getD, length-append, length-set}
 use lib.Seq.{take-at, drop-at, getD-set-same, getD-set-other}
 use Rattle.settings.specs.declared.Found.{Found}
 use Rattle.settings.specs.declared.Found.the-variants.{Set, Get, Nothing}
-use Rattle.settings.specs.Settings.{foundBy, setCode, byteCount, allowedFor, freshValues}
-use Rattle.settings.proofs.Laws.{IsFound, found-right, set-found, allowed-count, fresh-allowed, fresh-count}
-use Rattle.panels.specs.Wall.{valuesOf}
-use Rattle.image.specs.declared.Refusal.{Refusal}
-use Rattle.image.specs.declared.Refusal.the-variants.{Nothing as Sound, Field as BadField, Value as BadValue}
+use Rattle.settings.specs.Settings.{foundBy, setCode, byteCount, allowedFor}
+use Rattle.settings.proofs.Laws.{set-found, allowed-count}
+use Rattle.image.specs.declared.Refusal.the-variants.{Nothing as Sound}
 use Rattle.image.specs.declared.Step.{Step}
 use Rattle.image.specs.declared.Step.the-variants.{Field, NotAllowed, Broken, End}
 use Rattle.image.specs.declared.Fields.{Fields}
-use Rattle.image.specs.Fields.{valuesIn, misfits, fieldBy, stepAt, seenWith, valuesWith, behind, afterStep, fieldsFrom, fieldsIn}
-use Rattle.image.specs.Entries.{Entry, entryBytes, bytesOf, entryOf, freshEntry, Permuted, Without}
+use Rattle.image.specs.Fields.{valuesIn, misfits, fieldBy, stepAt, seenWith, valuesWith, behind, fieldsFrom}
+use Rattle.image.specs.Entries.{Entry, bytesOf, Without}
 use Rattle.image.proofs.Steps.{Takes, takes, takes-it, fields-step}
-use Rattle.image.proofs.Values.{length-with, set-row, other-row, by-rows, InRange, with-in-range}
 
 -- the row of an entry's code
 rowFound : Found → ℕ

@@ -1,13 +1,13 @@
 -- Bytes laid over a list piece by piece. Assumes nothing.
-use mathlib.Core.Path.{_≡_, refl, sym, ap, _∙_}
+use mathlib.Core.Path.{_≡_, refl, sym, _∙_}
 use mathlib.Core.List.{List, [], _∷_, _++_, append-assoc, append-nil, flatten}
 use Prim.Native.Nat.{ℕ, zero, suc, _+_, _-_, _≤_, _<_}
 use native.Mathlib.Nat.{add-assoc, zero-add, add-zero, not-suc-le-zero, le-of-suc-le-suc}
 use native.Mathlib.Numerals.{add-one}
 use native.Mathlib.Omega.{arith}
 use borrow.Rule.Slice.PartMut.{midOf, putMid}
-use lib.ListN.{length, getD, take, drop, set, length-append, length-take, length-drop, take-append-drop}
-use lib.Seq.{length-take-le, take-length, take-at, drop-at, drop-drop, set-split, drop-append-add, take-all}
+use lib.ListN.{length, getD, take, drop, set, length-append, length-drop, take-append-drop}
+use lib.Seq.{length-take-le, take-length, take-at, drop-drop, set-split, drop-append-add, take-all}
 use Rattle.packet.specs.Packet.{laidOver}
 use Rattle.image.specs.Laid.{laidAt}
 

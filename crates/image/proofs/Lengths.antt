@@ -1,16 +1,15 @@
 -- How long a record and its parts are. Assumes nothing.
 use mathlib.Core.Path.{_≡_, refl, sym, ap, _∙_}
-use mathlib.Core.List.{List, [], _∷_, _++_, map, flatten}
+use mathlib.Core.List.{List, [], _∷_, flatten}
 use Prim.Native.Nat.{ℕ, zero, suc, _+_, _-_, _*_, _≤_, _<_}
 use native.Mathlib.Nat.{mul-zero, mul-suc, le-of-suc-le-suc, not-suc-le-zero}
-use native.Mathlib.Numerals.{add-one}
 use native.Mathlib.Omega.{arith}
 use borrow.Author.Tests.{leb-true}
 use mathlib.Core.Bool.{true}
 use lib.Dec.{leb}
-use lib.ListN.{length, getD, take, drop, length-append, length-take, length-drop, length-map, List·getD-map}
+use lib.ListN.{length, getD, take, length-append, length-take, length-drop, length-map, List·getD-map}
 use lib.Seq.{take-all}
-use Rattle.settings.specs.Settings.{settings, setCode, byteCount, place, startOf}
+use Rattle.settings.specs.Settings.{settings, byteCount, startOf}
 use Rattle.settings.specs.Numbers.{each}
 use Rattle.settings.proofs.Laws.{place-fits}
 use Rattle.settings.proofs.WrittenOut.{in-each, alike}

@@ -1,22 +1,21 @@
 -- Fields go by code and not by place. Assumes nothing.
-use mathlib.Core.Path.{_≡_, refl, sym, ap, ap₂, subst, _∙_}
+use mathlib.Core.Path.{_≡_, refl, sym, ap, _∙_}
 use mathlib.Core.Bool.{Bool, true, false, cond, false≢true}
-use mathlib.Core.List.{List, [], _∷_, _++_}
-use Prim.Native.Nat.{ℕ, zero, suc, _+_, _-_, _≤_, _<_}
+use mathlib.Core.List.{List, [], _∷_}
+use Prim.Native.Nat.{ℕ, _-_, _<_}
 use native.Mathlib.Omega.{arith}
 use borrow.Author.Tests.{le-leb, eqb-true, eqb-false}
 use lib.Dec.{eqb}
-use lib.ListN.{length, getD, take, drop, replicate, getD-replicate}
-use Rattle.settings.specs.Settings.{setCode, byteCount, allowedFor, freshValues}
+use lib.ListN.{length, drop, replicate, getD-replicate}
+use Rattle.settings.specs.Settings.{setCode, byteCount, freshValues}
 use Rattle.settings.proofs.Laws.{fresh-allowed, fresh-count}
 use Rattle.panels.specs.Wall.{Wall, valuesOf}
-use Rattle.image.specs.declared.Refusal.{Refusal}
 use Rattle.image.specs.declared.Refusal.the-variants.{Nothing as Sound, Record}
 use Rattle.image.specs.declared.Fields.{Fields}
 use Rattle.image.specs.Whole.{wholeRefusal, recordsIn}
 use Rattle.image.specs.Fields.{valuesWith, fieldsIn}
-use Rattle.image.specs.Read.{Reading, isSound, headFits, recordRefusal, panelIn, wallWith, refused, readRecords, readOf}
-use Rattle.image.specs.Entries.{Entry, bytesOf, entryOf, freshEntry, Permuted, same, swapped, kept, twice, Without, recordWith, Reordered, AllReordered}
+use Rattle.image.specs.Read.{isSound, headFits, recordRefusal, panelIn, wallWith, refused, readRecords, readOf}
+use Rattle.image.specs.Entries.{Entry, bytesOf, freshEntry, Permuted, same, swapped, kept, twice, Without, recordWith, Reordered, AllReordered}
 use Rattle.image.proofs.Lengths.{length-values}
 use Rattle.image.proofs.Edges.{sound-nothing}
 use Rattle.image.proofs.Values.{length-with, set-row, other-row, by-rows}

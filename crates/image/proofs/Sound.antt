@@ -1,18 +1,17 @@
 -- Reading gives only well-formed tables. Assumes nothing.
-use mathlib.Core.Path.{_≡_, refl, sym, ap, subst, _∙_}
-use mathlib.Core.Bool.{Bool, true, false, cond, not, _&&_, false≢true}
-use mathlib.Core.List.{List, [], _∷_, _++_}
-use Prim.Native.Nat.{ℕ, zero, suc, _+_, _-_, _*_, _≤_, _<_}
+use mathlib.Core.Path.{_≡_, refl}
+use mathlib.Core.Bool.{Bool, true, false, cond, false≢true}
+use mathlib.Core.List.{List, [], _∷_}
+use Prim.Native.Nat.{ℕ, zero, suc, _+_, _-_, _≤_, _<_}
 use native.Mathlib.Numerals.{add-one}
 use native.Mathlib.Omega.{arith}
 use borrow.Author.Tests.{eqb-false, not-true, leb-true}
-use lib.Dec.{leb, eqb}
 use lib.ListN.{length, getD, drop, replicate, length-append}
 use lib.Seq.{drop-cons}
 use Rattle.settings.specs.Settings.{freshValues}
 use Rattle.settings.specs.Numbers.{each}
 use Rattle.settings.proofs.WrittenOut.{in-each}
-use Rattle.packet.specs.Packet.{monitorId, groupId}
+use Rattle.packet.specs.Packet.{monitorId}
 use Rattle.panels.specs.declared.Table.{Table}
 use Rattle.panels.specs.declared.Place.{Place}
 use Rattle.panels.specs.declared.Place.the-variants.{At, Nowhere}
@@ -25,11 +24,11 @@ use Rattle.image.specs.declared.Step.{Step}
 use Rattle.image.specs.declared.Step.the-variants.{Field, NotAllowed, Broken, End}
 use Rattle.image.specs.Whole.{countOf, recordIn, recordsIn, wholeRefusal}
 use Rattle.image.specs.Fields.{stepAt, seenWith, valuesWith, valuesIn, behind, afterStep, gathered, fieldsFrom, fieldsIn}
-use Rattle.image.specs.Read.{Reading, isSound, headFits, recordRefusal, panelIn, wallWith, refused, readRecords, readOf, inTable}
+use Rattle.image.specs.Read.{isSound, headFits, recordRefusal, panelIn, wallWith, refused, readRecords, readOf, inTable}
 use Rattle.image.proofs.Lengths.{length-each}
 use Rattle.image.proofs.Steps.{takes}
 use Rattle.image.proofs.Values.{InRange, fresh-in-range, with-in-range}
-use Rattle.image.proofs.Edges.{both, Fits, fits}
+use Rattle.image.proofs.Edges.{both, fits}
 
 -- the values gathered are in range
 gathered-in-range : (n : ℕ) (seen : List Bool) (values left : List ℕ) → InRange values → InRange (gathered n seen values left .values)

@@ -1,21 +1,20 @@
 -- The walk over a record's fields, step by step. Assumes nothing.
 use mathlib.Core.Path.{_≡_, refl, sym, ap, subst, _∙_}
 use mathlib.Core.Bool.{Bool, true, false, cond, not, _||_}
-use mathlib.Core.List.{List, [], _∷_}
+use mathlib.Core.List.{List}
 use Prim.Native.Nat.{ℕ, zero, suc, _+_, _-_, _≤_, _<_}
 use native.Mathlib.Nat.{not-suc-le-zero}
 use native.Mathlib.Omega.{arith}
-use borrow.Author.Tests.{ltb-false, eqb-true, eqb-false, eq-eqb, ne-eqb, le-ltb}
+use borrow.Author.Tests.{ltb-false, eqb-true, eq-eqb, ne-eqb, le-ltb}
 use lib.Dec.{ltb, eqb}
-use lib.ListN.{length, getD, take, drop, length-drop}
+use lib.ListN.{length, getD, length-drop}
 use Rattle.settings.specs.declared.Found.{Found}
 use Rattle.settings.specs.declared.Found.the-variants.{Set, Get, Nothing}
 use Rattle.settings.specs.Settings.{foundBy, setCode, byteCount, allowedFor}
 use Rattle.settings.proofs.Laws.{IsFound, found-right, set-found}
 use Rattle.image.specs.declared.Step.{Step}
 use Rattle.image.specs.declared.Step.the-variants.{Field, NotAllowed, Broken, End}
-use Rattle.image.specs.declared.Fields.{Fields}
-use Rattle.image.specs.Fields.{valuesIn, misfits, fieldBy, stepAt, seenWith, valuesWith, behind, afterStep, gathered, fieldsFrom}
+use Rattle.image.specs.Fields.{valuesIn, fieldBy, stepAt, seenWith, valuesWith, behind, afterStep, gathered, fieldsFrom}
 
 -- what stands at the front where a field is taken
 pub record Takes (seen : List Bool) (left : List ℕ) (row : ℕ) : Type 0 where

@@ -1,14 +1,14 @@
 -- What a field that is taken does to a panel's 15 values. Assumes nothing.
-use mathlib.Core.Path.{_≡_, refl, sym, ap, ap₂, _∙_}
+use mathlib.Core.Path.{_≡_, refl, sym, ap, _∙_}
 use mathlib.Core.Bool.{Bool, true, false}
-use mathlib.Core.List.{List, [], _∷_, _++_, append-assoc, flatten}
+use mathlib.Core.List.{List, _++_, append-assoc, flatten}
 use mathlib.Core.Logic.{⊎-elim}
 use Prim.Native.Nat.{ℕ, zero, suc, _+_, _-_, _≤_, _<_}
 use native.Mathlib.Nat.{eq-or-lt-of-le}
 use native.Mathlib.Omega.{arith}
 use borrow.Author.Tests.{ltb-true, ltb-false, eqb-true, eqb-false}
 use lib.Dec.{ltb, eqb}
-use lib.ListN.{length, getD, take, drop, length-take, length-drop}
+use lib.ListN.{length, take, drop}
 use lib.Seq.{length-take-le, take-at, drop-at, take-take, take-add, drop-drop, take-all}
 use Rattle.settings.specs.Settings.{settings, allowedByRow, byteCount, place, allowedFor, freshValues}
 use Rattle.settings.proofs.Laws.{place-fits, places-apart, allowed-count, fresh-allowed, fresh-count}

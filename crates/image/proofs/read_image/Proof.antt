@@ -1,22 +1,15 @@
 -- 11 to 15 on the whole, then the records. Assumes nothing.
-use mathlib.Core.Path.{_≡_, refl, sym, ap, ap₂, _∙_}
-use mathlib.Core.Bool.{true, false}
-use mathlib.Core.List.{[]}
+use mathlib.Core.Path.{_≡_, sym, ap, ap₂, _∙_}
+use mathlib.Core.Bool.{true}
 use borrow.Author.Tests.{eq-eqb, ne-eqb}
 use Rattle.panels.specs.declared.Table.{Table}
 use Rattle.image.specs.declared.Refusal.{Refusal}
 use Rattle.image.specs.declared.Read.{Read}
-use Rattle.image.specs.Whole.{wholeRefusal, recordsIn}
-use Rattle.image.specs.Read.{isSound, readRefusalOf, refused, readRecords, readOf, inTable}
+use Rattle.image.specs.Whole.{wholeRefusal}
+use Rattle.image.specs.Read.{isSound, readRefusalOf, readOf, inTable}
 use borrow.Author.Needs.{needs}
 use Rattle.image.proofs.read_image.Statement.{statement}
 use Rattle.image.proofs.read_image.Tie as tie
-use Rattle.image.proofs.read_image.Reads as reads
-use Rattle.image.proofs.read_image.Lts as lts
-use Rattle.image.proofs.records.all.Reads as all-reads
-use Rattle.image.proofs.refusal_number.Reads as refusal-number-reads
-use Rattle.image.proofs.whole.refusal_of.Reads as refusal-of-reads
-use Rattle.panels.proofs.empty_table.Reads as empty-table-reads
 
 -- past the test the image is sound as a whole
 sound : (c : tie.Else1) → isSound (wholeRefusal (c .before .before .before .before .args .image .now)) ≡ true

@@ -1,11 +1,10 @@
 -- Records, starts, count and form byte stand one behind the other. Assumes nothing.
-use mathlib.Core.Path.{_≡_, refl, sym, ap, ap₂, _∙_}
+use mathlib.Core.Path.{_≡_, sym, ap, ap₂, _∙_}
 use mathlib.Core.List.{List, [], _∷_, _++_, flatten}
-use Prim.Native.Nat.{ℕ, _+_, _-_, _*_, _≤_, _<_}
+use Prim.Native.Nat.{ℕ, _+_, _-_, _*_, _≤_}
 use native.Mathlib.Omega.{arith}
 use borrow.Author.Tests.{le-leb, lt-leb}
-use lib.ListN.{length, set, take, length-set, length-append, length-map}
-use lib.Seq.{take-all}
+use lib.ListN.{length, set, length-set, length-append, length-map}
 use Rattle.settings.specs.Numbers.{each}
 use Rattle.packet.specs.Packet.{laidOver}
 use Rattle.panels.specs.Wall.{Wall, panelsOf}
@@ -20,10 +19,6 @@ use Rattle.image.proofs.Split.{starts-count}
 use borrow.Author.Needs.{needs}
 use Rattle.image.proofs.write_image.Statement.{statement}
 use Rattle.image.proofs.write_image.Tie as tie
-use Rattle.image.proofs.write_image.Reads as reads
-use Rattle.image.proofs.write_image.Lts as lts
-use Rattle.image.proofs.write.records.Reads as records-reads
-use Rattle.image.proofs.write.starts.Reads as starts-reads
 
 -- the starts of n records, the output with the records in it, and with the starts behind them
 abbrev starts-of : ℕ → List ℕ

@@ -1,19 +1,10 @@
 -- The buffer keeps its length; the measure is the numbers that are left. Assumes nothing.
-use mathlib.Core.Path.{_≡_, sym, _∙_}
+use mathlib.Core.Path.{_≡_}
 use Prim.Native.Nat.{_^_, _-_}
 use borrow.Author.Needs.{needs}
 use lib.ListN.{length}
 use Rattle.image_play.proofs.main.Statement.{statement}
 use Rattle.image_play.proofs.main.Tie as tie
-use Rattle.image_play.proofs.main.Reads as reads
-use Rattle.image_play.proofs.main.Lts as lts
-use Rattle.image_play.proofs.print_last.Reads as print-last-reads
-use Rattle.image_play.proofs.print_reading.Reads as print-reading-reads
-use Rattle.image_play.proofs.read_item.Reads as read-item-reads
-use Rattle.io.proofs.large_buffer.Reads as large-buffer-reads
-use Rattle.io.proofs.print_decimal.Reads as print-decimal-reads
-use Rattle.io.proofs.write_all.Reads as write-all-reads
-use Rattle.text.proofs.front.Reads as front-reads
 
 abbrev Inv-loop : tie.InvT-loop
 Inv-loop buffer₀ number₀ t5 t6 t7 t8 buffer number = 65536 ≡ length buffer

@@ -1,19 +1,11 @@
 -- The table that was read is well-formed. Assumes nothing.
 use mathlib.Core.Path.{sym, ap, subst}
-use Rattle.panels.specs.declared.Table.{Table}
 use Rattle.panels.specs.WellFormed.{WellFormed}
 use Rattle.image.specs.declared.Read.{Read}
 use Rattle.image.proofs.Sound.{read-formed}
 use borrow.Author.Needs.{needs}
 use Rattle.image_play.proofs.print_reading.Statement.{statement}
 use Rattle.image_play.proofs.print_reading.Tie as tie
-use Rattle.image_play.proofs.print_reading.Reads as reads
-use Rattle.image_play.proofs.print_reading.Lts as lts
-use Rattle.image.proofs.read_image.Reads as read-image-reads
-use Rattle.image.proofs.refusal_number.Reads as refusal-number-reads
-use Rattle.image_play.proofs.print_image.Reads as print-image-reads
-use Rattle.io.proofs.print_decimal.Reads as print-decimal-reads
-use Rattle.io.proofs.write_all.Reads as write-all-reads
 
 slice-aggregate-write-all : tie.Need-slice-aggregate-write-all
 slice-aggregate-write-all c = search needs

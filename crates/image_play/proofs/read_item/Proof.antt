@@ -5,10 +5,6 @@ use lib.Seq.{length-take-le}
 use borrow.Author.Needs.{needs}
 use Rattle.image_play.proofs.read_item.Statement.{statement}
 use Rattle.image_play.proofs.read_item.Tie as tie
-use Rattle.image_play.proofs.read_item.Reads as reads
-use Rattle.image_play.proofs.read_item.Lts as lts
-use Rattle.image_play.proofs.size_of.Reads as size-of-reads
-use Rattle.io.proofs.read_full.Reads as read-full-reads
 
 slice-aggregate-read-full : tie.Need-slice-aggregate-read-full
 slice-aggregate-read-full c = search needs

@@ -1,15 +1,14 @@
 -- The invariant: the answer is what the records from k on make of the table so far. Assumes nothing.
-use mathlib.Core.Path.{_≡_, refl, sym, ap, ap₂, subst, _∙_}
+use mathlib.Core.Path.{_≡_, sym, ap, ap₂, subst, _∙_}
 use mathlib.Core.Bool.{Bool, true, false, cond}
-use mathlib.Core.List.{List, [], _∷_, _++_}
-use Prim.Native.Nat.{ℕ, suc, _+_, _-_, _*_, _≤_, _<_}
+use mathlib.Core.List.{List, []}
+use Prim.Native.Nat.{ℕ, suc, _+_, _-_, _≤_, _<_}
 use native.Mathlib.Numerals.{add-one}
 use native.Mathlib.Omega.{arith}
 use borrow.Author.Needs.{needs}
 use borrow.Author.Tests.{eq-eqb, ne-eqb}
-use lib.ListN.{length, getD, take, drop, length-append}
+use lib.ListN.{length, take, drop, length-append}
 use lib.Seq.{drop-length}
-use Rattle.settings.specs.Numbers.{each}
 use Rattle.panels.specs.declared.Table.{Table}
 use Rattle.panels.specs.Wall.{Wall, tableOf, panelsOf}
 use Rattle.panels.specs.WellFormed.{WellFormed}
@@ -19,19 +18,12 @@ use Rattle.image.specs.declared.Refusal.{Refusal}
 use Rattle.image.specs.declared.Refusal.the-variants.{Nothing}
 use Rattle.image.specs.declared.Read.{Read}
 use Rattle.image.specs.Whole.{countOf, edge, recordIn, recordsIn}
-use Rattle.image.specs.Read.{Reading, isSound, readRefusalOf, recordRefusal, wallWith, refused, readRecords, inTable}
+use Rattle.image.specs.Read.{isSound, readRefusalOf, recordRefusal, wallWith, refused, readRecords, inTable}
 use Rattle.image.proofs.Lengths.{length-each}
 use Rattle.image.proofs.Edges.{fits, first-edge, edge-less, edge-inside}
 use Rattle.image.proofs.Sound.{formed-with, records-step}
 use Rattle.image.proofs.records.all.Statement.{statement}
 use Rattle.image.proofs.records.all.Tie as tie
-use Rattle.image.proofs.records.all.Reads as reads
-use Rattle.image.proofs.records.all.Lts as lts
-use Rattle.image.proofs.records.with_record.Reads as with-record-reads
-use Rattle.image.proofs.refusal_number.Reads as refusal-number-reads
-use Rattle.image.proofs.whole.count_of.Reads as count-of-reads
-use Rattle.image.proofs.whole.edge_at.Reads as edge-at-reads
-use Rattle.panels.proofs.empty_table.Reads as empty-table-reads
 
 abbrev Inv-loop : tie.InvT-loop
 Inv-loop image n t₀ start₀ k₀ t start k =

@@ -1,13 +1,10 @@
 -- Each test decides a part of `headFits`. Assumes nothing.
-use mathlib.Core.Path.{_≡_, sym, _∙_}
+use mathlib.Core.Path.{sym, _∙_}
 use borrow.Author.Tests.{le-leb, lt-leb, eq-eqb, ne-eqb}
 use Rattle.image.specs.Read.{headFits}
 use borrow.Author.Needs.{needs}
 use Rattle.image.proofs.records.head_fits.Statement.{statement}
 use Rattle.image.proofs.records.head_fits.Tie as tie
-use Rattle.image.proofs.records.head_fits.Reads as reads
-use Rattle.image.proofs.records.head_fits.Lts as lts
-use Rattle.panels.proofs.find_panel.Reads as find-panel-reads
 
 returns : tie.Need-returns
 unfolding headFits

@@ -1,27 +1,22 @@
 -- A refusal leaves the table as it is; otherwise the record's panel stands behind the last. Assumes nothing.
-use mathlib.Core.Path.{_≡_, refl, sym, ap, ap₂, _∙_}
-use mathlib.Core.Bool.{Bool, true, false, cond}
-use mathlib.Core.List.{List, [], _∷_, _++_}
-use Prim.Native.Nat.{ℕ, _+_, _-_, _*_, _≤_, _<_}
+use mathlib.Core.Path.{_≡_, sym, ap, _∙_}
+use mathlib.Core.Bool.{true}
+use mathlib.Core.List.{[], _∷_, _++_}
+use Prim.Native.Nat.{_+_, _-_}
 use native.Mathlib.Omega.{arith}
 use borrow.Author.Tests.{eq-eqb, ne-eqb, not-true, not-false}
-use lib.ListN.{length, getD, take, drop, length-drop}
+use lib.ListN.{length, getD, drop, length-drop}
 use lib.Seq.{take-all}
 use Rattle.panels.specs.declared.Panel.{Panel}
-use Rattle.panels.specs.Wall.{Wall, tableOf, panelsOf}
+use Rattle.panels.specs.Wall.{tableOf, panelsOf}
 use Rattle.panels.proofs.Laws.{grown}
 use Rattle.image.specs.declared.Fields.{Fields}
 use Rattle.image.specs.Fields.{fieldsIn}
-use Rattle.image.specs.Read.{isSound, readRefusalOf, headFits, recordRefusal, panelIn, wallWith}
+use Rattle.image.specs.Read.{readRefusalOf, headFits, recordRefusal, panelIn}
 use Rattle.image.proofs.Sound.{head-fits}
 use borrow.Author.Needs.{needs}
 use Rattle.image.proofs.records.with_record.Statement.{statement}
 use Rattle.image.proofs.records.with_record.Tie as tie
-use Rattle.image.proofs.records.with_record.Reads as reads
-use Rattle.image.proofs.records.with_record.Lts as lts
-use Rattle.image.proofs.records.head_fits.Reads as head-fits-reads
-use Rattle.image.proofs.refusal_number.Reads as refusal-number-reads
-use Rattle.image.proofs.walk.fields_of.Reads as fields-of-reads
 
 -- past the first test the record's head fits
 head : (c : tie.Else1) → headFits (panelsOf (c .before .before .before .args .t)) (c .before .before .before .args .bytes .now) ≡ true

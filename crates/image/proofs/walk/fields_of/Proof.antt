@@ -1,28 +1,22 @@
 -- The invariant: the answer is what is left to gather behind the cursor. Assumes nothing.
-use mathlib.Core.Path.{_≡_, refl, sym, ap, ap₂, _∙_}
-use mathlib.Core.Bool.{Bool, true, false}
-use mathlib.Core.List.{List, [], _∷_}
-use Prim.Native.Nat.{ℕ, _+_, _-_, _*_, _≤_, _<_}
+use mathlib.Core.Path.{_≡_, sym, ap, _∙_}
+use mathlib.Core.Bool.{false}
+use mathlib.Core.List.{List}
+use Prim.Native.Nat.{ℕ, _+_, _-_, _≤_}
 use native.Mathlib.Nat.{add-assoc}
 use native.Mathlib.Omega.{arith}
 use borrow.Author.Needs.{needs}
-use lib.ListN.{length, getD, take, drop, replicate, length-take, length-drop}
+use lib.ListN.{length, drop, replicate, length-take, length-drop}
 use lib.Seq.{take-all, drop-drop}
-use Rattle.settings.specs.Settings.{byteCount, place, freshValues}
+use Rattle.settings.specs.Settings.{byteCount}
 use Rattle.settings.proofs.Laws.{fresh-count}
 use Rattle.image.specs.declared.Step.{Step}
 use Rattle.image.specs.declared.Step.the-variants.{Field}
-use Rattle.image.specs.declared.Fields.{Fields}
 use Rattle.image.specs.Fields.{stepAt, fieldsFrom, fieldsIn, seenWith, valuesWith, valuesIn, behind, afterStep}
-use Rattle.image.proofs.Steps.{Takes, takes, fields-step}
+use Rattle.image.proofs.Steps.{takes, fields-step}
 use Rattle.image.proofs.Values.{length-with}
 use Rattle.image.proofs.walk.fields_of.Statement.{statement}
 use Rattle.image.proofs.walk.fields_of.Tie as tie
-use Rattle.image.proofs.walk.fields_of.Reads as reads
-use Rattle.image.proofs.walk.fields_of.Lts as lts
-use Rattle.image.proofs.walk.step_at.Reads as step-at-reads
-use Rattle.image.proofs.walk.taken.Reads as taken-reads
-use Rattle.settings.proofs.fresh.Reads as fresh-reads
 
 abbrev Inv-loop : tie.InvT-loop
 Inv-loop bytes c₀ c =

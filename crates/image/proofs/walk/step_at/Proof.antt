@@ -3,29 +3,23 @@ use mathlib.Core.Path.{_≡_, refl, sym, ap, subst, _∙_}
 use mathlib.Core.Bool.{Bool, true, false}
 use mathlib.Core.Logic.{⊎-elim}
 use mathlib.Core.List.{List, [], _∷_}
-use Prim.Native.Nat.{ℕ, _+_, _-_, _*_, _≤_, _<_}
+use Prim.Native.Nat.{ℕ, _+_, _-_, _≤_, _<_}
 use native.Mathlib.Omega.{arith}
 use borrow.Author.Tests.{le-ltb, lt-ltb, eq-eqb, ne-eqb, not-true, not-false}
 use types.Run.{OneOf}
 use denote.Enum.Declared.{tagOf}
-use lib.Dec.{ltb, eqb}
+use lib.Dec.{eqb}
 use lib.ListN.{length, getD, take, drop}
 use Rattle.settings.specs.declared.Found.{Found}
 use Rattle.settings.specs.declared.Found.the-variants.{Set, Get, Nothing}
 use Rattle.settings.proofs.Found.{the-type}
-use Rattle.settings.specs.Settings.{foundBy, setCode, byteCount, allowedFor}
+use Rattle.settings.specs.Settings.{foundBy, byteCount, allowedFor}
 use Rattle.settings.proofs.Laws.{IsFound, found-right, place-fits}
-use Rattle.image.specs.declared.Step.{Step}
 use Rattle.image.specs.declared.Step.the-variants.{Field, NotAllowed, Broken}
 use Rattle.image.specs.Fields.{valuesIn, fieldBy, stepAt}
 use borrow.Author.Needs.{needs}
 use Rattle.image.proofs.walk.step_at.Statement.{statement}
 use Rattle.image.proofs.walk.step_at.Tie as tie
-use Rattle.image.proofs.walk.step_at.Reads as reads
-use Rattle.image.proofs.walk.step_at.Lts as lts
-use Rattle.settings.proofs.allowed.Reads as allowed-reads
-use Rattle.settings.proofs.byte_count.Reads as byte-count-reads
-use Rattle.settings.proofs.find_setting.Reads as find-setting-reads
 
 not-set : (f : Found) (seen : List Bool) (left : List ℕ) → OneOf (1 ∷ 2 ∷ []) (tagOf the-type f) → Broken ≡ fieldBy f seen left
 not-set (Set row) seen left h = absurd (⊎-elim (λ e. omega arith) (λ e. omega arith) h)

@@ -1,25 +1,18 @@
 -- The field's values are copied to the row's place, and the row is marked. Assumes nothing.
-use mathlib.Core.Path.{_≡_, refl, sym, ap, ap₂, _∙_}
-use mathlib.Core.Bool.{Bool, true, false}
-use mathlib.Core.List.{List, [], _∷_, _++_}
-use Prim.Native.Nat.{ℕ, _+_, _-_, _*_, _≤_, _<_}
+use mathlib.Core.Path.{_≡_, refl, ap, _∙_}
+use mathlib.Core.List.{List, _++_}
+use Prim.Native.Nat.{ℕ, _+_, _-_, _≤_}
 use native.Mathlib.Omega.{arith}
-use borrow.Rule.Slice.PartMut.{midOf, putMid, same-len-mid}
-use lib.ListN.{length, getD, take, drop, length-take, length-drop}
+use borrow.Rule.Slice.PartMut.{midOf, putMid}
+use lib.ListN.{length, take, drop, length-take, length-drop}
 use lib.Seq.{drop-drop}
 use Rattle.settings.specs.Settings.{byteCount, place}
 use Rattle.settings.proofs.Laws.{place-fits}
-use Rattle.image.specs.Laid.{laidAt}
 use Rattle.image.specs.Fields.{valuesIn, valuesWith}
 use Rattle.image.proofs.Laid.{laid-copy}
 use borrow.Author.Needs.{needs}
 use Rattle.image.proofs.walk.taken.Statement.{statement}
 use Rattle.image.proofs.walk.taken.Tie as tie
-use Rattle.image.proofs.walk.taken.Reads as reads
-use Rattle.image.proofs.walk.taken.Lts as lts
-use Rattle.bytes.proofs.copy.Reads as copy-reads
-use Rattle.settings.proofs.byte_count.Reads as byte-count-reads
-use Rattle.settings.proofs.place_of.Reads as place-of-reads
 
 stored : (bytes values last : List ℕ) (at row count first : ℕ) → count ≡ byteCount row → first ≡ place row → length values ≡ 15
     → at + 2 + byteCount row ≤ length bytes

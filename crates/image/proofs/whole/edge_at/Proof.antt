@@ -1,5 +1,5 @@
 -- A record's start, or the first byte of the starts. Assumes nothing.
-use mathlib.Core.Path.{_≡_, refl, sym, ap, ap₂, _∙_}
+use mathlib.Core.Path.{_≡_, ap₂, _∙_}
 use mathlib.Core.List.{List}
 use Prim.Native.Nat.{ℕ, _+_, _-_, _*_, _≤_, _<_}
 use native.Mathlib.Omega.{arith}
@@ -9,9 +9,6 @@ use Rattle.image.specs.Whole.{countOf, edge}
 use borrow.Author.Needs.{needs}
 use Rattle.image.proofs.whole.edge_at.Statement.{statement}
 use Rattle.image.proofs.whole.edge_at.Tie as tie
-use Rattle.image.proofs.whole.edge_at.Reads as reads
-use Rattle.image.proofs.whole.edge_at.Lts as lts
-use Rattle.image.proofs.whole.wide.Reads as wide-reads
 
 module _ (image : List ℕ) (n k : ℕ) (e : n ≡ countOf image) where
   behind-last : n ≤ k → length image - 2 - 2 * n ≡ edge image k

@@ -1,19 +1,15 @@
 -- Each test decides a case of `wholeRefusal`. Assumes nothing.
-use mathlib.Core.Path.{_≡_, refl, sym, ap, _∙_}
-use mathlib.Core.Bool.{Bool, true, false}
-use Prim.Native.Nat.{ℕ, _+_, _-_, _*_, _≤_, _<_}
+use mathlib.Core.Path.{_≡_, sym, _∙_}
+use mathlib.Core.Bool.{true, false}
+use Prim.Native.Nat.{_+_, _-_, _*_}
 use native.Mathlib.Omega.{arith}
 use borrow.Author.Tests.{le-ltb, lt-ltb, eq-eqb, ne-eqb, not-true, not-false}
 use lib.Dec.{ltb, eqb}
 use lib.ListN.{length}
-use Rattle.image.specs.Whole.{formOf, countOf, startsFit, wholeRefusal}
+use Rattle.image.specs.Whole.{formOf, countOf, wholeRefusal}
 use borrow.Author.Needs.{needs}
 use Rattle.image.proofs.whole.refusal_of.Statement.{statement}
 use Rattle.image.proofs.whole.refusal_of.Tie as tie
-use Rattle.image.proofs.whole.refusal_of.Reads as reads
-use Rattle.image.proofs.whole.refusal_of.Lts as lts
-use Rattle.image.proofs.whole.count_of.Reads as count-of-reads
-use Rattle.image.proofs.whole.starts_fit.Reads as starts-fit-reads
 
 -- what the tests passed say
 two : (c : tie.Else2) → ltb (length (c .before .before .before .before .args .image .now)) 2 ≡ false

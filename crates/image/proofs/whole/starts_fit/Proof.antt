@@ -1,19 +1,15 @@
 -- The invariant: the answer is whether the edges rise from k on. Assumes nothing.
-use mathlib.Core.Path.{_≡_, refl, sym, ap, _∙_}
-use mathlib.Core.Bool.{Bool, true, false, _&&_}
+use mathlib.Core.Path.{_≡_, sym, ap, _∙_}
+use mathlib.Core.Bool.{_&&_}
 use mathlib.Core.List.{List}
-use Prim.Native.Nat.{ℕ, suc, _+_, _-_, _*_, _≤_, _<_}
+use Prim.Native.Nat.{ℕ, suc, _+_, _-_, _≤_, _<_}
 use native.Mathlib.Numerals.{add-one}
 use native.Mathlib.Omega.{arith}
 use borrow.Author.Tests.{le-ltb, lt-ltb, eq-eqb, ne-eqb}
 use lib.Dec.{ltb, eqb}
-use lib.ListN.{length}
 use Rattle.image.specs.Whole.{countOf, edge, rises, startsFit}
 use Rattle.image.proofs.whole.starts_fit.Statement.{statement}
 use Rattle.image.proofs.whole.starts_fit.Tie as tie
-use Rattle.image.proofs.whole.starts_fit.Reads as reads
-use Rattle.image.proofs.whole.starts_fit.Lts as lts
-use Rattle.image.proofs.whole.edge_at.Reads as edge-at-reads
 
 -- with the count at hand
 fits-by : (image : List ℕ) (n : ℕ) → n ≡ countOf image → startsFit image ≡ (eqb (edge image 0) 0 && rises image 0 n)

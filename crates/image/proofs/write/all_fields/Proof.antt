@@ -1,23 +1,17 @@
 -- The invariant: the fields of the rows passed stand one behind the other. Assumes nothing.
-use mathlib.Core.Path.{_≡_, refl, sym, ap, _∙_}
-use mathlib.Core.List.{List, [], _∷_, _++_, flatten}
-use Prim.Native.Nat.{ℕ, _+_, _-_, _≤_, _<_}
+use mathlib.Core.Path.{_≡_, sym, ap, _∙_}
+use mathlib.Core.List.{[], flatten}
+use Prim.Native.Nat.{_+_, _-_, _≤_}
 use native.Mathlib.Numerals.{add-one}
 use native.Mathlib.Omega.{arith}
-use borrow.Author.Needs.{needs}
 use lib.ListN.{length, getD, take}
 use Rattle.settings.specs.Settings.{byteCount}
-use Rattle.panels.specs.Wall.{valuesOf}
 use Rattle.image.specs.Laid.{laidAt}
-use Rattle.image.specs.Written.{field, fieldsOf}
+use Rattle.image.specs.Written.{fieldsOf}
 use Rattle.image.proofs.Laid.{length-laid, laid-none, laid-more}
 use Rattle.image.proofs.Lengths.{field-at, fields-count, fieldBytes, fields-before, bytes-fit, bytes-of-all, length-values, fields-all}
 use Rattle.image.proofs.write.all_fields.Statement.{statement}
 use Rattle.image.proofs.write.all_fields.Tie as tie
-use Rattle.image.proofs.write.all_fields.Reads as reads
-use Rattle.image.proofs.write.all_fields.Lts as lts
-use Rattle.image.proofs.write.one_field.Reads as one-field-reads
-use Rattle.settings.proofs.byte_count.Reads as byte-count-reads
 
 abbrev Inv-loop : tie.InvT-loop
 Inv-loop out₀ at values next₀ row₀ out next row =

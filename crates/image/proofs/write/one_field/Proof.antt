@@ -1,10 +1,10 @@
 -- The two head bytes and the copied values stand one behind the other. Assumes nothing.
-use mathlib.Core.Path.{_≡_, refl, sym, ap, _∙_}
+use mathlib.Core.Path.{_≡_, refl, ap, _∙_}
 use mathlib.Core.List.{List, [], _∷_, _++_}
-use Prim.Native.Nat.{ℕ, _+_, _-_, _≤_, _<_}
+use Prim.Native.Nat.{ℕ, _+_, _-_, _≤_}
 use native.Mathlib.Omega.{arith}
 use borrow.Author.Needs.{needs}
-use lib.ListN.{length, take, drop, set, length-set, length-append, length-take, length-drop}
+use lib.ListN.{length, take, drop, set, length-set, length-take, length-drop}
 use borrow.Rule.Slice.PartMut.{midOf, putMid, same-len-mid}
 use Rattle.settings.specs.Settings.{setCode, byteCount, place}
 use Rattle.panels.specs.Wall.{valuesOf}
@@ -12,15 +12,9 @@ use Rattle.settings.proofs.Laws.{place-fits}
 use Rattle.image.specs.Laid.{laidAt}
 use Rattle.image.specs.Written.{field}
 use Rattle.image.proofs.Lengths.{length-values}
-use Rattle.image.proofs.Laid.{length-laid, laid-then, laid-two, laid-copy}
+use Rattle.image.proofs.Laid.{laid-then, laid-two, laid-copy}
 use Rattle.image.proofs.write.one_field.Statement.{statement}
 use Rattle.image.proofs.write.one_field.Tie as tie
-use Rattle.image.proofs.write.one_field.Reads as reads
-use Rattle.image.proofs.write.one_field.Lts as lts
-use Rattle.bytes.proofs.copy.Reads as copy-reads
-use Rattle.settings.proofs.byte_count.Reads as byte-count-reads
-use Rattle.settings.proofs.place_of.Reads as place-of-reads
-use Rattle.settings.proofs.set_code.Reads as set-code-reads
 
 abbrev headed : List ℕ → ℕ → ℕ → ℕ → List ℕ
 headed out at code count = set (set out at code) (at + 1) count

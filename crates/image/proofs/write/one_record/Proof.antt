@@ -1,9 +1,9 @@
 -- ID and group, and the fields behind them. Assumes nothing.
-use mathlib.Core.Path.{_≡_, refl, sym, ap, _∙_}
-use mathlib.Core.List.{List, [], _∷_, _++_, flatten}
-use Prim.Native.Nat.{ℕ, _+_, _-_, _≤_, _<_}
+use mathlib.Core.Path.{_≡_, refl, ap, _∙_}
+use mathlib.Core.List.{[], _∷_, flatten}
+use Prim.Native.Nat.{_+_, _-_}
 use native.Mathlib.Omega.{arith}
-use lib.ListN.{length, set, length-set}
+use lib.ListN.{length, length-set}
 use Rattle.image.specs.Laid.{laidAt}
 use Rattle.image.specs.Written.{fieldsOf, recordOf}
 use Rattle.image.proofs.Laid.{length-laid, laid-two, laid-then}
@@ -11,9 +11,6 @@ use Rattle.image.proofs.Lengths.{fields-length, record-length}
 use borrow.Author.Needs.{needs}
 use Rattle.image.proofs.write.one_record.Statement.{statement}
 use Rattle.image.proofs.write.one_record.Tie as tie
-use Rattle.image.proofs.write.one_record.Reads as reads
-use Rattle.image.proofs.write.one_record.Lts as lts
-use Rattle.image.proofs.write.all_fields.Reads as all-fields-reads
 
 slice-write-out : tie.Need-slice-write-out
 slice-write-out c = search needs

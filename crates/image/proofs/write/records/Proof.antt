@@ -1,7 +1,7 @@
 -- The invariant: the records of the panels passed stand one behind the other. Assumes nothing.
-use mathlib.Core.Path.{_≡_, refl, sym, ap, _∙_}
-use mathlib.Core.List.{List, [], _∷_, _++_, flatten}
-use Prim.Native.Nat.{ℕ, _+_, _-_, _*_, _≤_, _<_}
+use mathlib.Core.Path.{_≡_, sym, ap, _∙_}
+use mathlib.Core.List.{[], flatten}
+use Prim.Native.Nat.{_-_, _*_, _≤_, _<_}
 use native.Mathlib.Omega.{arith}
 use lib.ListN.{length, getD, take, length-map}
 use lib.Seq.{take-all}
@@ -14,9 +14,6 @@ use Rattle.image.proofs.Laid.{length-laid, laid-none, laid-more}
 use Rattle.image.proofs.Lengths.{good-at, record-at, record-length, records-before}
 use Rattle.image.proofs.write.records.Statement.{statement}
 use Rattle.image.proofs.write.records.Tie as tie
-use Rattle.image.proofs.write.records.Reads as reads
-use Rattle.image.proofs.write.records.Lts as lts
-use Rattle.image.proofs.write.one_record.Reads as one-record-reads
 
 abbrev Inv-loop : tie.InvT-loop
 Inv-loop out₀ t k₀ out k = (k ≤ t .count) × (out ≡ laidAt 0 (flatten (take k (recordsOf (panelsOf t)))) out₀)

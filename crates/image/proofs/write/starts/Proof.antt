@@ -1,9 +1,9 @@
 -- The invariant: the starts passed stand one behind the other. Assumes nothing.
-use mathlib.Core.Path.{_≡_, refl, sym, ap, _∙_}
-use mathlib.Core.List.{List, [], _∷_, _++_, flatten}
-use Prim.Native.Nat.{ℕ, _+_, _-_, _*_, _/_, _%_, _≤_, _<_}
+use mathlib.Core.Path.{_≡_, sym, ap, _∙_}
+use mathlib.Core.List.{List, [], flatten}
+use Prim.Native.Nat.{ℕ, _+_, _-_, _*_, _/_, _%_, _≤_}
 use native.Mathlib.Omega.{arith}
-use lib.ListN.{length, getD, take, set, length-set}
+use lib.ListN.{length, take, length-set}
 use lib.Seq.{take-all}
 use Rattle.settings.specs.Numbers.{each}
 use Rattle.settings.proofs.WrittenOut.{in-each}
@@ -13,8 +13,6 @@ use Rattle.image.proofs.Laid.{length-laid, laid-none, laid-two, laid-mo
 use Rattle.image.proofs.Lengths.{length-each, pairs-before}
 use Rattle.image.proofs.write.starts.Statement.{statement}
 use Rattle.image.proofs.write.starts.Tie as tie
-use Rattle.image.proofs.write.starts.Reads as reads
-use Rattle.image.proofs.write.starts.Lts as lts
 
 abbrev pairs : ℕ → List (List ℕ)
 pairs n = each (λ k. highLow (33 * k)) n
