@@ -54,20 +54,18 @@ struct outcome {
 static uint8_t image[UNDIVARRO_IMAGE_CAP];
 static size_t image_len;
 
-/* The functions stand in volatile pointers so that every one is called in the same way. */
-static uint64_t count_play(play_function *function, const uint8_t *burst, size_t len, struct outcome *o)
+/* noipa: one piece of code for all, so that what stands around a call is the same for each. */
+__attribute__((noipa)) static uint64_t count_play(play_function *function, const uint8_t *burst, size_t len, struct outcome *o)
 {
-    play_function *volatile called = function;
     uint64_t before = count_now();
-    o->result = called(image, image_len, burst, len, o->answer, sizeof o->answer, o->out, sizeof o->out);
+    o->result = function(image, image_len, burst, len, o->answer, sizeof o->answer, o->out, sizeof o->out);
     return count_now() - before;
 }
 
-static uint64_t count_read(read_function *function, struct outcome *o)
+__attribute__((noipa)) static uint64_t count_read(read_function *function, struct outcome *o)
 {
-    read_function *volatile called = function;
     uint64_t before = count_now();
-    o->result = called(image, image_len, o->out, sizeof o->out);
+    o->result = function(image, image_len, o->out, sizeof o->out);
     return count_now() - before;
 }
 

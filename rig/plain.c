@@ -75,9 +75,10 @@ struct wall {
     struct panel panels[UNDIVARRO_MAX_PANELS];
 };
 
-static struct panel fresh_panel(uint8_t id, uint8_t group)
+/* Without ID and group. */
+static struct panel fresh_panel(void)
 {
-    struct panel panel = {.id = id, .group = group};
+    struct panel panel = {0};
     for (const struct setting *s = settings; s < settings + SETTINGS; s++)
         for (size_t i = 0; i < s->count; i++)
             panel.values[s->place + i] = s->values[i].fresh;
@@ -97,11 +98,14 @@ static struct panel *panel_with_id(struct wall *wall, uint8_t id)
 enum { FORM = 1, RECORD = 33, START = 2, TRAILER = 2 };    /* bytes of a written record, a start, n and the form byte */
 
 /* One record, put at the end of the wall; its refusal or 0. */
-static uint32_t read_record(const uint8_t *record, size_t len, struct wall *wall)
+static uint32_t read_record(const uint8_t *record, size_t len, const struct panel *fresh, struct wall *wall)
 {
     if (len < 2 || record[0] == 0 || record[1] == 0 || panel_with_id(wall, record[0]))
         return 16;
-    struct panel panel = fresh_panel(record[0], record[1]);
+    struct panel *panel = &wall->panels[wall->count];
+    *panel = *fresh;
+    panel->id = record[0];
+    panel->group = record[1];
 
     unsigned seen = 0;                  /* bit k: settings[k] */
     for (size_t at = 2; at < len;) {
@@ -113,11 +117,11 @@ static uint32_t read_record(const uint8_t *record, size_t len, struct wall *wall
         const uint8_t *values = record + at + 2;
         if (!all_allowed(s, values))
             return 18;
-        memcpy(panel.values + s->place, values, s->count);
+        memcpy(panel->values + s->place, values, s->count);
         seen |= 1u << (s - settings);
         at += 2 + s->count;
     }
-    wall->panels[wall->count++] = panel;
+    wall->count++;
     return 0;
 }
 
@@ -152,10 +156,11 @@ static uint32_t read_image(const uint8_t *image, size_t len, struct wall *wall)
             return 15;
     }
 
+    struct panel fresh = fresh_panel();
     for (size_t k = 0; k < n; k++) {
         size_t start = start_at(starts, k);
         size_t end = k + 1 < n ? start_at(starts, k + 1) : records_len;
-        uint32_t refusal = read_record(image + start, end - start, wall);
+        uint32_t refusal = read_record(image + start, end - start, &fresh, wall);
         if (refusal)
             return refusal;
     }

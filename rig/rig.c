@@ -36,9 +36,14 @@ static int not_done(const char *what, const char *path)
     return BAD;
 }
 
-static int not_kept(const char *path, const char *failed_at)
+static int keep(const char *path, const uint8_t *bytes, size_t len)
 {
-    fprintf(stderr, "rig: the setup in %s was not changed: cannot %s: %s\n", path, failed_at, strerror(errno));
+    const char *failed_at;
+    enum kept kept = keep_setup(path, bytes, len, &failed_at);
+    if (kept == KEPT)
+        return DONE;
+    fprintf(stderr, "rig: %s: cannot %s: %s; %s\n", path, failed_at, strerror(errno),
+            kept == NOT_KEPT ? "it is as it was" : "it has the new setup, but a power cut may bring back what was there");
     return BAD;
 }
 
@@ -58,6 +63,10 @@ static int load(const char *path, struct setup *setup)
 {
     size_t len;
     uint8_t *image = load_setup(path, &len);
+    if (!image && errno == ENOENT) {
+        fprintf(stderr, "rig: there is no %s; make it with: rig new %s ID:GROUP ...\n", path, path);
+        return BAD;
+    }
     if (!image)
         return not_done("read", path);
     struct undivarro_result r = undivarro_read(image, len, setup->bytes, sizeof setup->bytes);
@@ -113,9 +122,9 @@ static int play_burst(const char *path, struct setup *setup, const uint8_t *burs
         return refused(path, r.refusal);
     after.len = r.image_len;
     if (after.len != setup->len || memcmp(after.bytes, setup->bytes, after.len) != 0) {
-        const char *failed_at;
-        if (!keep_setup(path, after.bytes, after.len, &failed_at))
-            return not_kept(path, failed_at);
+        int status = keep(path, after.bytes, after.len);
+        if (status != DONE)
+            return status;
         *setup = after;
     }
     print_answer(answer, r.answer_len);
@@ -191,12 +200,7 @@ static int make_new(const char *path, size_t count, char **panels)
         fprintf(stderr, "rig: %s is there already; remove it first, or give another name\n", path);
         return BAD;
     }
-    const char *failed_at;
-    if (!keep_setup(path, setup.bytes, r.image_len, &failed_at)) {
-        fprintf(stderr, "rig: %s was not made: cannot %s: %s\n", path, failed_at, strerror(errno));
-        return BAD;
-    }
-    return DONE;
+    return keep(path, setup.bytes, r.image_len);
 }
 
 /* rig show */

@@ -101,39 +101,49 @@ static bool sync_folder_of(const char *path)
     return good;
 }
 
-bool keep_setup(const char *path, const uint8_t *bytes, size_t len, const char **failed_at)
+/* target is no link, and beside lies in its folder. */
+static enum kept replace(const char *target, const char *beside, const uint8_t *bytes, size_t len, const char **failed_at)
+{
+    /* A rename would also replace a file that may not be written to. */
+    *failed_at = "write to it";
+    if (access(target, W_OK) != 0 && errno != ENOENT)
+        return NOT_KEPT;
+    bool good = write_synced(beside, target, bytes, len, failed_at);
+    if (good) {
+        *failed_at = "rename the new setup over it";
+        good = rename(beside, target) == 0;
+    }
+    if (!good) {
+        int error = errno;
+        unlink(beside);
+        errno = error;
+        return NOT_KEPT;
+    }
+    *failed_at = "sync its folder";
+    return sync_folder_of(target) ? KEPT : KEPT_UNSYNCED;
+}
+
+enum kept keep_setup(const char *path, const uint8_t *bytes, size_t len, const char **failed_at)
 {
     /* A link is followed, so that what it points to is replaced and not the link. */
+    *failed_at = "find it";
     char *target = realpath(path, NULL);
     if (!target && errno == ENOENT)
         target = strdup(path);
-    *failed_at = "find it";
     if (!target)
-        return false;
+        return NOT_KEPT;
 
     /* The number keeps two rigs at work on one file out of each other's bytes. */
+    enum kept kept = NOT_KEPT;
     size_t room = strlen(target) + 32;
     char *beside = malloc(room);
-    bool good = false;
     if (beside) {
         snprintf(beside, room, "%s.%ld.new", target, (long)getpid());
-        good = write_synced(beside, target, bytes, len, failed_at);
-        if (good) {
-            *failed_at = "rename the new setup over it";
-            good = rename(beside, target) == 0;
-        }
-        if (!good) {
-            int error = errno;
-            unlink(beside);
-            errno = error;
-        } else {
-            *failed_at = "sync its folder";
-            good = sync_folder_of(target);
-        }
+        kept = replace(target, beside, bytes, len, failed_at);
     }
     int error = errno;
     free(beside);
     free(target);
     errno = error;
-    return good;
+    return kept;
 }
