@@ -88,7 +88,7 @@ show_names_the_settings() {
     same answers "$(cat answers)" "$(printf '060100000601\n060100000601')" || return
     same show "$(rig show w)" "\
  ID  group  power                    video  gamma  colour temperature  treble  bass  fan  cold start  APM  power saving
-  1      9    off        100 50 100 0 1 100      3                   1      50    50    1           2    0             0
+  1      9    off       100 50 100 0 1 100      3                   1      50    50    1           2    0             0
 200    off     on        50 50 50 50 50 50      3                   1      50    50    1           2    0             0
 2 panels"
 }
