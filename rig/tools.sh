@@ -2,6 +2,8 @@
 # Installs what the rig needs and is missing, on Debian and its kin: a C compiler for x86-64, qemu's user emulation (on an
 # x86-64 machine only `make bench` runs under it), make. Does nothing where all is there.
 set -eu
+scratch=$(mktemp -d)
+trap 'rm -rf "$scratch"' EXIT
 
 missing=
 need() { # need PACKAGE TEST...
@@ -11,7 +13,7 @@ need() { # need PACKAGE TEST...
 }
 has_command() { command -v "$1"; }
 # a program that is linked as the rig's are
-links() { printf 'int main(void) { return 0; }\n' | "$@" -x c - -o /dev/null; }
+links() { printf 'int main(void) { return 0; }\n' | "$@" -x c - -o "$scratch/program"; }
 
 case "$(uname -m)" in
 x86_64)
@@ -40,11 +42,9 @@ if [ "$(id -u)" -ne 0 ]; then
     fi
     as_root=sudo
 fi
-log=$(mktemp)
-trap 'rm -f "$log"' EXIT
 echo "installing:$missing"
 if ! { $as_root apt-get update -q &&
-    DEBIAN_FRONTEND=noninteractive $as_root apt-get install -q -y --no-install-recommends $missing; } >"$log" 2>&1; then
-    cat "$log" >&2
+    DEBIAN_FRONTEND=noninteractive $as_root apt-get install -q -y --no-install-recommends $missing; } >"$scratch/log" 2>&1; then
+    cat "$scratch/log" >&2
     exit 2
 fi
