@@ -3,7 +3,7 @@
 #include <string.h>
 
 const char *const image_kind_names[IMAGE_KINDS] = {
-    "as written", "fields in any order", "fields left out", "no panels",
+    "as written", "fields in any order", "fields left out", "no panels", "33 panels",
     "record under 2 bytes", "record with ID 0", "record with group 0", "record with an ID seen before",
     "field with a get code", "field with any code", "field twice", "field with any length", "field cut off",
     "field of a code alone", "field with any value",
@@ -115,7 +115,7 @@ static uint8_t any_code(struct source *s)
 
 /* Records, kept apart until the image is put together. */
 
-enum { MAX_RECORDS = 32, RECORD_ROOM = 96 };
+enum { MAX_PANELS = 32, MAX_RECORDS = MAX_PANELS + 1, RECORD_ROOM = 96 };
 
 struct record {
     size_t len;
@@ -162,7 +162,7 @@ static unsigned panel_count(struct source *s)
 {
     switch (below(s, 16)) {
     case 0:
-        return MAX_RECORDS;
+        return MAX_PANELS;
     case 1:
     case 2:
         return 8 + below(s, 24);
@@ -175,7 +175,7 @@ static unsigned panel_count(struct source *s)
 
 static void make_draft(struct source *s, struct draft *d, enum image_kind kind)
 {
-    d->count = kind == IMAGE_NO_PANELS ? 0 : panel_count(s);
+    d->count = kind == IMAGE_NO_PANELS ? 0 : kind == IMAGE_33_PANELS ? MAX_RECORDS : panel_count(s);
     bool taken[256] = {[0] = true};
     uint8_t groups[4] = {(uint8_t)(1 + below(s, 254)), one_in(s, 2) ? 1 : 254, 255, 9};
     for (size_t k = 0; k < d->count; k++) {
@@ -367,7 +367,7 @@ static void make_image(struct source *s, struct test_case *c, struct draft *d)
     static const enum image_kind sound[] = {
         IMAGE_WRITTEN, IMAGE_ANY_ORDER, IMAGE_LEFT_OUT, IMAGE_LEFT_OUT,
     };
-    c->image_kind = one_in(s, 40) ? IMAGE_NO_PANELS : sound[below(s, 4)];
+    c->image_kind = one_in(s, 40) ? IMAGE_NO_PANELS : one_in(s, 200) ? IMAGE_33_PANELS : sound[below(s, 4)];
     make_draft(s, d, c->image_kind);
 
     unsigned spoilings = below(s, 2) ? 0 : below(s, 3) ? 1 : 2 + below(s, 2);
