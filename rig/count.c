@@ -1,5 +1,5 @@
-/* A plugin for qemu-x86_64 that counts guest instructions. A guest asks for the count by the system call ASK_FOR_COUNT with an open
- * file descriptor: the count so far, with that call's own instruction, is written to it as 8 bytes.
+/* A plugin for qemu-x86_64 that counts guest instructions. A guest asks for the count by the system call ASK_FOR_COUNT
+ * with an open file descriptor: the count so far, with that call's own instruction, is written to it as 8 bytes.
  *
  * Debian 12 ships qemu's plugin interface without its header; what is used of it is declared here. */
 #include <stddef.h>
