@@ -1,0 +1,152 @@
+/* Guest instructions per call, the proved box and the plain one, on a wall of 32 panels. Runs under qemu-x86_64 with the
+ * counting plugin: make bench. */
+#define _GNU_SOURCE
+
+#include <fcntl.h>
+#include <inttypes.h>
+#include <stdbool.h>
+#include <stdio.h>
+#include <stdlib.h>
+#include <string.h>
+#include <unistd.h>
+
+#include "count.h"
+#include "plain.h"
+
+enum { PANELS = UNDIVARRO_MAX_PANELS };
+
+typedef struct undivarro_result play_function(const uint8_t *, size_t, const uint8_t *, size_t, uint8_t *, size_t, uint8_t *,
+                                              size_t);
+typedef struct undivarro_result read_function(const uint8_t *, size_t, uint8_t *, size_t);
+
+static int count_from, count_to;        /* the pipe through which the counts come */
+
+static uint64_t count_now(void)
+{
+    uint64_t count;
+    syscall(ASK_FOR_COUNT, count_to);
+    if (read(count_from, &count, sizeof count) != sizeof count) {
+        fputs("bench: nothing counts here; run it with make bench\n", stderr);
+        exit(2);
+    }
+    return count;
+}
+
+/* A call that does nothing: what stands around each call is counted with it and taken off. */
+static struct undivarro_result no_play(const uint8_t *image, size_t image_len, const uint8_t *burst, size_t burst_len,
+                                       uint8_t *answer, size_t answer_cap, uint8_t *out, size_t out_cap)
+{
+    (void)image, (void)image_len, (void)burst, (void)burst_len, (void)answer, (void)answer_cap, (void)out, (void)out_cap;
+    return (struct undivarro_result){0};
+}
+
+static struct undivarro_result no_read(const uint8_t *image, size_t image_len, uint8_t *out, size_t out_cap)
+{
+    (void)image, (void)image_len, (void)out, (void)out_cap;
+    return (struct undivarro_result){0};
+}
+
+struct outcome {
+    struct undivarro_result result;
+    uint8_t answer[UNDIVARRO_ANSWER_CAP], out[UNDIVARRO_IMAGE_CAP];
+};
+
+static uint8_t image[UNDIVARRO_IMAGE_CAP];
+static size_t image_len;
+
+/* noipa: one piece of code for all, so that what stands around a call is the same for each. */
+__attribute__((noipa)) static uint64_t count_play(play_function *function, const uint8_t *burst, size_t len, struct outcome *o)
+{
+    uint64_t before = count_now();
+    o->result = function(image, image_len, burst, len, o->answer, sizeof o->answer, o->out, sizeof o->out);
+    return count_now() - before;
+}
+
+__attribute__((noipa)) static uint64_t count_read(read_function *function, struct outcome *o)
+{
+    uint64_t before = count_now();
+    o->result = function(image, image_len, o->out, sizeof o->out);
+    return count_now() - before;
+}
+
+static void check_same(const char *what, const struct outcome *proved, const struct outcome *plain)
+{
+    if (memcmp(proved, plain, sizeof *proved) != 0 || proved->result.refusal != 0) {
+        fprintf(stderr, "bench: %s: the two differ, or refuse; run make rig-test\n", what);
+        exit(1);
+    }
+}
+
+static void print_row(const char *what, uint64_t proved, uint64_t plain)
+{
+    printf("| %s | %" PRIu64 " | %" PRIu64 " | %.2f |\n", what, proved, plain, (double)proved / (double)plain);
+}
+
+/* One burst for each panel in turn, the mean of all; where no panel is named, all 32 calls are alike. The first byte is
+ * put in as the size, the second is the panel's ID unless all are meant, the last is put in as the checksum plus spoil. */
+static void bench_play(const char *what, const uint8_t *form, size_t len, bool to_all, uint8_t spoil)
+{
+    static struct outcome proved, plain, none;
+    uint64_t proved_sum = 0, plain_sum = 0;
+    for (unsigned k = 0; k < PANELS; k++) {
+        uint8_t burst[UNDIVARRO_ANSWER_CAP];
+        memcpy(burst, form, len);
+        burst[0] = (uint8_t)len;
+        burst[1] = to_all ? 0 : (uint8_t)(k + 1);
+        burst[len - 1] = spoil;
+        for (size_t i = 0; i < len - 1; i++)
+            burst[len - 1] ^= burst[i];
+        uint64_t around = count_play(no_play, burst, len, &none);
+        proved_sum += count_play(undivarro_play, burst, len, &proved) - around;
+        plain_sum += count_play(plain_play, burst, len, &plain) - around;
+        check_same(what, &proved, &plain);
+    }
+    print_row(what, proved_sum / PANELS, plain_sum / PANELS);
+}
+
+static void bench_read(const char *what)
+{
+    static struct outcome proved, plain, none;
+    uint64_t around = count_read(no_read, &none);
+    uint64_t by_proved = count_read(undivarro_read, &proved) - around;
+    uint64_t by_plain = count_read(plain_read, &plain) - around;
+    check_same(what, &proved, &plain);
+    print_row(what, by_proved, by_plain);
+}
+
+/* 32 fresh panels, all in group 9, as they are written. */
+static void make_wall(void)
+{
+    uint8_t fresh[4 * PANELS + 2];
+    for (unsigned k = 0; k < PANELS; k++) {
+        fresh[2 * k] = (uint8_t)(k + 1);
+        fresh[2 * k + 1] = 9;
+        fresh[2 * PANELS + 2 * k] = 0;
+        fresh[2 * PANELS + 2 * k + 1] = (uint8_t)(2 * k);
+    }
+    fresh[4 * PANELS] = PANELS;
+    fresh[4 * PANELS + 1] = 1;
+    image_len = plain_read(fresh, sizeof fresh, image, sizeof image).image_len;
+}
+
+int main(void)
+{
+    int ends[2];
+    if (pipe2(ends, O_NONBLOCK) != 0) {
+        perror("bench: no pipe");
+        return 2;
+    }
+    count_from = ends[0];
+    count_to = ends[1];
+    make_wall();
+    count_now();
+
+    puts("| call | proved | plain | proved / plain |");
+    puts("|---|---|---|---|");
+    bench_play("get (power, of one of 32)", (const uint8_t[]){0, 0, 0, 0x19, 0}, 5, false, 0);
+    bench_play("set to one of 32 (video)", (const uint8_t[]){0, 0, 0, 0x32, 10, 20, 30, 40, 60, 70, 2, 0}, 12, false, 0);
+    bench_play("set to all (video)", (const uint8_t[]){0, 0, 0, 0x32, 10, 20, 30, 40, 60, 70, 2, 0}, 12, true, 0);
+    bench_play("damaged burst (NACK)", (const uint8_t[]){0, 0, 0, 0x19, 0}, 5, false, 1);
+    bench_read("image of 32 read and written");
+    return 0;
+}
