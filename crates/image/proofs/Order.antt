@@ -30,13 +30,10 @@ module _ (j k : ℕ) (x y values : List ℕ) (nx : length x ≡ byteCount j) (ny
     where
       vj : List ℕ
       vj = valuesWith j x values
-
       vk : List ℕ
       vk = valuesWith k y values
-
       fj : length vj ≡ 15
       fj = length-with j x values nx full
-
       fk : length vk ≡ 15
       fk = length-with k y values ny full
 
