@@ -2,7 +2,7 @@
 use Prim.Native.Nat.{ℕ, zero, suc, _<_}
 use mathlib.Core.Bool.{Bool, true, false, cond, _&&_}
 use mathlib.Core.Logic.{_⊎_, inl, inr}
-use mathlib.Core.Path.{_≡_, refl, _∙_}
+use mathlib.Core.Path.{_≡_, refl, ap, _∙_}
 use mathlib.Core.List.{List, [], _∷_, map}
 use native.Mathlib.Nat.{le-of-suc-le-suc, not-suc-le-zero}
 use lib.Dec.{leb, eqb}
@@ -28,12 +28,19 @@ use Rattle.line.specs.Reply.{silence, wordFrom, reportFrom}
 use Rattle.line.specs.Judged.{Command, getOf, setOf, unavailable, command, judge, panelAfter, stored, taken, notAvailable, replyBy}
 use Rattle.line.specs.Played.{turned, replyFrom, nackTo, damagedReply, playedBy, played}
 use Rattle.line.proofs.Formed.{stored-own, stored-others, played-formed}
-use Rattle.demands.specs.Demand2.{SetBy, OnlyAddressed, Answer·Is, Answers, Comes, empty, add, remove, burst, InRange}
+use Rattle.line.proofs.Cases.{p-cases}
+use Rattle.image.specs.declared.Read.{Read}
+use Rattle.image.specs.Written.{sizeOf, outputOf}
+use Rattle.image.proofs.Sound.{read-formed}
+use Rattle.image.proofs.Order.{read-any-order, left-out}
+use Rattle.image.proofs.Back.{front-is-image, table-back}
+use Rattle.demands.specs.Demand2.{SetBy, OnlyAddressed, Answer·Is, Answers, Comes, empty, add, remove, image, burst, InRange, ReadsBack, AnyOrder, LeftOut, Cases}
 
 pub in-range : InRange
 in-range t empty = empty-formed
 in-range t (add c i g) = added-formed (in-range _ c) i g
 in-range t (remove c i) = removed-formed (in-range _ c) i
+in-range t (image bytes) = read-formed bytes
 in-range t (burst c b) = played-formed (in-range _ c) b
 
 -- one panel and a command: it stays, or values that are allowed are stored
@@ -133,3 +140,18 @@ answers w b = go (verdictOf b)
     go Empty = inl refl
     go Damaged = damaged-burst w b
     go (Intact i g n) = packet-answer w i _ (isHeard i g)
+
+-- The image.
+pub reads-back : ReadsBack
+reads-back t f out room =
+    let back = table-back f in
+    rw (front-is-image (panelsOf t) (f .good) out room) (ap (λ (r : Read). r .refusal) back, ap (λ (r : Read). r .table) back)
+
+pub any-order : AnyOrder
+any-order = read-any-order
+
+pub fields-left-out : LeftOut
+fields-left-out = left-out
+
+pub ten-cases : Cases
+ten-cases = p-cases

@@ -1,2 +1,3 @@
+pub mod Demand1
 pub mod Demand2
 pub mod Demand3

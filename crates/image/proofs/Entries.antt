@@ -149,9 +149,10 @@ no-fault (e ∷ es) seen values n sound = go (stepAt seen left) refl
         let is-row = row-is e (t .in-table) (sym (t .code)) in
         let next = fields-step seen values left (Field row) st ∙ ap₂ (λ (v b : List ℕ). fieldsFrom (seenWith row seen) (valuesWith row v values) b) vs (front-behind e (bytesOf es) row (t .count)) in
         let (good, u) = ih row (ap (λ (f : Fields). f .refusal) (sym next) ∙ sound) in
-        let (without, u′) = were-unseen e seen es (rw (is-row, n) (t .in-table)) (rw is-row u) in
-        ((record { in-table = rw is-row (t .in-table); code = rw is-row (sym (t .code)); allowed = rw is-row (rw vs at (t .allowed)) }, without, good),
-        (rw is-row (t .new), u′))
+        let (without, u′) = were-unseen e seen es (rw (is-row, n) (t .in-table)) (rw is-row u) in (
+          (record { in-table = rw is-row (t .in-table); code = rw is-row (sym (t .code)); allowed = rw is-row (rw vs at (t .allowed)) }, without, good),
+          (rw is-row (t .new), u′),
+        )
     go (NotAllowed row) st ih sound =
         let f = ap (λ (f : Fields). f .refusal) (fields-step seen values left (NotAllowed row) st) in
         let z : _≡_ {A = ℕ} 0 1 = cc in absurd (omega arith)

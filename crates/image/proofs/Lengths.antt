@@ -108,6 +108,11 @@ records-before w good k h =
     (λ j g. let g′ : j < length w = omega arith in rw (record-at w j g′) (record-length (getD w j blank) (good-at w good j g′ .full)))
     k (omega arith)
 
+pub records-long : (w : Wall) → GoodWall w → length (flatten (recordsOf w)) ≡ 33 * length w
+records-long w good =
+    let all = take-all (length w) (recordsOf w) (omega (arith, length-map w recordOf)) in
+    ap (λ (ls : List (List ℕ)). length (flatten ls)) (sym all) ∙ records-before w good (length w) (omega arith)
+
 pub starts-are : (w : Wall) → GoodWall w → startsOf (recordsOf w) ≡ each (λ k. highLow (33 * k)) (length w)
 unfolding startsOf flatten
 starts-are w good =

@@ -10,3 +10,4 @@ pub mod Sound
 pub mod Entries
 pub mod Order
 pub mod Split
+pub mod Back

@@ -30,10 +30,13 @@ module _ (j k : ℕ) (x y values : List ℕ) (nx : length x ≡ byteCount j) (ny
     where
       vj : List ℕ
       vj = valuesWith j x values
+
       vk : List ℕ
       vk = valuesWith k y values
+
       fj : length vj ≡ 15
       fj = length-with j x values nx full
+
       fk : length vk ≡ 15
       fk = length-with k y values ny full
 
@@ -96,7 +99,7 @@ with-own row values full =
     go r true e = let s = eqb-true r row e in rw s (set-row row (valuesOf row values) values n full)
     go r false e = other-row row (valuesOf row values) values n full r (eqb-false r row e)
 
-none-seen : (es : List Entry) → GoodEntries es → Unseen (replicate 8 false) es
+pub none-seen : (es : List Entry) → GoodEntries es → Unseen (replicate 8 false) es
 none-seen [] good = tt
 none-seen (e ∷ es) (g, w, good) = (getD-replicate 8 (rowOf e) false false (g .in-table), none-seen es good)
 

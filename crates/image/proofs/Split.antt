@@ -32,7 +32,7 @@ each-getD [] d = refl
 each-getD (l ∷ ls) d = ap (λ r. l ∷ r) (each-getD ls d)
 
 module _ (records : List (List ℕ)) where
-  starts-count : length (flatten (startsOf records)) ≡ 2 * length records
+  pub starts-count : length (flatten (startsOf records)) ≡ 2 * length records
   unfolding startsOf flatten
   starts-count =
       let all = take-all (length records) (startsOf records) (omega (arith, length-each (λ k. highLow (startOf records k)) (length records))) in

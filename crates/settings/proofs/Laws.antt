@@ -5,8 +5,8 @@ use mathlib.Core.List.{List, [], _∷_, flatten}
 use Prim.Native.Nat.{ℕ, zero, suc, _+_, _≤_, _<_}
 use native.Mathlib.Numerals.{add-one}
 use native.Mathlib.Omega.{arith}
-use borrow.Author.Tests.{eqb-true, leb-true}
-use lib.Dec.{eqb, leb}
+use borrow.Author.Tests.{eqb-true, leb-true, ltb-true}
+use lib.Dec.{eqb, leb, ltb}
 use lib.ListN.{length, getD, take, drop, List·getD-map}
 use lib.Seq.{drop-cons}
 use Rattle.settings.specs.declared.Found.{Found}
@@ -24,6 +24,11 @@ set-found h = alike (λ k. foundBy (setCode k)) Set 8 refl h
 pub get-found : {row : ℕ} → row < 8 → foundBy (getCode row) ≡ Get row
 unfolding settings foundFrom
 get-found h = alike (λ k. foundBy (getCode k)) Get 8 refl h
+
+-- Set codes rise with the rows.
+pub codes-rise : {row : ℕ} → row < 7 → setCode row < setCode (suc row)
+unfolding settings
+codes-rise {row} h = ltb-true _ _ (alike (λ k. ltb (setCode k) (setCode (suc k))) (λ k. true) 7 refl h)
 
 -- the walk at row k: what is found from there on
 unfoldable pub foundAfter : ℕ → ℕ → Found

@@ -15,7 +15,8 @@ use Rattle.image.specs.declared.Written.the-variants.{Bytes}
 use Rattle.image.specs.Laid.{laidAt}
 use Rattle.image.specs.Written.{highLow, recordsOf, imageOf, recordOf, sizeOf, writtenOf, outputOf}
 use Rattle.image.proofs.Laid.{length-laid, laid-over, laid-two, laid-then}
-use Rattle.image.proofs.Lengths.{length-each, pairs-before, records-before, starts-are}
+use Rattle.image.proofs.Lengths.{records-long, starts-are}
+use Rattle.image.proofs.Split.{starts-count}
 use borrow.Author.Needs.{needs}
 use Rattle.image.proofs.write_image.Statement.{statement}
 use Rattle.image.proofs.write_image.Tie as tie
@@ -35,19 +36,12 @@ abbrev with-starts : Wall → List ℕ → List ℕ
 with-starts w out = laidAt (33 * length w) (starts-of (length w)) (with-records w out)
 
 module _ (w : Wall) (good : GoodWall w) (out : List ℕ) (room : 35 * length w + 2 ≤ length out) where
-  records-long : length (flatten (recordsOf w)) ≡ 33 * length w
-  records-long =
-      let all = take-all (length w) (recordsOf w) (omega (arith, length-map w recordOf)) in
-      ap (λ (ls : List (List ℕ)). length (flatten ls)) (sym all) ∙ records-before w good (length w) (omega arith)
-
   starts-long : length (starts-of (length w)) ≡ 2 * length w
   starts-long =
-      let ls = each (λ k. highLow (33 * k)) (length w) in
-      let all = take-all (length w) ls (omega (arith, length-each (λ k. highLow (33 * k)) (length w))) in
-      ap (λ (ls : List (List ℕ)). length (flatten ls)) (sym all) ∙ pairs-before (λ k. 33 * k) (length w) (length w) (omega arith)
+      ap (λ (ls : List (List ℕ)). length (flatten ls)) (sym (starts-are w good)) ∙ starts-count (recordsOf w) ∙ ap (λ (m : ℕ). 2 * m) (length-map w recordOf)
 
   long-1 : length (with-records w out) ≡ length out
-  long-1 = length-laid 0 (flatten (recordsOf w)) out (rw records-long (omega arith))
+  long-1 = length-laid 0 (flatten (recordsOf w)) out (rw (records-long w good) (omega arith))
 
   long-2 : length (with-starts w out) ≡ length out
   long-2 = length-laid (33 * length w) (starts-of (length w)) (with-records w out) (rw (starts-long, long-1) (omega arith)) ∙ long-1
@@ -59,8 +53,8 @@ module _ (w : Wall) (good : GoodWall w) (out : List ℕ) (room : 35 * length w +
       let r = flatten (recordsOf w) in
       let trailer = n ∷ 1 ∷ [] in
       let two = laid-two (35 * n) n 1 (with-starts w out) (rw long-2 (omega arith)) in
-      let first = laid-then 0 (33 * n) r (starts-of n) out (rw records-long (omega arith)) (rw starts-long (omega arith)) in
-      let more = laid-then 0 (35 * n) (r ++ starts-of n) trailer out (rw (length-append r (starts-of n), records-long, starts-long) (omega arith)) (omega arith) in
+      let first = laid-then 0 (33 * n) r (starts-of n) out (rw (records-long w good) (omega arith)) (rw starts-long (omega arith)) in
+      let more = laid-then 0 (35 * n) (r ++ starts-of n) trailer out (rw (length-append r (starts-of n), records-long w good, starts-long) (omega arith)) (omega arith) in
       two ∙ ap (λ (l : List ℕ). laidAt (35 * n) trailer l) first ∙ more ∙ rw (starts-are w good, length-map w recordOf) (laid-over _ _)
 
 mul-size : tie.Need-mul-size

@@ -1,0 +1,179 @@
+-- Demand 1. Assumes nothing.
+use Prim.Native.Nat.{ℕ, _+_, _*_, _<_}
+use mathlib.Core.Bool.{Bool, true, false, cond, false≢true}
+use mathlib.Core.Logic.{_⊎_, inl, inr}
+use mathlib.Core.Path.{_≡_, refl, sym, ap, _∙_}
+use mathlib.Core.List.{List, [], _∷_, _++_, map, flatten}
+use native.Mathlib.Omega.{arith}
+use lib.Seq.{drop-at}
+use lib.Dec.{leb, ltb}
+use lib.ListN.{length, getD, drop}
+use Rattle.packet.specs.declared.MonitorId.{MonitorId}
+use Rattle.packet.specs.declared.GroupId.{GroupId}
+use Rattle.packet.specs.declared.Verdict.{Verdict}
+use Rattle.packet.specs.declared.Verdict.the-variants.{Empty, Damaged, Intact}
+use Rattle.packet.specs.Packet.{verdictOf, dataOf, laidOver}
+use Rattle.panels.specs.declared.Panel.{Panel}
+use Rattle.panels.specs.declared.Place.{Place}
+use Rattle.panels.specs.declared.Place.the-variants.{At, Nowhere}
+use Rattle.panels.specs.declared.Refusal.{Refusal}
+use Rattle.panels.specs.declared.Refusal.the-variants.{Nothing, Full, IdZero, IdTaken, GroupZero, NoPanel}
+use Rattle.panels.specs.Wall.{Wall, blank, placeOf, panelsOf}
+use Rattle.panels.specs.Addressed.{reaches}
+use Rattle.panels.specs.Calls.{ifThere, addRefusal, unlessRefused, added, without, removed}
+use Rattle.panels.specs.WellFormed.{GoodWall, WellFormed}
+use Rattle.line.specs.declared.Sent.the-variants.{Bytes, NoRoom}
+use Rattle.line.specs.Reply.{sentBytes, sentOf, outputOf as answerOutput}
+use Rattle.line.specs.Judged.{command, judge, panelAfter}
+use Rattle.line.specs.Played.{turned, playedBy, played}
+use Rattle.line.proofs.Turns.{map-same, stays}
+use Rattle.image.specs.declared.Written.the-variants.{Bytes as WrittenBytes, NoRoom as NotWritten}
+use Rattle.image.specs.Written.{imageOf, recordsOf, sizeOf, writtenOf, outputOf as imageOutput}
+use Rattle.image.specs.declared.Refusal.{Refusal as ImageRefusal}
+use Rattle.image.specs.declared.Refusal.the-variants.{Nothing as Sound}
+use Rattle.image.specs.Whole.{wholeRefusal, recordsIn}
+use Rattle.image.specs.Read.{Reading, isSound, refused, recordRefusal, wallWith, readRecords, readOf}
+use Rattle.image.proofs.Back.{image-size}
+use Rattle.host.specs.declared.Refusal.{Refusal as HostRefusal}
+use Rattle.host.specs.declared.Request.{Request}
+use Rattle.host.specs.declared.Outcome.{Outcome}
+use Rattle.host.specs.declared.Outcome.the-variants.{Idle, Waiting, Unheard, Ack as Acked, Nav as NotAvailable, Report as Reported, GivenUp, Refused}
+use Rattle.host.specs.declared.Said.{Said}
+use Rattle.host.specs.declared.Said.the-variants.{Ack, Nack, Nav, Report, Nothing as Silent}
+use Rattle.host.specs.Request.{isDue, isRequest}
+use Rattle.host.specs.Machine.{Happening, start, burst, mark, State, Move, sendings, waits, quiet, begun, again, ending, heard, step}
+use Rattle.host.specs.Calls.{call}
+use Rattle.demands.specs.Demand1.{AddRefused, RemoveRefused, ReadRefused, CallRefused, Bad, BadBurst, bytesSent, bytesWritten, AnswerAlone, ImageAlone}
+
+pub add-refused : AddRefused
+unfolding added
+add-refused w i g refused = go (addRefusal w i g) _ refused
+  where
+    go : (r : Refusal) (then : Wall) → (r ≡ Nothing → ⊥) → unlessRefused r then w ≡ w
+    go Nothing then n = absurd (n refl)
+    go Full then n = refl
+    go IdZero then n = refl
+    go IdTaken then n = refl
+    go GroupZero then n = refl
+    go NoPanel then n = refl
+
+pub remove-refused : RemoveRefused
+unfolding removed
+remove-refused w i refused = go (placeOf i w) refused
+  where
+    go : (q : Place) → (ifThere q Nothing NoPanel ≡ Nothing → ⊥) → without q w ≡ w
+    go (At k) n = absurd (n refl)
+    go Nowhere n = refl
+
+pub bad-burst : BadBurst
+unfolding played turned
+bad-burst w b bad = go (verdictOf b) bad
+  where
+    stay : (i : MonitorId) (g : GroupId) (n : ℕ) (p : Panel) → Bad (Intact i g n) b p → turned i g (command (dataOf b (Intact i g n))) p ≡ p
+    stay i g n p (inl r) = stays i g _ p r
+    stay i g n p (inr e) = rw e (either (reaches i g p))
+      where
+        either : (t : Bool) → cond t p p ≡ p
+        either true = refl
+        either false = refl
+
+    go : (v : Verdict) → ((k : ℕ) → k < length w → Bad v b (getD w k blank)) → playedBy v w b .wall ≡ w
+    go Empty h = refl
+    go Damaged h = refl
+    go (Intact i g n) h = map-same _ blank w (λ k s. stay i g n (getD w k blank) (h k s))
+
+-- behind what is laid over it an output is as before
+behind-laid : (bytes out : List ℕ) → drop (length bytes) (laidOver bytes out) ≡ drop (length bytes) out
+unfolding laidOver
+behind-laid bytes out = drop-at bytes _ _ refl
+
+pub answer-alone : AnswerAlone
+unfolding sentOf answerOutput
+answer-alone out r = go (leb 40 (length out))
+  where
+    go : (t : Bool)
+        → let n = bytesSent (cond t (Bytes (length (sentBytes r))) NoRoom) in drop n (cond t (laidOver (sentBytes r) out) out) ≡ drop n out
+    go true = behind-laid (sentBytes r) out
+    go false = refl
+
+pub image-alone : ImageAlone
+unfolding writtenOf imageOutput
+image-alone t f out = go (leb (sizeOf (panelsOf t)) (length out))
+  where
+    go : (b : Bool)
+        → let n = bytesWritten (cond b (WrittenBytes (sizeOf (panelsOf t))) NotWritten) in
+        drop n (cond b (laidOver (imageOf (recordsOf (panelsOf t))) out) out) ≡ drop n out
+    go true = rw (← image-size (panelsOf t) (f .good)) (behind-laid (imageOf (recordsOf (panelsOf t))) out)
+    go false = refl
+
+-- a refusal gives no panel
+abbrev NoneRefused : Reading → Type 0
+NoneRefused r = (r .refusal ≡ Sound → ⊥) → r .wall ≡ []
+
+either : (t : Bool) (r : Reading) (why : ImageRefusal) → NoneRefused r → NoneRefused (cond t r (refused why))
+either true r why h = h
+either false r why h = λ n. refl
+
+records-refused : (w : Wall) (records : List (List ℕ)) → NoneRefused (readRecords w records)
+unfolding readRecords
+records-refused w [] n = absurd (n refl)
+records-refused w (bytes ∷ records) n =
+    either (isSound (recordRefusal w bytes)) _ (recordRefusal w bytes) (records-refused (wallWith w bytes) records) n
+
+pub read-refused : ReadRefused
+unfolding readOf
+read-refused image n = either (isSound (wholeRefusal image)) _ (wholeRefusal image) (records-refused [] (recordsIn image)) n
+
+-- A refused call of the host: it gives nothing out, and stays.
+abbrev Stays : State → Move → Type 0
+Stays s m = (r : HostRefusal) → m .outcome ≡ Refused r → (m .next ≡ s) × (m .sent ≡ [])
+
+abbrev isRefused : Outcome → Bool
+isRefused Idle = false
+isRefused Waiting = false
+isRefused (Unheard n) = false
+isRefused (Acked n) = false
+isRefused (NotAvailable n) = false
+isRefused (Reported n) = false
+isRefused (GivenUp n) = false
+isRefused (Refused r) = true
+
+taken : {s next : State} {sent : List (List ℕ)} (o : Outcome) → isRefused o ≡ false
+    → (r : HostRefusal) → o ≡ Refused r → (next ≡ s) × (sent ≡ [])
+taken o h r e = absurd (false≢true (sym h ∙ ap isRefused e))
+
+one-of : (s : State) (t : Bool) (m n : Move) → Stays s m → Stays s n → Stays s (cond t m n)
+one-of s true m n h k = h
+one-of s false m n h k = k
+
+quiet-stays : (s : State) (o : Outcome) → Stays s (quiet s o)
+quiet-stays s o r e = (refl, refl)
+
+again-stays : (s : State) → Stays s (again s)
+unfolding again
+again-stays s = one-of s (ltb (sendings s) 3) _ _ (taken _ refl) (taken _ refl)
+
+ending-stays : (s : State) (d : List ℕ) (w : Said) → Stays s (ending s d w)
+unfolding ending
+ending-stays s d Ack = taken _ refl
+ending-stays s d Nack = again-stays s
+ending-stays s d Nav = taken _ refl
+ending-stays s d Report = taken _ refl
+ending-stays s d Silent = taken _ refl
+
+begun-stays : (s : State) (r : Request) → Stays s (begun r)
+unfolding begun
+begun-stays s r = one-of s (isDue (r .id) (r .group)) _ _ (taken _ refl) (taken _ refl)
+
+step-stays : (s : State) (h : Happening) → Stays s (step s h)
+unfolding step heard
+step-stays s (start r) =
+    one-of s (waits s) _ _ (quiet-stays s _) (one-of s (isRequest r) _ _ (begun-stays s r) (quiet-stays s _))
+step-stays s (burst b) = one-of s (waits s) _ _ (ending-stays s _ _) (quiet-stays s _)
+step-stays s mark = one-of s (waits s) _ _ (again-stays s) (quiet-stays s _)
+
+pub call-refused : CallRefused
+unfolding call laidOver flatten
+call-refused out s h r e =
+    let (next, none) = one-of s (leb 40 (length out)) _ _ (step-stays s h) (quiet-stays s _) r e in
+    (next, rw none)

@@ -1,0 +1,79 @@
+-- Demand 1. That every function comes back without a fault is what the prover shows of each. The rest: a refusal changes neither
+-- table nor host nor a lent buffer, a bad burst changes no panel, and writing changes no byte but those written.
+use Prim.Native.Nat.{ℕ, _<_}
+use mathlib.Core.Bool.{false}
+use mathlib.Core.Logic.{_⊎_}
+use mathlib.Core.Path.{_≡_}
+use mathlib.Core.List.{List, []}
+use lib.ListN.{length, getD, drop}
+use Rattle.packet.specs.declared.MonitorId.{MonitorId}
+use Rattle.packet.specs.declared.GroupId.{GroupId}
+use Rattle.packet.specs.declared.Verdict.{Verdict}
+use Rattle.packet.specs.declared.Verdict.the-variants.{Empty, Damaged, Intact}
+use Rattle.packet.specs.Packet.{verdictOf, dataOf, laidOver}
+use Rattle.panels.specs.declared.Panel.{Panel}
+use Rattle.panels.specs.declared.Table.{Table}
+use Rattle.panels.specs.declared.Refusal.the-variants.{Nothing}
+use Rattle.panels.specs.Wall.{Wall, blank, panelsOf}
+use Rattle.panels.specs.Addressed.{reaches}
+use Rattle.panels.specs.Calls.{addRefusal, added, removedFrom, removed}
+use Rattle.panels.specs.WellFormed.{WellFormed}
+use Rattle.line.specs.declared.Reply.{Reply}
+use Rattle.line.specs.declared.Sent.{Sent}
+use Rattle.line.specs.declared.Sent.the-variants.{Bytes as SentBytes, NoRoom as NotSent}
+use Rattle.line.specs.Reply.{sentOf, outputOf as answerOutput}
+use Rattle.line.specs.Judged.{command, judge, notAvailable}
+use Rattle.line.specs.Played.{played}
+use Rattle.image.specs.declared.Refusal.the-variants.{Nothing as Sound}
+use Rattle.image.specs.declared.Written.{Written}
+use Rattle.image.specs.declared.Written.the-variants.{Bytes as WrittenBytes, NoRoom as NotWritten}
+use Rattle.image.specs.Written.{writtenOf, outputOf as imageOutput}
+use Rattle.image.specs.Read.{readOf}
+use Rattle.host.specs.declared.Refusal.{Refusal as HostRefusal}
+use Rattle.host.specs.declared.Outcome.the-variants.{Refused}
+use Rattle.host.specs.Machine.{State, Happening}
+use Rattle.host.specs.Calls.{call, bytesOf}
+
+-- a refusal of add or remove leaves the wall as it was
+abbrev pub AddRefused : Type 0
+AddRefused = (w : Wall) (i : MonitorId) (g : GroupId) → (addRefusal w i g ≡ Nothing → ⊥) → added w i g ≡ w
+
+abbrev pub RemoveRefused : Type 0
+RemoveRefused = (w : Wall) (i : MonitorId) → (removedFrom w i .refusal ≡ Nothing → ⊥) → removed w i ≡ w
+
+-- a refused image gives no panel
+abbrev pub ReadRefused : Type 0
+ReadRefused = (image : List ℕ) → (readOf image .refusal ≡ Sound → ⊥) → readOf image .wall ≡ []
+
+-- a refused call of the host leaves the host and the output as they were
+abbrev pub CallRefused : Type 0
+CallRefused =
+    (out : List ℕ) (s : State) (h : Happening) (r : HostRefusal) → call out s h .outcome ≡ Refused r
+    → (call out s h .next ≡ s) × (laidOver (bytesOf (call out s h)) out ≡ out)
+
+-- a burst is bad for a panel: empty or damaged, not to this panel, or not available
+abbrev pub Bad : Verdict → List ℕ → Panel → Type 0
+Bad Empty b p = Unit {0}
+Bad Damaged b p = Unit {0}
+Bad (Intact i g n) b p = (reaches i g p ≡ false) ⊎ (judge (command (dataOf b (Intact i g n))) p ≡ notAvailable)
+
+abbrev pub BadBurst : Type 0
+BadBurst = (w : Wall) (b : List ℕ) → ((k : ℕ) → k < length w → Bad (verdictOf b) b (getD w k blank)) → played w b .wall ≡ w
+
+-- how many bytes were written, none on a refusal
+abbrev pub bytesSent : Sent → ℕ
+bytesSent (SentBytes n) = n
+bytesSent NotSent = 0
+
+abbrev pub bytesWritten : Written → ℕ
+bytesWritten (WrittenBytes n) = n
+bytesWritten NotWritten = 0
+
+-- behind those the output is as before
+abbrev pub AnswerAlone : Type 0
+AnswerAlone = (out : List ℕ) (r : Reply) → let n = bytesSent (sentOf out r) in drop n (answerOutput out r) ≡ drop n out
+
+abbrev pub ImageAlone : Type 0
+ImageAlone =
+    (t : Table) → WellFormed t → (out : List ℕ)
+    → let n = bytesWritten (writtenOf (panelsOf t) out) in drop n (imageOutput (panelsOf t) out) ≡ drop n out

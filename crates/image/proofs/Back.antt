@@ -1,0 +1,182 @@
+-- Reading what was written gives that table. Assumes nothing.
+use mathlib.Core.Path.{_≡_, refl, sym, ap, ap₂, subst, _∙_}
+use mathlib.Core.Bool.{Bool, true, false, cond}
+use mathlib.Core.List.{List, [], _∷_, _++_, map, flatten, append-nil}
+use Prim.Native.Nat.{ℕ, zero, suc, _+_, _-_, _*_, _≤_, _<_}
+use native.Mathlib.Nat.{not-suc-le-zero, le-of-suc-le-suc}
+use native.Mathlib.Omega.{arith}
+use borrow.Author.Tests.{le-leb, ne-eqb}
+use lib.Dec.{leb, eqb}
+use lib.ListN.{length, getD, take, drop, replicate, length-append, length-map}
+use lib.Seq.{append-snoc, take-at}
+use Rattle.settings.specs.declared.Found.the-variants.{Set}
+use Rattle.settings.specs.Settings.{foundBy, setCode, byteCount, allowedFor, freshValues}
+use Rattle.settings.specs.Numbers.{each}
+use Rattle.settings.proofs.Laws.{set-found, fresh-count}
+use Rattle.settings.proofs.WrittenOut.{in-each}
+use Rattle.packet.specs.declared.MonitorId.{MonitorId}
+use Rattle.packet.specs.Packet.{laidOver}
+use Rattle.panels.specs.declared.Panel.{Panel}
+use Rattle.panels.specs.declared.Table.{Table}
+use Rattle.panels.specs.declared.Place.the-variants.{Nowhere}
+use Rattle.panels.specs.Wall.{Wall, valuesOf, blank, tableOf, panelsOf, placeFrom, placeOf}
+use Rattle.panels.specs.WellFormed.{GoodPanel, Absent, GoodWall, WellFormed}
+use Rattle.panels.proofs.Formed.{absent-snoc}
+use Rattle.image.specs.declared.Refusal.the-variants.{Nothing}
+use Rattle.image.specs.declared.Fields.{Fields}
+use Rattle.image.specs.declared.Read.{Read}
+use Rattle.image.specs.Written.{field, fieldsOf, recordOf, recordsOf, imageOf, sizeOf, outputOf}
+use Rattle.image.specs.Whole.{recordsIn, wholeRefusal}
+use Rattle.image.specs.Fields.{valuesWith, fieldsIn}
+use Rattle.image.specs.Read.{Reading, isSound, headFits, recordRefusal, panelIn, wallWith, refused, readRecords, readOf, inTable}
+use Rattle.image.specs.Entries.{Entry, entryBytes, bytesOf, entryOf, Without}
+use Rattle.image.proofs.Lengths.{length-each, each-alike, length-values, good-at, record-at, record-length, records-long}
+use Rattle.image.proofs.Values.{length-with, set-row, other-row, by-rows}
+use Rattle.image.proofs.Entries.{rowOf, row-is, Good, GoodEntries, stored, count-of, other-rows, all-taken}
+use Rattle.image.proofs.Order.{none-seen}
+use Rattle.image.proofs.Split.{image-length, whole-sound, records-in}
+
+-- the entries of a panel's fields
+abbrev entriesOf : List ℕ → List Entry
+entriesOf values = each (λ row. entryOf row values) 8
+
+map-each : {A B : Type 0} (g : A → B) (f : ℕ → A) (n : ℕ) → map g (each f n) ≡ each (λ k. g (f k)) n
+map-each g f zero = refl
+map-each g f (suc n) = ap (λ r. g (f 0) ∷ r) (map-each g (λ k. f (suc k)) n)
+
+written-entries : (values : List ℕ) → length values ≡ 15 → flatten (fieldsOf values) ≡ bytesOf (entriesOf values)
+unfolding fieldsOf bytesOf flatten
+written-entries values full =
+    ap flatten
+    (sym (map-each entryBytes (λ row. entryOf row values) 8
+    ∙ each-alike (λ row. entryBytes (entryOf row values)) (λ row. field row (valuesOf row values)) 8
+    (λ row h. ap (λ (n : ℕ). setCode row ∷ n ∷ valuesOf row values) (length-values row values full))))
+
+-- set codes are distinct
+codes-apart : {j k : ℕ} → j < 8 → k < 8 → setCode j ≡ setCode k → j ≡ k
+codes-apart hj hk e = let s : Set _ ≡ Set _ = sym (set-found hj) ∙ ap foundBy e ∙ set-found hk in cc
+
+without-each : (c : ℕ) (f : ℕ → Entry) (n : ℕ) → ((k : ℕ) → k < n → f k .code ≡ c → ⊥) → Without c (each f n)
+without-each c f zero ne = tt
+without-each c f (suc n) ne = (ne 0 (omega arith), without-each c (λ k. f (suc k)) n (λ k h. ne (suc k) (omega arith)))
+
+good-each : (f : ℕ → Entry) (n : ℕ) → ((k : ℕ) → k < n → Good (f k)) → ((j k : ℕ) → j < k → k < n → f k .code ≡ f j .code → ⊥) → GoodEntries (each f n)
+good-each f zero good ne = tt
+good-each f (suc n) good ne =
+    (good 0 (omega arith), without-each (f 0 .code) (λ k. f (suc k)) n (λ k h. ne 0 (suc k) (omega arith) (omega arith)),
+    good-each (λ k. f (suc k)) n (λ k h. good (suc k) (omega arith)) (λ j k l h. ne (suc j) (suc k) (omega arith) (omega arith)))
+
+-- each entry's values are stored in its row
+kept-by : (row : ℕ) (es : List Entry) (values : List ℕ) → GoodEntries es → Without (setCode row) es → length values ≡ 15
+    → valuesOf row (stored es values) ≡ valuesOf row values
+kept-by row [] values good w full = refl
+kept-by row (e ∷ es) values (g, v, good) (ne, w) full =
+    let n = count-of g in
+    kept-by row es (valuesWith (rowOf e) (e .values) values) good w (length-with (rowOf e) (e .values) values n full)
+    ∙ other-row (rowOf e) (e .values) values n full row (λ s. ne (sym (g .code) ∙ ap setCode (sym s)))
+
+stored-at : (es : List Entry) (values : List ℕ) → GoodEntries es → length values ≡ 15 → (k : ℕ) (d : Entry) → k < length es
+    → valuesOf (rowOf (getD es k d)) (stored es values) ≡ getD es k d .values
+stored-at [] values good full k d h = absurd (not-suc-le-zero h)
+stored-at (e ∷ es) values (g, w, good) full zero d h =
+    let n = count-of g in
+    kept-by (rowOf e) es (valuesWith (rowOf e) (e .values) values) good (subst (λ (c : ℕ). Without c es) (sym (g .code)) w) (length-with (rowOf e) (e .values) values n full)
+    ∙ set-row (rowOf e) (e .values) values n full
+stored-at (e ∷ es) values (g, w, good) full (suc k) d h =
+    stored-at es (valuesWith (rowOf e) (e .values) values) good (length-with (rowOf e) (e .values) values (count-of g) full) k d (le-of-suc-le-suc h)
+
+stored-full : (es : List Entry) (values : List ℕ) → GoodEntries es → length values ≡ 15 → length (stored es values) ≡ 15
+stored-full [] values good full = full
+stored-full (e ∷ es) values (g, w, good) full =
+    stored-full es (valuesWith (rowOf e) (e .values) values) good (length-with (rowOf e) (e .values) values (count-of g) full)
+
+-- where an ID is absent nothing is found
+absent-nowhere : (i : MonitorId) (k : ℕ) (w : Wall) → Absent i w → placeFrom i k w ≡ Nowhere
+unfolding placeFrom
+absent-nowhere i k [] a = refl
+absent-nowhere i k (p ∷ w) (n, a) = rw (ne-eqb (p .id .0) (i .0) n) (absent-nowhere i (suc k) w a)
+
+-- a panel's own entries are good, and stored they are its values
+module _ (p : Panel) (good : GoodPanel p) where
+  own-row : {row : ℕ} → row < 8 → rowOf (entryOf row (p .values)) ≡ row
+  own-row {row} h = row-is (entryOf row (p .values)) h refl
+
+  own-good : GoodEntries (entriesOf (p .values))
+  own-good =
+      good-each (λ row. entryOf row (p .values)) 8
+      (λ row h. let e = own-row h in record { in-table = rw e h; code = ap setCode e; allowed = rw e (good .inRange row h) })
+      (λ j k l h e. let s = codes-apart h (omega arith) e in omega arith)
+
+  own-stored : stored (entriesOf (p .values)) freshValues ≡ p .values
+  own-stored =
+      by-rows (stored (entriesOf (p .values)) freshValues) (p .values) (stored-full (entriesOf (p .values)) freshValues own-good fresh-count) (good .full)
+      (λ row h. let d = entryOf row (p .values) in
+      let at = in-each (λ row. entryOf row (p .values)) 8 {k = row} d h in
+      let s = stored-at (entriesOf (p .values)) freshValues own-good fresh-count row d h in
+      ap (λ (r : ℕ). valuesOf r (stored (entriesOf (p .values)) freshValues)) (sym (own-row h) ∙ ap rowOf (sym at)) ∙ s ∙ ap (λ (e : Entry). e .values) at)
+
+  fields-back : fieldsIn (drop 2 (recordOf p)) ≡ record { refusal = Nothing; values = p .values }
+  unfolding recordOf
+  fields-back =
+      ap fieldsIn (written-entries (p .values) (good .full))
+      ∙ all-taken (entriesOf (p .values)) (replicate 8 false) freshValues own-good (none-seen (entriesOf (p .values)) own-good)
+      ∙ ap {B = Fields} (λ (v : List ℕ). record { refusal = Nothing; values = v }) own-stored
+
+  panel-back : panelIn (recordOf p) ≡ p
+  unfolding panelIn recordOf
+  panel-back = ap {B = Panel} (λ (f : Fields). record { id = p .id; group = p .group; values = f .values }) fields-back
+
+  record-back : (w : Wall) → Absent (p .id) w → recordRefusal w (recordOf p) ≡ Nothing
+  unfolding recordRefusal headFits recordOf
+  record-back w a =
+      rw (
+        le-leb 2 (length (recordOf p)) (omega (arith, record-length p (good .full))),
+        ne-eqb (p .id .0) 0 (good .named),
+        ne-eqb (p .group .0) 0 (good .grouped),
+        absent-nowhere (p .id) 0 w a,
+      ) (ap (λ (f : Fields). f .refusal) fields-back)
+
+-- no panel of the one wall has the ID of a panel of the other
+abbrev Apart : Wall → Wall → Type 0
+Apart w [] = Unit {0}
+Apart w (p ∷ v) = Absent (p .id) w × Apart w v
+
+apart-snoc : (w v : Wall) (p : Panel) → Apart w v → Absent (p .id) v → Apart (w ++ p ∷ []) v
+apart-snoc w [] p a b = tt
+apart-snoc w (q ∷ v) p (a, apart) (n, b) = (absent-snoc (q .id) w p a (λ e. n (sym e)), apart-snoc w v p apart b)
+
+records-back : (w v : Wall) → GoodWall v → Apart w v → readRecords w (recordsOf v) ≡ record { refusal = Nothing; wall = w ++ v }
+unfolding readRecords
+records-back w [] good a = ap {B = Reading} (λ (u : Wall). record { refusal = Nothing; wall = u }) (sym (append-nil w))
+records-back w (p ∷ v) (g, b, good) (a, apart) =
+    rw (record-back p g w a, panel-back p g)
+    (records-back (w ++ p ∷ []) v good (apart-snoc w v p apart b) ∙ ap {B = Reading} (λ (u : Wall). record { refusal = Nothing; wall = u }) (append-snoc w p v))
+
+-- The image of a good wall is sound and reads as that wall.
+module _ (w : Wall) (good : GoodWall w) (few : length w ≤ 32) where
+  not-empty : (k : ℕ) → k < length (recordsOf w) → 0 < length (getD (recordsOf w) k [])
+  not-empty k h =
+      let h′ : k < length w = omega (arith, length-map w recordOf) in
+      rw (record-at w k h′) (omega (arith, record-length (getD w k blank) (good-at w good k h′ .full)))
+
+  pub reads-back : readOf (imageOf (recordsOf w)) ≡ record { refusal = Nothing; wall = w }
+  unfolding readOf
+  reads-back =
+      let n : length (recordsOf w) ≤ 32 = omega (arith, length-map w recordOf) in
+      rw (whole-sound (recordsOf w) not-empty n, records-in (recordsOf w) not-empty n) (records-back [] w good (apart-none w))
+    where
+      apart-none : (v : Wall) → Apart [] v
+      apart-none [] = tt
+      apart-none (p ∷ v) = (tt, apart-none v)
+
+-- The image has as many bytes as it should, and stands at the front of the output.
+pub image-size : (w : Wall) → GoodWall w → length (imageOf (recordsOf w)) ≡ sizeOf w
+image-size w good = image-length (recordsOf w) ∙ rw (records-long w good, length-map w recordOf) (omega arith)
+
+pub front-is-image : (w : Wall) → GoodWall w → (out : List ℕ) → sizeOf w ≤ length out → take (sizeOf w) (outputOf w out) ≡ imageOf (recordsOf w)
+unfolding outputOf laidOver
+front-is-image w good out room = rw (le-leb (sizeOf w) (length out) room) (take-at (imageOf (recordsOf w)) _ (sizeOf w) (image-size w good))
+
+-- Reading a written table gives that table.
+pub table-back : {t : Table} → WellFormed t → _≡_ {A = Read} (inTable (readOf (imageOf (recordsOf (panelsOf t))))) (record { refusal = Nothing; table = t })
+table-back {t} f = ap inTable (reads-back (panelsOf t) (f .good) (f .few)) ∙ ap {B = Read} (λ (u : Table). record { refusal = Nothing; table = u }) (sym (f .held))

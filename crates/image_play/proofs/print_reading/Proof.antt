@@ -1,0 +1,71 @@
+-- The table that was read is well-formed. Assumes nothing.
+use mathlib.Core.Path.{sym, ap, subst}
+use Rattle.panels.specs.declared.Table.{Table}
+use Rattle.panels.specs.WellFormed.{WellFormed}
+use Rattle.image.specs.declared.Read.{Read}
+use Rattle.image.proofs.Sound.{read-formed}
+use borrow.Author.Needs.{needs}
+use Rattle.image_play.proofs.print_reading.Statement.{statement}
+use Rattle.image_play.proofs.print_reading.Tie as tie
+use Rattle.image_play.proofs.print_reading.Reads as reads
+use Rattle.image_play.proofs.print_reading.Lts as lts
+use Rattle.image.proofs.read_image.Reads as read-image-reads
+use Rattle.image.proofs.refusal_number.Reads as refusal-number-reads
+use Rattle.image_play.proofs.print_image.Reads as print-image-reads
+use Rattle.io.proofs.print_decimal.Reads as print-decimal-reads
+use Rattle.io.proofs.write_all.Reads as write-all-reads
+
+slice-aggregate-write-all : tie.Need-slice-aggregate-write-all
+slice-aggregate-write-all c = search needs
+
+write-all-requires : tie.Need-write-all-requires
+write-all-requires c κs = search needs
+
+returns : tie.Need-returns
+returns c = search needs
+
+read-image-requires : tie.Need-read-image-requires
+read-image-requires c κs = search needs
+
+refusal-number-requires : tie.Need-refusal-number-requires
+refusal-number-requires c κs = search needs
+
+slice-aggregate-write-all-2 : tie.Need-slice-aggregate-write-all-2
+slice-aggregate-write-all-2 c = search needs
+
+write-all-requires-2 : tie.Need-write-all-requires-2
+write-all-requires-2 c κs = search needs
+
+cast-print-decimal : tie.Need-cast-print-decimal
+cast-print-decimal c = search needs
+
+print-decimal-requires : tie.Need-print-decimal-requires
+print-decimal-requires c κs = search needs
+
+returns-2 : tie.Need-returns-2
+returns-2 c = search needs
+
+print-image-requires : tie.Need-print-image-requires
+print-image-requires c κs =
+    let read = c .before .before .before .read-image in
+    subst WellFormed (ap (λ (r : Read). r .table) (sym (read .ensures))) (read-formed _)
+
+returns-3 : tie.Need-returns-3
+returns-3 c = search needs
+
+pub print-reading-spec : {M : Type 1} → statement M
+print-reading-spec =
+    tie.close
+    (tie.spec
+    slice-aggregate-write-all
+    write-all-requires
+    returns
+    read-image-requires
+    refusal-number-requires
+    slice-aggregate-write-all-2
+    write-all-requires-2
+    cast-print-decimal
+    print-decimal-requires
+    returns-2
+    print-image-requires
+    returns-3)
