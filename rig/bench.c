@@ -77,41 +77,70 @@ static void check_same(const char *what, const struct outcome *proved, const str
     }
 }
 
-static void print_row(const char *what, uint64_t proved, uint64_t plain)
+struct cost {
+    uint64_t proved, plain;
+};
+
+static void print_head(const char *what)
 {
-    printf("| %s | %" PRIu64 " | %" PRIu64 " | %.2f |\n", what, proved, plain, (double)proved / (double)plain);
+    printf("| %s | proved | plain | proved / plain |\n|---|---|---|---|\n", what);
 }
+
+static void print_row(const char *what, struct cost cost)
+{
+    printf("| %s | %" PRIu64 " | %" PRIu64 " | %.2f |\n", what, cost.proved, cost.plain, (double)cost.proved / (double)cost.plain);
+}
+
+struct trial {
+    const char *what;
+    const uint8_t *form;
+    size_t len;
+    bool to_all;
+    uint8_t spoil;
+};
+
+static const uint8_t get_power[] = {0, 0, 0, 0x19, 0};
+static const uint8_t set_video[] = {0, 0, 0, 0x32, 10, 20, 30, 40, 60, 70, 2, 0};
+static const uint8_t set_fan[] = {0, 0, 0, 0x61, 4, 0};
+static const struct trial trials[] = {
+    {"get of power, 5 bytes, to one of 32", get_power, sizeof get_power, false, 0},
+    {"set of video, 12 bytes, to one of 32", set_video, sizeof set_video, false, 0},
+    {"set of fan, 6 bytes, to all 32", set_fan, sizeof set_fan, true, 0},
+    {"set of video, 12 bytes, to all 32", set_video, sizeof set_video, true, 0},
+    {"damaged burst, 5 bytes, for one of 32 (NACK)", get_power, sizeof get_power, false, 1},
+};
+enum { TRIALS = sizeof trials / sizeof trials[0] };
 
 /* One burst for each panel in turn, the mean of all; where no panel is named, all 32 calls are alike. The first byte is
  * put in as the size, the second is the panel's ID unless all are meant, the last is put in as the checksum plus spoil. */
-static void bench_play(const char *what, const uint8_t *form, size_t len, bool to_all, uint8_t spoil)
+static struct cost cost_of_play(const struct trial *t)
 {
     static struct outcome proved, plain, none;
     uint64_t proved_sum = 0, plain_sum = 0;
     for (unsigned k = 0; k < PANELS; k++) {
         uint8_t burst[UNDIVARRO_ANSWER_CAP];
-        memcpy(burst, form, len);
-        burst[0] = (uint8_t)len;
-        burst[1] = to_all ? 0 : (uint8_t)(k + 1);
-        burst[len - 1] = spoil;
-        for (size_t i = 0; i < len - 1; i++)
-            burst[len - 1] ^= burst[i];
-        uint64_t around = count_play(no_play, burst, len, &none);
-        proved_sum += count_play(undivarro_play, burst, len, &proved) - around;
-        plain_sum += count_play(plain_play, burst, len, &plain) - around;
-        check_same(what, &proved, &plain);
+        memcpy(burst, t->form, t->len);
+        burst[0] = (uint8_t)t->len;
+        burst[1] = t->to_all ? 0 : (uint8_t)(k + 1);
+        burst[t->len - 1] = t->spoil;
+        for (size_t i = 0; i < t->len - 1; i++)
+            burst[t->len - 1] ^= burst[i];
+        uint64_t around = count_play(no_play, burst, t->len, &none);
+        proved_sum += count_play(undivarro_play, burst, t->len, &proved) - around;
+        plain_sum += count_play(plain_play, burst, t->len, &plain) - around;
+        check_same(t->what, &proved, &plain);
     }
-    print_row(what, proved_sum / PANELS, plain_sum / PANELS);
+    return (struct cost){proved_sum / PANELS, plain_sum / PANELS};
 }
 
-static void bench_read(const char *what)
+static struct cost cost_of_read(const char *what)
 {
     static struct outcome proved, plain, none;
     uint64_t around = count_read(no_read, &none);
     uint64_t by_proved = count_read(undivarro_read, &proved) - around;
     uint64_t by_plain = count_read(plain_read, &plain) - around;
     check_same(what, &proved, &plain);
-    print_row(what, by_proved, by_plain);
+    return (struct cost){by_proved, by_plain};
 }
 
 /* 32 fresh panels, all in group 9, as they are written. */
@@ -141,12 +170,17 @@ int main(void)
     make_wall();
     count_now();
 
-    puts("| call | proved | plain | proved / plain |");
-    puts("|---|---|---|---|");
-    bench_play("get (power, of one of 32)", (const uint8_t[]){0, 0, 0, 0x19, 0}, 5, false, 0);
-    bench_play("set to one of 32 (video)", (const uint8_t[]){0, 0, 0, 0x32, 10, 20, 30, 40, 60, 70, 2, 0}, 12, false, 0);
-    bench_play("set to all (video)", (const uint8_t[]){0, 0, 0, 0x32, 10, 20, 30, 40, 60, 70, 2, 0}, 12, true, 0);
-    bench_play("damaged burst (NACK)", (const uint8_t[]){0, 0, 0, 0x19, 0}, 5, false, 1);
-    bench_read("image of 32 read and written");
+    struct cost costs[TRIALS];
+    print_head("call");
+    for (int i = 0; i < TRIALS; i++)
+        print_row(trials[i].what, costs[i] = cost_of_play(&trials[i]));
+    const char *what = "image of 32 read and written";
+    struct cost image_cost = cost_of_read(what);
+    print_row(what, image_cost);
+
+    putchar('\n');
+    print_head("the burst alone");
+    for (int i = 0; i < TRIALS; i++)
+        print_row(trials[i].what, (struct cost){costs[i].proved - image_cost.proved, costs[i].plain - image_cost.plain});
     return 0;
 }

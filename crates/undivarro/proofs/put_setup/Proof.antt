@@ -11,8 +11,8 @@ use Rattle.panels.specs.WellFormed.{GoodWall}
 use Rattle.image.specs.declared.Written.{Written}
 use Rattle.image.specs.declared.Written.the-variants.{Bytes, NoRoom}
 use Rattle.image.specs.Written.{sizeOf, writtenOf, outputOf}
+use Rattle.image.proofs.Back.{image-size}
 use Rattle.undivarro.specs.Calls.{setupOf}
-use Rattle.undivarro.proofs.Lengths.{setup-length}
 use borrow.Author.Needs.{needs}
 use Rattle.undivarro.proofs.put_setup.Statement.{statement}
 use Rattle.undivarro.proofs.put_setup.Tie as tie
@@ -37,7 +37,7 @@ laid c s e =
     let start = c .before .before .before in
     let w = panelsOf (start .args .t) in
     let f = fits w _ (start .pre .1) in
-    (ap number-of (sym e ∙ c .write-image .ensures .0 ∙ f .0) ∙ sym (setup-length w (start .pre .0 .good)), c .write-image .ensures .1 ∙ f .1)
+    (ap number-of (sym e ∙ c .write-image .ensures .0 ∙ f .0) ∙ sym (image-size w (start .pre .0 .good)), c .write-image .ensures .1 ∙ f .1)
 
 write-image-requires : tie.Need-write-image-requires
 write-image-requires c κs = search needs
@@ -50,7 +50,7 @@ cast-result c =
     let call = c .before .before .before .before .before in
     let start = call .before .before .before in
     let w = panelsOf (start .args .t) in
-    omega (arith, setup-length w (start .pre .0 .good), start .pre .0 .few, laid call _ (c .before .written .given .1) .0)
+    omega (arith, image-size w (start .pre .0 .good), start .pre .0 .few, laid call _ (c .before .written .given .1) .0)
 
 enum-told : tie.Need-enum-told
 enum-told c = search needs
