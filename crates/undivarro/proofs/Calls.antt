@@ -5,7 +5,7 @@ use mathlib.Core.List.{List, []}
 use Prim.Native.Nat.{ℕ, _+_, _*_, _≤_}
 use native.Mathlib.Omega.{arith}
 use borrow.Author.Tests.{eq-eqb, ne-eqb, eqb-false, leb-true}
-use lib.Dec.{leb, eqb}
+use lib.Dec.{leb}
 use lib.ListN.{length, length-map}
 use Rattle.packet.specs.declared.Verdict.{Verdict}
 use Rattle.packet.specs.declared.Verdict.the-variants.{Empty, Damaged, Intact}
@@ -26,7 +26,7 @@ use Rattle.image.specs.Written.{sizeOf}
 use Rattle.image.specs.Read.{isSound, readRefusalOf, readOf, inTable}
 use Rattle.image.proofs.Edges.{both}
 use Rattle.image.proofs.Sound.{read-formed}
-use Rattle.undivarro.specs.Calls.{After, refused, given, setupOf, refusalFor, afterPlay, afterRead}
+use Rattle.undivarro.specs.Calls.{refused, given, setupOf, refusalFor, afterPlay, afterRead}
 
 -- where nothing is refused there is room
 room-there : (read : Refusal) (room : Bool) → refusalFor read room ≡ 0 → room ≡ true

@@ -1,15 +1,15 @@
 -- Both tests. Assumes nothing.
-use mathlib.Core.Path.{_≡_, sym}
+use mathlib.Core.Path.{sym}
 use native.Mathlib.Omega.{arith}
 use borrow.Author.Tests.{lt-leb, le-leb}
 use borrow.Author.Needs.{needs}
 use Rattle.undivarro.proofs.has_room.Statement.{statement}
 use Rattle.undivarro.proofs.has_room.Tie as tie
-use Rattle.undivarro.proofs.has_room.Reads as reads
-use Rattle.undivarro.proofs.has_room.Lts as lts
 
 returns : tie.Need-returns
-returns c = sym (rw (lt-leb _ _ (c .if1 .taken)))
+returns c =
+    let short = lt-leb 40 (c .before .args .answer) (omega arith) in
+    sym (rw short)
 
 mul-result : tie.Need-mul-result
 mul-result c = search needs

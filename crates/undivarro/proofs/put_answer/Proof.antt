@@ -14,9 +14,6 @@ use Rattle.undivarro.proofs.Lengths.{sent-few}
 use borrow.Author.Needs.{needs}
 use Rattle.undivarro.proofs.put_answer.Statement.{statement}
 use Rattle.undivarro.proofs.put_answer.Tie as tie
-use Rattle.undivarro.proofs.put_answer.Reads as reads
-use Rattle.undivarro.proofs.put_answer.Lts as lts
-use Rattle.line.proofs.write_answer.Reads as write-answer-reads
 
 -- the number that the match makes of it
 abbrev number-of : Sent → ℕ

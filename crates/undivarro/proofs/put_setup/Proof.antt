@@ -7,7 +7,6 @@ use borrow.Author.Tests.{le-leb}
 use lib.ListN.{length}
 use Rattle.packet.specs.Packet.{laidOver}
 use Rattle.panels.specs.Wall.{Wall, panelsOf}
-use Rattle.panels.specs.WellFormed.{GoodWall}
 use Rattle.image.specs.declared.Written.{Written}
 use Rattle.image.specs.declared.Written.the-variants.{Bytes, NoRoom}
 use Rattle.image.specs.Written.{sizeOf, writtenOf, outputOf}
@@ -16,9 +15,6 @@ use Rattle.undivarro.specs.Calls.{setupOf}
 use borrow.Author.Needs.{needs}
 use Rattle.undivarro.proofs.put_setup.Statement.{statement}
 use Rattle.undivarro.proofs.put_setup.Tie as tie
-use Rattle.undivarro.proofs.put_setup.Reads as reads
-use Rattle.undivarro.proofs.put_setup.Lts as lts
-use Rattle.image.proofs.write_image.Reads as write-image-reads
 
 -- the number that the match makes of it
 abbrev number-of : Written → ℕ

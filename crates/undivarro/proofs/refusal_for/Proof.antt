@@ -1,15 +1,12 @@
 -- The number of what was read is 0 where it is sound. Assumes nothing.
-use mathlib.Core.Path.{_≡_, sym, ap, _∙_}
-use mathlib.Core.Bool.{true, false}
+use mathlib.Core.Path.{_≡_, sym, _∙_}
+use mathlib.Core.Bool.{true}
 use borrow.Author.Tests.{eq-eqb, ne-eqb}
-use Rattle.image.specs.Read.{isSound, readRefusalOf}
+use Rattle.image.specs.Read.{isSound}
 use Rattle.undivarro.specs.Calls.{refusalFor}
 use borrow.Author.Needs.{needs}
 use Rattle.undivarro.proofs.refusal_for.Statement.{statement}
 use Rattle.undivarro.proofs.refusal_for.Tie as tie
-use Rattle.undivarro.proofs.refusal_for.Reads as reads
-use Rattle.undivarro.proofs.refusal_for.Lts as lts
-use Rattle.image.proofs.refusal_number.Reads as refusal-number-reads
 
 refusal-number-requires : tie.Need-refusal-number-requires
 refusal-number-requires c κs = search needs

@@ -1,7 +1,6 @@
 -- The numbers and the buffers are those of the definition, on a refusal and otherwise. Assumes nothing.
-use mathlib.Core.Path.{_≡_, sym, ap, ap₂, _∙_}
+use mathlib.Core.Path.{ap, ap₂, _∙_}
 use Prim.Native.Nat.{ℕ, _≤_}
-use native.Mathlib.Omega.{arith}
 use lib.ListN.{length}
 use Rattle.image.specs.Written.{sizeOf}
 use Rattle.image.specs.Read.{readOf}
@@ -12,14 +11,6 @@ use Rattle.undivarro.proofs.Calls.{formed-read, refusal-is, enough, for
 use borrow.Author.Needs.{needs}
 use Rattle.undivarro.proofs.undivarro_play.Statement.{statement}
 use Rattle.undivarro.proofs.undivarro_play.Tie as tie
-use Rattle.undivarro.proofs.undivarro_play.Reads as reads
-use Rattle.undivarro.proofs.undivarro_play.Lts as lts
-use Rattle.image.proofs.read_image.Reads as read-image-reads
-use Rattle.line.proofs.play.Reads as play-reads
-use Rattle.undivarro.proofs.has_room.Reads as has-room-reads
-use Rattle.undivarro.proofs.put_answer.Reads as put-answer-reads
-use Rattle.undivarro.proofs.put_setup.Reads as put-setup-reads
-use Rattle.undivarro.proofs.refusal_for.Reads as refusal-for-reads
 
 read-image-requires : tie.Need-read-image-requires
 read-image-requires c κs = search needs

@@ -1,24 +1,15 @@
 -- The numbers and the buffer are those of the definition, on a refusal and otherwise. Assumes nothing.
-use mathlib.Core.Path.{_≡_, sym, ap, ap₂, _∙_}
+use mathlib.Core.Path.{ap, _∙_}
 use mathlib.Core.List.{[]}
-use Prim.Native.Nat.{ℕ, _≤_}
-use lib.ListN.{length}
-use Rattle.panels.specs.Wall.{Wall, panelsOf}
+use Prim.Native.Nat.{ℕ}
+use Rattle.panels.specs.Wall.{Wall}
 use Rattle.panels.proofs.Laws.{count-few}
-use Rattle.image.specs.Written.{sizeOf}
-use Rattle.image.specs.Read.{readOf}
 use Rattle.undivarro.specs.declared.Outcome.{Outcome}
 use Rattle.undivarro.specs.Calls.{After, given, setupOf}
 use Rattle.undivarro.proofs.Calls.{formed-read, wall-read, refusal-is, enough, read-refused, read-given}
 use borrow.Author.Needs.{needs}
 use Rattle.undivarro.proofs.undivarro_read.Statement.{statement}
 use Rattle.undivarro.proofs.undivarro_read.Tie as tie
-use Rattle.undivarro.proofs.undivarro_read.Reads as reads
-use Rattle.undivarro.proofs.undivarro_read.Lts as lts
-use Rattle.image.proofs.read_image.Reads as read-image-reads
-use Rattle.undivarro.proofs.has_room.Reads as has-room-reads
-use Rattle.undivarro.proofs.put_setup.Reads as put-setup-reads
-use Rattle.undivarro.proofs.refusal_for.Reads as refusal-for-reads
 
 read-image-requires : tie.Need-read-image-requires
 read-image-requires c κs = search needs
