@@ -88,21 +88,24 @@ fn row_at(k: usize) -> Row
     requires { ⌜ k < 8 ⌝ }
     ensures { λ r. ⌜ (r .0 ≡ setCode k) × (r .1 ≡ getCode k) × (r .2 ≡ byteCount k) × (r .3 ≡ place k) ⌝ }
 {
-    the_table().rows[k]
+    let rows = the_table().rows;
+    rows[k]
 }
 
 fn value_at(p: usize) -> Value
     requires { ⌜ p < 15 ⌝ }
     ensures { λ r. ⌜ (r .0 ≡ getD freshValues p 0) × (r .1 ≡ rangesFrom p) × (r .2 ≡ length (rangesOf p)) ⌝ }
 {
-    the_table().values[p]
+    let values = the_table().values;
+    values[p]
 }
 
 fn span_at(i: usize) -> Span
     requires { ⌜ i < 18 ⌝ }
     ensures { λ r. ⌜ (r .0 ≡ rangeAt i .low) × (r .1 ≡ rangeAt i .high) ⌝ }
 {
-    the_table().ranges[i]
+    let ranges = the_table().ranges;
+    ranges[i]
 }
 
 // The setting that a code sets or gets.

@@ -15,15 +15,15 @@ the-table-requires c κs = search needs
 mul-result : tie.Need-mul-result
 mul-result c = search needs
 
-element-copy-out-result : tie.Need-element-copy-out-result
-element-copy-out-result c = search needs
+array-copy-out-result : tie.Need-array-copy-out-result
+array-copy-out-result c = search needs
 
 returns : tie.Need-returns
 unfolding paperTable
 returns c =
-    let call = c .before in
+    let call = c .before .before in
     let e = ap (λ (t : Table). getD (t .rows) (call .before .args .k) _) (call .the-table .ensures) ∙ in-each rowOf 8 _ (call .before .pre) in
     (ap (λ (r : Row). r .0) e, ap (λ (r : Row). r .1) e, ap (λ (r : Row). r .2) e, ap (λ (r : Row). r .3) e)
 
 pub row-at-spec : {M : Type 1} → statement M
-row-at-spec = tie.close (tie.spec the-table-requires mul-result element-copy-out-result returns)
+row-at-spec = tie.close (tie.spec the-table-requires mul-result array-copy-out-result returns)

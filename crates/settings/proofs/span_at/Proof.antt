@@ -15,15 +15,15 @@ the-table-requires c κs = search needs
 mul-result : tie.Need-mul-result
 mul-result c = search needs
 
-element-copy-out-result : tie.Need-element-copy-out-result
-element-copy-out-result c = search needs
+array-copy-out-result : tie.Need-array-copy-out-result
+array-copy-out-result c = search needs
 
 returns : tie.Need-returns
 unfolding paperTable
 returns c =
-    let call = c .before in
+    let call = c .before .before in
     let e = ap (λ (t : Table). getD (t .ranges) (call .before .args .i) _) (call .the-table .ensures) ∙ in-each spanOf 18 _ (call .before .pre) in
     (ap (λ (r : Span). r .0) e, ap (λ (r : Span). r .1) e)
 
 pub span-at-spec : {M : Type 1} → statement M
-span-at-spec = tie.close (tie.spec the-table-requires mul-result element-copy-out-result returns)
+span-at-spec = tie.close (tie.spec the-table-requires mul-result array-copy-out-result returns)

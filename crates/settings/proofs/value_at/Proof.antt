@@ -15,15 +15,15 @@ the-table-requires c κs = search needs
 mul-result : tie.Need-mul-result
 mul-result c = search needs
 
-element-copy-out-result : tie.Need-element-copy-out-result
-element-copy-out-result c = search needs
+array-copy-out-result : tie.Need-array-copy-out-result
+array-copy-out-result c = search needs
 
 returns : tie.Need-returns
 unfolding paperTable
 returns c =
-    let call = c .before in
+    let call = c .before .before in
     let e = ap (λ (t : Table). getD (t .values) (call .before .args .p) _) (call .the-table .ensures) ∙ in-each valueOf 15 _ (call .before .pre) in
     (ap (λ (r : Value). r .0) e, ap (λ (r : Value). r .1) e, ap (λ (r : Value). r .2) e)
 
 pub value-at-spec : {M : Type 1} → statement M
-value-at-spec = tie.close (tie.spec the-table-requires mul-result element-copy-out-result returns)
+value-at-spec = tie.close (tie.spec the-table-requires mul-result array-copy-out-result returns)
