@@ -2,3 +2,5 @@
 # everything the gate checks
 test:
 	.ci/run
+
+include rig/rig.mk

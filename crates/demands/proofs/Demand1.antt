@@ -5,9 +5,9 @@ use mathlib.Core.Logic.{_⊎_, inl, inr}
 use mathlib.Core.Path.{_≡_, refl, sym, ap, _∙_}
 use mathlib.Core.List.{List, [], _∷_, _++_, map, flatten}
 use native.Mathlib.Omega.{arith}
-use lib.Seq.{drop-at, take-all}
+use lib.Seq.{drop-at}
 use lib.Dec.{leb, ltb}
-use lib.ListN.{length, getD, take, drop, length-map}
+use lib.ListN.{length, getD, drop}
 use Rattle.packet.specs.declared.MonitorId.{MonitorId}
 use Rattle.packet.specs.declared.GroupId.{GroupId}
 use Rattle.packet.specs.declared.Verdict.{Verdict}
@@ -28,13 +28,12 @@ use Rattle.line.specs.Judged.{command, judge, panelAfter}
 use Rattle.line.specs.Played.{turned, playedBy, played}
 use Rattle.line.proofs.Turns.{map-same, stays}
 use Rattle.image.specs.declared.Written.the-variants.{Bytes as WrittenBytes, NoRoom as NotWritten}
-use Rattle.image.specs.Written.{recordOf, imageOf, recordsOf, sizeOf, writtenOf, outputOf as imageOutput}
+use Rattle.image.specs.Written.{imageOf, recordsOf, sizeOf, writtenOf, outputOf as imageOutput}
 use Rattle.image.specs.declared.Refusal.{Refusal as ImageRefusal}
 use Rattle.image.specs.declared.Refusal.the-variants.{Nothing as Sound}
 use Rattle.image.specs.Whole.{wholeRefusal, recordsIn}
 use Rattle.image.specs.Read.{Reading, isSound, refused, recordRefusal, wallWith, readRecords, readOf}
-use Rattle.image.proofs.Lengths.{records-before}
-use Rattle.image.proofs.Split.{image-length}
+use Rattle.image.proofs.Back.{image-size}
 use Rattle.host.specs.declared.Refusal.{Refusal as HostRefusal}
 use Rattle.host.specs.declared.Request.{Request}
 use Rattle.host.specs.declared.Outcome.{Outcome}
@@ -96,12 +95,6 @@ answer-alone out r = go (leb 40 (length out))
         → let n = bytesSent (cond t (Bytes (length (sentBytes r))) NoRoom) in drop n (cond t (laidOver (sentBytes r) out) out) ≡ drop n out
     go true = behind-laid (sentBytes r) out
     go false = refl
-
-image-size : (w : Wall) → GoodWall w → length (imageOf (recordsOf w)) ≡ sizeOf w
-image-size w good =
-    let all = ap (λ (l : List (List ℕ)). length (flatten l)) (sym (take-all (length w) (recordsOf w) (omega (arith, length-map w recordOf)))) in
-    let records = all ∙ records-before w good (length w) (omega arith) in
-    image-length (recordsOf w) ∙ omega (arith, records, length-map w recordOf)
 
 pub image-alone : ImageAlone
 unfolding writtenOf imageOutput

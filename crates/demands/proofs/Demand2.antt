@@ -1,10 +1,9 @@
 -- Demand 2. Assumes nothing.
-use Prim.Native.Nat.{ℕ, zero, suc, _<_}
+use Prim.Native.Nat.{ℕ, _<_}
 use mathlib.Core.Bool.{Bool, true, false, cond, _&&_}
 use mathlib.Core.Logic.{_⊎_, inl, inr}
-use mathlib.Core.Path.{_≡_, refl, _∙_}
+use mathlib.Core.Path.{_≡_, refl, ap, _∙_}
 use mathlib.Core.List.{List, [], _∷_, map}
-use native.Mathlib.Nat.{le-of-suc-le-suc, not-suc-le-zero}
 use lib.Dec.{leb, eqb}
 use lib.ListN.{length, getD, length-map, List·getD-map}
 use Rattle.settings.specs.Settings.{allowedFor}
@@ -20,7 +19,7 @@ use Rattle.panels.specs.declared.Place.{Place}
 use Rattle.panels.specs.declared.Place.the-variants.{At, Nowhere}
 use Rattle.panels.specs.Wall.{Wall, valuesOf, blank, panelsOf, placeOf}
 use Rattle.panels.specs.Addressed.{reaches, isHeard}
-use Rattle.panels.specs.WellFormed.{GoodPanel, GoodWall, WellFormed}
+use Rattle.panels.specs.WellFormed.{GoodPanel, GoodWall}
 use Rattle.panels.proofs.Laws.{place-there}
 use Rattle.panels.proofs.Lists.{getD-inside}
 use Rattle.panels.proofs.Formed.{empty-formed, added-formed, removed-formed}
@@ -28,12 +27,20 @@ use Rattle.line.specs.Reply.{silence, wordFrom, reportFrom}
 use Rattle.line.specs.Judged.{Command, getOf, setOf, unavailable, command, judge, panelAfter, stored, taken, notAvailable, replyBy}
 use Rattle.line.specs.Played.{turned, replyFrom, nackTo, damagedReply, playedBy, played}
 use Rattle.line.proofs.Formed.{stored-own, stored-others, played-formed}
-use Rattle.demands.specs.Demand2.{SetBy, OnlyAddressed, Answer·Is, Answers, Comes, empty, add, remove, burst, InRange}
+use Rattle.line.proofs.Cases.{p-cases}
+use Rattle.image.specs.declared.Read.{Read}
+use Rattle.image.specs.Written.{sizeOf, outputOf}
+use Rattle.image.proofs.Lengths.{good-at}
+use Rattle.image.proofs.Sound.{read-formed}
+use Rattle.image.proofs.Order.{read-any-order, left-out}
+use Rattle.image.proofs.Back.{front-is-image, table-back}
+use Rattle.demands.specs.Demand2.{SetBy, OnlyAddressed, Answer·Is, Answers, Comes, empty, add, remove, image, burst, InRange, ReadsBack, AnyOrder, LeftOut, Cases}
 
 pub in-range : InRange
 in-range t empty = empty-formed
 in-range t (add c i g) = added-formed (in-range _ c) i g
 in-range t (remove c i) = removed-formed (in-range _ c) i
+in-range t (image bytes) = read-formed bytes
 in-range t (burst c b) = played-formed (in-range _ c) b
 
 -- one panel and a command: it stays, or values that are allowed are stored
@@ -73,12 +80,6 @@ module _ (b : List ℕ) (i : MonitorId) (g : GroupId) (n : ℕ) (e : verdictOf b
       go true r = set-by _ refl r
       go false r = inl refl
 
--- the panel at a place of a good wall is good
-good-at : (w : Wall) (k : ℕ) → GoodWall w → k < length w → GoodPanel (getD w k blank)
-good-at [] k good h = absurd (not-suc-le-zero h)
-good-at (p ∷ w) zero (g, a, good) h = g
-good-at (p ∷ w) (suc k) (g, a, good) h = good-at w k good (le-of-suc-le-suc h)
-
 by-verdict : (v : Verdict) (w : Wall) (b : List ℕ) (k : ℕ) → verdictOf b ≡ v → GoodWall w → k < length w
     → let p = getD w k blank in let q = getD (playedBy v w b .wall) k blank in (q ≡ p) ⊎ SetBy b p q
 by-verdict Empty w b k e good h = inl refl
@@ -86,7 +87,7 @@ by-verdict Damaged w b k e good h = inl refl
 by-verdict (Intact i g n) w b k e good h =
     let f = turned i g (command (dataOf b (Intact i g n))) in
     let at = getD-inside (map f w) k blank (f blank) (rw (length-map w f) h) ∙ List·getD-map f w k blank in
-    rw at (turned-by b i g n e (getD w k blank) (good-at w k good h))
+    rw at (turned-by b i g n e (getD w k blank) (good-at w good k h))
 
 pub only-addressed : OnlyAddressed
 unfolding played
@@ -133,3 +134,18 @@ answers w b = go (verdictOf b)
     go Empty = inl refl
     go Damaged = damaged-burst w b
     go (Intact i g n) = packet-answer w i _ (isHeard i g)
+
+-- The image.
+pub reads-back : ReadsBack
+reads-back t f out room =
+    let back = table-back f in
+    rw (front-is-image (panelsOf t) (f .good) out room) (ap (λ (r : Read). r .refusal) back, ap (λ (r : Read). r .table) back)
+
+pub any-order : AnyOrder
+any-order = read-any-order
+
+pub fields-left-out : LeftOut
+fields-left-out = left-out
+
+pub ten-cases : Cases
+ten-cases = p-cases

@@ -1,14 +1,15 @@
 -- Demand 3: a spoiled intact packet is damaged, and a damaged burst changes no panel. Assumes nothing.
-use Prim.Native.Nat.{ℕ, _≤_}
+use Prim.Native.Nat.{ℕ}
 use mathlib.Core.Bool.{Bool, true, false, cond, _&&_}
 use mathlib.Core.Logic.{_⊎_, inl, inr}
-use mathlib.Core.Path.{_≡_, refl, sym, ap, ap₂, subst, _∙_}
+use mathlib.Core.Path.{_≡_, refl, sym, ap, subst, _∙_}
 use mathlib.Core.List.{List, [], _∷_, _++_, map, append-assoc, append-nil}
 use lib.Dec.{leb, eqb}
 use lib.ListN.{length, getD}
 use Rattle.packet.specs.declared.MonitorId.{MonitorId}
-use Rattle.packet.specs.Packet.{monitorId, isIntact}
-use Rattle.packet.specs.Spoiled.{Spoiling, spoiled, Spoils}
+use Rattle.packet.specs.declared.Verdict.the-variants.{Damaged}
+use Rattle.packet.specs.Packet.{monitorId, verdictOf}
+use Rattle.packet.specs.Spoiled.{spoiled}
 use Rattle.packet.proofs.Spoiled.{spoiled-damaged}
 use Rattle.panels.specs.declared.Place.{Place}
 use Rattle.panels.specs.declared.Place.the-variants.{At, Nowhere}
@@ -19,7 +20,8 @@ use Rattle.line.specs.Played.{Outcome, nackTo, damagedReply, played}
 use Rattle.line.specs.Session.{Ended, session, Event, byte, quiet, burstsAfter, receiverOf, streamed}
 use Rattle.line.proofs.Bursts.{played-damaged}
 use Rattle.line.proofs.Streams.{stream-after}
-use Rattle.demands.specs.Demand3.{Item, whole, spoilt, sent, kept, SilenceOrNack, Answered, AsIfNeverSent, Demand3, onLine, Demand3·line}
+use Rattle.demands.specs.WrongBoxes.{byBurst}
+use Rattle.demands.specs.Demand3.{Item, whole, spoilt, sent, kept, SilenceOrNack, AsIfNeverSent, Withstands, Demand3, onLine, Demand3·line}
 
 nack-or-silent : (i : MonitorId) (q : Place) → SilenceOrNack (nackTo i q)
 nack-or-silent i Nowhere = inl refl
@@ -33,24 +35,40 @@ damaged-answer w b = go (leb 3 (length b) && eqb (getD b 2 0) 0)
     go true = nack-or-silent _ (placeOf _ w)
     go false = inl refl
 
--- a spoiled packet changes no panel
-spoiled-outcome : (w : Wall) (p : List ℕ) (s : Spoiling) → isIntact p ≡ true → Spoils s p
-    → played w (spoiled s p) ≡ record { wall = w; reply = damagedReply w (spoiled s p) }
-spoiled-outcome w p s i h = played-damaged w (spoiled s p) (spoiled-damaged s p i h)
+-- A box that takes each burst by itself withstands spoiled packets if no damaged burst changes its wall, and each gets what it may.
+module _ (May : Reply → Type 0) (rule : Wall → List ℕ → Outcome)
+    (still : (w : Wall) (b : List ℕ) → verdictOf b ≡ Damaged → rule w b .wall ≡ w)
+    (may : (w : Wall) (b : List ℕ) → verdictOf b ≡ Damaged → May (rule w b .reply)) where
+  -- a session after its first reply
+  abbrev then : Wall → Reply → List (List ℕ) → Ended
+  then w r bs = record { wall = byBurst rule w bs .wall; replies = r ∷ byBurst rule w bs .replies }
 
--- a session after its first outcome
-abbrev then : Outcome → List (List ℕ) → Ended
-then o bs = record { wall = session (o .wall) bs .wall; replies = o .reply ∷ session (o .wall) bs .replies }
+  pub withstands : Withstands May (byBurst rule)
+  unfolding byBurst
+  withstands w [] = (refl, tt)
+  withstands w (whole b ∷ items) = let ih = withstands (rule w b .wall) items in (ih .0, (refl, ih .1))
+  withstands w (spoilt p s i h ∷ items) =
+      let damaged = spoiled-damaged s p i h in
+      let ih = withstands w items in
+      subst (λ (v : Wall). AsIfNeverSent May (spoilt p s i h ∷ items) (then v (rule w (spoiled s p) .reply) (sent items)) (byBurst rule w (kept items)))
+      (sym (still w (spoiled s p) damaged))
+      (ih .0, (may w (spoiled s p) damaged, ih .1))
+
+pub damaged-still : (w : Wall) (b : List ℕ) → verdictOf b ≡ Damaged → played w b .wall ≡ w
+damaged-still w b d = ap (λ (o : Outcome). o .wall) (played-damaged w b d)
+
+pub damaged-may : (w : Wall) (b : List ℕ) → verdictOf b ≡ Damaged → SilenceOrNack (played w b .reply)
+damaged-may w b d = rw (played-damaged w b d) (damaged-answer w b)
+
+session-is : (w : Wall) (bs : List (List ℕ)) → byBurst played w bs ≡ session w bs
+unfolding byBurst session
+session-is w [] = refl
+session-is w (b ∷ bs) =
+    ap {B = Ended} (λ (e : Ended). record { wall = e .wall; replies = played w b .reply ∷ e .replies }) (session-is (played w b .wall) bs)
 
 pub demand3 : Demand3
-unfolding session
-demand3 w [] = (refl, tt)
-demand3 w (whole b ∷ items) = let ih = demand3 (played w b .wall) items in (ih .0, (refl, ih .1))
-demand3 w (spoilt p s i h ∷ items) =
-    let ih = demand3 w items in
-    subst (λ (o : Outcome). AsIfNeverSent (spoilt p s i h ∷ items) (then o (sent items)) (session w (kept items)))
-    (sym (spoiled-outcome w p s i h))
-    (ih .0, (damaged-answer w (spoiled s p), ih .1))
+demand3 w items =
+    rw (← session-is w (sent items), ← session-is w (kept items)) (withstands SilenceOrNack played damaged-still damaged-may w items)
 
 -- what is put on the line burst by burst is heard burst by burst
 heard : (l b : List ℕ) (es : List Event) → burstsAfter l (map byte b ++ quiet ∷ es) ≡ (l ++ b) ∷ burstsAfter [] es

@@ -1,12 +1,12 @@
 -- Demand 2. Each burst gets exactly the answer that 01 gives: that is `played`, to which `line::play` is proved equal. What
 -- it never does is said here.
-use Prim.Native.Nat.{ℕ, _<_}
+use Prim.Native.Nat.{ℕ, _<_, _≤_}
 use mathlib.Core.Bool.{true}
 use mathlib.Core.Logic.{_⊎_}
 use mathlib.Core.Path.{_≡_}
-use mathlib.Core.List.{List, [], _∷_}
-use lib.ListN.{length, getD}
-use Rattle.settings.specs.Settings.{getCode, allowedFor}
+use mathlib.Core.List.{List, [], _∷_, map}
+use lib.ListN.{length, getD, take}
+use Rattle.settings.specs.Settings.{setCode, getCode, allowedFor}
 use Rattle.packet.specs.declared.MonitorId.{MonitorId}
 use Rattle.packet.specs.declared.GroupId.{GroupId}
 use Rattle.packet.specs.declared.Control.{Control}
@@ -22,6 +22,13 @@ use Rattle.line.specs.Reply.{silence, wordFrom, reportFrom}
 use Rattle.line.specs.declared.Reply.{Reply}
 use Rattle.line.specs.Judged.{command, setOf}
 use Rattle.line.specs.Played.{played}
+use Rattle.line.specs.Cases.{Case, tried, cases}
+use Rattle.image.specs.declared.Refusal.the-variants.{Nothing as Sound}
+use Rattle.image.specs.Written.{sizeOf, outputOf}
+use Rattle.image.specs.Whole.{wholeRefusal, recordsIn}
+use Rattle.image.specs.Fields.{fieldsIn}
+use Rattle.image.specs.Read.{isSound, readOf, inTable}
+use Rattle.image.specs.Entries.{Entry, bytesOf, freshEntry, Without, AllReordered}
 
 -- a panel that a set changed: it was addressed, and only the row that the set code names is another, with allowed values
 pub record SetBy (b : List ℕ) (p q : Panel) : Type 0 where
@@ -56,12 +63,36 @@ Answer·Is w r =
 abbrev pub Answers : Type 0
 Answers = (w : Wall) (b : List ℕ) → Answer·Is w (played w b .reply)
 
--- tables come from the empty one by add, remove and bursts
+-- tables come from the empty one by add, remove and bursts, or from an image
 pub data Comes : Table → Type 0 where
   empty : Comes (tableOf [])
   add : {t : Table} → Comes t → (i : MonitorId) (g : GroupId) → Comes (tableOf (added (panelsOf t) i g))
   remove : {t : Table} → Comes t → (i : MonitorId) → Comes (tableOf (removed (panelsOf t) i))
+  image : (bytes : List ℕ) → Comes (inTable (readOf bytes) .table)
   burst : {t : Table} → Comes t → (b : List ℕ) → Comes (tableOf (played (panelsOf t) b .wall))
 
 abbrev pub InRange : Type 0
 InRange = (t : Table) → Comes t → WellFormed t
+
+-- A written setup reads back as the same table.
+abbrev pub ReadsBack : Type 0
+ReadsBack =
+    (t : Table) → WellFormed t → (out : List ℕ) → sizeOf (panelsOf t) ≤ length out
+    → let image = take (sizeOf (panelsOf t)) (outputOf (panelsOf t) out) in
+    (inTable (readOf image) .refusal ≡ Sound) × (inTable (readOf image) .table ≡ t)
+
+-- Fields go by code: in whatever order they stand, two images that are sound read as the same table; and a record without a
+-- field reads as with that field at its fresh value.
+abbrev pub AnyOrder : Type 0
+AnyOrder =
+    (image other : List ℕ) → isSound (wholeRefusal other) ≡ true → AllReordered (recordsIn image) (recordsIn other)
+    → readOf image .refusal ≡ Sound → readOf other ≡ readOf image
+
+abbrev pub LeftOut : Type 0
+LeftOut =
+    (row : ℕ) (es : List Entry) → row < 8 → Without (setCode row) es → fieldsIn (bytesOf es) .refusal ≡ Sound
+    → fieldsIn (bytesOf (freshEntry row ∷ es)) ≡ fieldsIn (bytesOf es)
+
+-- the ten P cases of 01
+abbrev pub Cases : Type 0
+Cases = map (λ (c : Case). tried (c .burst)) cases ≡ cases

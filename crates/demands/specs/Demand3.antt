@@ -34,21 +34,28 @@ kept (spoilt p s i h ∷ items) = kept items
 abbrev pub SilenceOrNack : Reply → Type 0
 SilenceOrNack r = (r ≡ silence) ⊎ ((i : MonitorId) × (r ≡ wordFrom i Nack))
 
--- the replies to what arrived, item by item, are the replies to what was kept; a spoiled packet gets silence or NACK
-abbrev pub Answered : List Item → List Reply → List Reply → Type 0
-Answered [] [] [] = Unit {0}
-Answered [] [] (k ∷ ks) = ⊥
-Answered [] (r ∷ rs) ks = ⊥
-Answered (item ∷ items) [] ks = ⊥
-Answered (whole b ∷ items) (r ∷ rs) [] = ⊥
-Answered (whole b ∷ items) (r ∷ rs) (k ∷ ks) = (r ≡ k) × Answered items rs ks
-Answered (spoilt p s i h ∷ items) (r ∷ rs) ks = SilenceOrNack r × Answered items rs ks
+-- the replies to what arrived, item by item, are the replies to what was kept; a spoiled packet gets what it may
+abbrev pub Answered : (Reply → Type 0) → List Item → List Reply → List Reply → Type 0
+Answered May [] [] [] = Unit {0}
+Answered May [] [] (k ∷ ks) = ⊥
+Answered May [] (r ∷ rs) ks = ⊥
+Answered May (item ∷ items) [] ks = ⊥
+Answered May (whole b ∷ items) (r ∷ rs) [] = ⊥
+Answered May (whole b ∷ items) (r ∷ rs) (k ∷ ks) = (r ≡ k) × Answered May items rs ks
+Answered May (spoilt p s i h ∷ items) (r ∷ rs) ks = May r × Answered May items rs ks
 
-abbrev pub AsIfNeverSent : List Item → Ended → Ended → Type 0
-AsIfNeverSent items e f = (e .wall ≡ f .wall) × Answered items (e .replies) (f .replies)
+abbrev pub AsIfNeverSent : (Reply → Type 0) → List Item → Ended → Ended → Type 0
+AsIfNeverSent May items e f = (e .wall ≡ f .wall) × Answered May items (e .replies) (f .replies)
+
+-- of a box, which is a behaviour over sessions; ours is `session`
+abbrev pub Box : Type 0
+Box = Wall → List (List ℕ) → Ended
+
+abbrev pub Withstands : (Reply → Type 0) → Box → Type 0
+Withstands May box = (w : Wall) (items : List Item) → AsIfNeverSent May items (box w (sent items)) (box w (kept items))
 
 abbrev pub Demand3 : Type 0
-Demand3 = (w : Wall) (items : List Item) → AsIfNeverSent items (session w (sent items)) (session w (kept items))
+Demand3 = Withstands SilenceOrNack session
 
 -- the same through the receiver: the bytes of each burst, and a quiet mark behind them
 abbrev pub onLine : List (List ℕ) → List Event
@@ -56,6 +63,4 @@ onLine [] = []
 onLine (b ∷ bs) = map byte b ++ quiet ∷ onLine bs
 
 abbrev pub Demand3·line : Type 0
-Demand3·line =
-    (w : Wall) (items : List Item)
-    → AsIfNeverSent items (streamed (receiverOf []) w (onLine (sent items))) (streamed (receiverOf []) w (onLine (kept items)))
+Demand3·line = Withstands SilenceOrNack (λ w bursts. streamed (receiverOf []) w (onLine bursts))

@@ -19,7 +19,7 @@ use Rattle.host.specs.declared.Said.{Said}
 use Rattle.host.specs.declared.Said.the-variants.{Ack, Nack, Nav, Report, Nothing}
 use Rattle.host.specs.Request.{requestData, requestPacket, isDue, isRequest}
 use Rattle.host.specs.Heard.{saidTo, dataIn}
-use Rattle.host.specs.Machine.{Happening, start, burst, mark, State, Move, idle, sendings, waits, begun, again, ending, heard, step, run}
+use Rattle.host.specs.Machine.{Happening, start, burst, mark, State, Move, idle, sendings, mostSendings, waits, begun, again, ending, heard, step, run}
 use Rattle.host.specs.Lasting.{after, lasts, isNack, pushes, pushed, packets, countIn}
 
 both : (a b : Bool) → (a && b) ≡ true → (a ≡ true) × (b ≡ true)
@@ -46,10 +46,10 @@ pub record Goes (s : State) (k : ℕ) (m : Move) : Type 0 where
 
 pushed-on : (s : State) → Ends s (again s) ⊎ Goes s 1 (again s)
 unfolding again
-pushed-on s = go (ltb (sendings s) 3) refl
+pushed-on s = go (ltb (sendings s) mostSendings) refl
   where
-    go : (t : Bool) → ltb (sendings s) 3 ≡ t → Ends s (again s) ⊎ Goes s 1 (again s)
-    go true e = inr (record { next = rw e; sent = rw e; few = λ h. omega (arith, ltb-true (sendings s) 3 e) })
+    go : (t : Bool) → ltb (sendings s) mostSendings ≡ t → Ends s (again s) ⊎ Goes s 1 (again s)
+    go true e = inr (record { next = rw e; sent = rw e; few = λ h. omega (arith, ltb-true (sendings s) mostSendings e) })
     go false e = inl (record { over = rw e; none = rw e; count = rw e })
 
 told : (s : State) (d : List ℕ) (w : Said) → Ends s (ending s d w) ⊎ Goes s (isNack w) (ending s d w)

@@ -9,7 +9,7 @@ use Rattle.host.specs.declared.Said.{Said}
 use Rattle.host.specs.declared.Said.the-variants.{Ack, Nack, Nav, Report, Nothing}
 use Rattle.host.specs.Request.{requestPacket, isDue, isRequest}
 use Rattle.host.specs.Heard.{saidTo, dataIn}
-use Rattle.host.specs.Machine.{Happening, start, burst, mark, State, Move, idle, sendings, waits, begun, again, ending, heard, step, run}
+use Rattle.host.specs.Machine.{Happening, start, burst, mark, State, Move, idle, sendings, mostSendings, waits, begun, again, ending, heard, step, run}
 use Rattle.host.specs.Calls.{nothingWaits, hostOf, stateOf, stepOf}
 use Rattle.host.specs.Lasting.{calls}
 
@@ -26,7 +26,7 @@ either false f g = g
 
 again-alike : (s : State) → Alike s → Next (again s)
 unfolding again
-again-alike s a = either (ltb (sendings s) 3) (record { alike = ap (λ g. requestPacket (s .request) ∷ g) a }) (record { alike = refl })
+again-alike s a = either (ltb (sendings s) mostSendings) (record { alike = ap (λ g. requestPacket (s .request) ∷ g) a }) (record { alike = refl })
 
 told-alike : (s : State) (d : List ℕ) (w : Said) → Alike s → Next (ending s d w)
 unfolding ending

@@ -58,6 +58,10 @@ plainStep h n o = record { host = h; length = n; outcome = o; values = replicate
 abbrev pub Answers : Move → List ℕ → Step → List ℕ → Type 0
 Answers m out r out' = (r ≡ stepOf m) × (out' ≡ laidOver (bytesOf m) out)
 
--- an output of under 40 bytes is refused first; then it is the machine's step
+-- the room that any packet needs
+abbrev pub packetRoom : ℕ
+packetRoom = 40
+
+-- an output with less is refused first; then it is the machine's step
 unfoldable pub call : List ℕ → State → Happening → Move
-call out s h = cond (leb 40 (length out)) (step s h) (quiet s (Refused NoRoom))
+call out s h = cond (leb packetRoom (length out)) (step s h) (quiet s (Refused NoRoom))

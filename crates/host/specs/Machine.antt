@@ -46,6 +46,10 @@ sendings s = length (s .given)
 abbrev pub waits : State → Bool
 waits s = ltb 0 (sendings s)
 
+-- a packet is sent at most so often
+abbrev pub mostSendings : ℕ
+mostSendings = 3
+
 -- nothing is given out and nothing changes
 abbrev pub quiet : State → Outcome → Move
 quiet s o = record { next = s; sent = []; outcome = o; values = [] }
@@ -66,7 +70,7 @@ begun r =
 unfoldable pub again : State → Move
 again s =
     let p = requestPacket (s .request) in
-    cond (ltb (sendings s) 3)
+    cond (ltb (sendings s) mostSendings)
     (record { next = record { request = s .request; given = p ∷ s .given }; sent = p ∷ []; outcome = Waiting; values = [] })
     (over (GivenUp (sendings s)) [])
 

@@ -90,6 +90,16 @@ module _ (row : ℕ) (vs : List ℕ) (p : Panel) (ok : allowedFor row vs ≡ tru
   unfolding stored
   stored-full = rw (← n) (length-laid (p .values) vs (place row) fits ∙ full)
 
+  -- storing the same once more changes nothing
+  pub stored-twice : stored row vs (stored row vs p) ≡ stored row vs p
+  unfolding stored
+  stored-twice =
+      let a = place row in
+      let v = stored row vs p .values in
+      let front : take a v ≡ take a (p .values) = rw (← n) (before (p .values) vs a fits 0 a (omega arith)) in
+      let back : drop (a + byteCount row) v ≡ drop (a + byteCount row) (p .values) = rw (← n) (behind (p .values) vs a fits (a + length vs) (omega arith)) in
+      rw (front, back)
+
 -- a good panel with allowed values stored in a row is good
 stored-good : (row : ℕ) (vs : List ℕ) (p : Panel) → allowedFor row vs ≡ true → GoodPanel p → GoodPanel (stored row vs p)
 unfolding stored

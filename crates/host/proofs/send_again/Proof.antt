@@ -8,18 +8,18 @@ use borrow.Author.Tests.{lt-ltb, le-ltb}
 use lib.ListN.{length-replicate}
 use Rattle.host.specs.declared.Host.{Host}
 use Rattle.host.specs.declared.Outcome.the-variants.{Waiting, GivenUp}
-use Rattle.host.specs.Machine.{over, again}
+use Rattle.host.specs.Machine.{mostSendings, over, again}
 use Rattle.host.specs.Request.{requestPacket}
 use Rattle.host.specs.Calls.{stateOf}
 use Rattle.host.proofs.Answers.{ends, gives}
 use Rattle.host.proofs.send_again.Statement.{statement}
 use Rattle.host.proofs.send_again.Tie as tie
 
-gives-up : (h : Host) → 3 ≤ h .sendings → again (stateOf h) ≡ over (GivenUp (h .sendings)) []
+gives-up : (h : Host) → mostSendings ≤ h .sendings → again (stateOf h) ≡ over (GivenUp (h .sendings)) []
 unfolding again
 gives-up h e = rw (length-replicate, le-ltb _ _ e)
 
-sends : (h : Host) → h .sendings < 3
+sends : (h : Host) → h .sendings < mostSendings
     → let p = requestPacket (h .request) in
     again (stateOf h) ≡ record { next = record { request = h .request; given = p ∷ stateOf h .given }; sent = p ∷ []; outcome = Waiting; values = [] }
 unfolding again

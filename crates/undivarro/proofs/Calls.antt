@@ -1,0 +1,114 @@
+-- What the parts of a call leave together. Assumes nothing.
+use mathlib.Core.Path.{_≡_, refl, sym, ap, ap₂, subst, _∙_}
+use mathlib.Core.Bool.{Bool, true, false, cond, _&&_}
+use mathlib.Core.List.{List, []}
+use Prim.Native.Nat.{ℕ, _+_, _*_, _≤_}
+use native.Mathlib.Omega.{arith}
+use borrow.Author.Tests.{eq-eqb, ne-eqb, eqb-false, leb-true}
+use lib.Dec.{leb}
+use lib.ListN.{length, length-map}
+use Rattle.packet.specs.declared.Verdict.{Verdict}
+use Rattle.packet.specs.declared.Verdict.the-variants.{Empty, Damaged, Intact}
+use Rattle.packet.specs.Packet.{verdictOf, dataOf}
+use Rattle.panels.specs.Wall.{Wall, tableOf, panelsOf}
+use Rattle.panels.specs.WellFormed.{WellFormed}
+use Rattle.panels.proofs.Laws.{panels-of-table}
+use Rattle.line.specs.declared.Reply.{Reply}
+use Rattle.line.specs.declared.Played.{Played}
+use Rattle.line.specs.Reply.{sentBytes}
+use Rattle.line.specs.Judged.{command}
+use Rattle.line.specs.Played.{turned, playedBy, played}
+use Rattle.line.specs.Played as line
+use Rattle.line.proofs.Formed.{played-formed}
+use Rattle.image.specs.declared.Refusal.{Refusal}
+use Rattle.image.specs.declared.Read.{Read}
+use Rattle.image.specs.Written.{sizeOf}
+use Rattle.image.specs.Read.{isSound, readRefusalOf, readOf, inTable}
+use Rattle.image.proofs.Edges.{both}
+use Rattle.image.proofs.Sound.{read-formed}
+use Rattle.undivarro.specs.Calls.{refused, given, setupOf, refusalFor, afterPlay, afterRead}
+
+-- where nothing is refused there is room
+room-there : (read : Refusal) (room : Bool) → refusalFor read room ≡ 0 → room ≡ true
+unfolding refusalFor
+room-there read room e = go (isSound read) refl room e
+  where
+    go : (t : Bool) → isSound read ≡ t → (b : Bool) → cond t (cond b 0 19) (readRefusalOf read) ≡ 0 → b ≡ true
+    go true s true e = refl
+    go true s false e = absurd (omega arith)
+    go false s b e = absurd (eqb-false _ 0 s e)
+
+-- What was read, and the test of the room.
+module _ (image : List ℕ) (read : Read) (is-read : read ≡ inTable (readOf image)) where
+  pub formed-read : WellFormed (read .table)
+  formed-read = subst WellFormed (sym (ap (λ (r : Read). r .table) is-read)) (read-formed image)
+
+  pub wall-read : panelsOf (read .table) ≡ readOf image .wall
+  wall-read = ap (λ (r : Read). panelsOf (r .table)) is-read ∙ panels-of-table (readOf image .wall)
+
+  count-read : read .table .count ≡ length (readOf image .wall)
+  unfolding tableOf
+  count-read = ap (λ (r : Read). r .table .count) is-read
+
+  module _ (answer out : ℕ) (room : Bool) (is-room : room ≡ (leb 40 answer && leb (35 * read .table .count + 2) out)) (n : ℕ) (is-refusal : n ≡ refusalFor (read .refusal) room) where
+    pub refusal-is : n ≡ refusalFor (readOf image .refusal) (leb 40 answer && leb (sizeOf (readOf image .wall)) out)
+    refusal-is =
+        is-refusal
+        ∙ ap₂ refusalFor (ap (λ (r : Read). r .refusal) is-read) (is-room ∙ ap (λ (k : ℕ). leb 40 answer && leb (35 * k + 2) out) count-read)
+
+    pub enough : n ≡ 0 → (40 ≤ answer) × (sizeOf (readOf image .wall) ≤ out)
+    enough z =
+        let (a, b) = both _ _ (room-there (readOf image .refusal) _ (sym refusal-is ∙ z)) in
+        (leb-true _ _ a, leb-true _ _ b)
+
+-- a burst leaves as many panels as there were
+by-verdict-count : (v : Verdict) (w : Wall) (b : List ℕ) → length (playedBy v w b .wall) ≡ length w
+by-verdict-count Empty w b = refl
+by-verdict-count Damaged w b = refl
+by-verdict-count (Intact i g n) w b = length-map w (turned i g (command (dataOf b (Intact i g n))))
+
+played-count : (w : Wall) (b : List ℕ) → length (played w b .wall) ≡ length w
+unfolding played
+played-count w b = by-verdict-count (verdictOf b) w b
+
+-- What was played on it.
+module _ (image burst : List ℕ) (read : Read) (is-read : read ≡ inTable (readOf image)) (p : Played)
+    (is-played : p ≡ line.inTable (played (panelsOf (read .table)) burst)) where
+  pub formed-played : WellFormed (p .table)
+  formed-played = subst WellFormed (sym (ap (λ (q : Played). q .table) is-played)) (played-formed (formed-read image read is-read) burst)
+
+  same-played : p ≡ line.inTable (played (readOf image .wall) burst)
+  same-played = is-played ∙ ap (λ (w : Wall). line.inTable (played w burst)) (wall-read image read is-read)
+
+  wall-played : panelsOf (p .table) ≡ played (readOf image .wall) burst .wall
+  wall-played = ap (λ (q : Played). panelsOf (q .table)) same-played ∙ panels-of-table _
+
+  pub size-played : sizeOf (panelsOf (p .table)) ≡ sizeOf (readOf image .wall)
+  size-played = ap (λ (k : ℕ). 35 * k + 2) (ap length wall-played ∙ played-count (readOf image .wall) burst)
+
+  pub given-played : (answer out : List ℕ)
+      → given (sentBytes (p .reply)) (setupOf (panelsOf (p .table))) answer out
+      ≡ given (sentBytes (played (readOf image .wall) burst .reply)) (setupOf (played (readOf image .wall) burst .wall)) answer out
+  given-played answer out =
+      ap₂ (λ (r : Reply) (w : Wall). given (sentBytes r) (setupOf w) answer out) (ap (λ (q : Played). q .reply) same-played) wall-played
+
+-- Both ends of each call.
+module _ (image burst answer out : List ℕ) (n : ℕ)
+    (is : n ≡ refusalFor (readOf image .refusal) (leb 40 (length answer) && leb (sizeOf (readOf image .wall)) (length out))) where
+  pub play-refused : (n ≡ 0 → ⊥) → refused n answer out ≡ afterPlay image burst answer out
+  unfolding afterPlay
+  play-refused h = sym (rw (sym is, ne-eqb n 0 h))
+
+  pub play-given : n ≡ 0
+      → given (sentBytes (played (readOf image .wall) burst .reply)) (setupOf (played (readOf image .wall) burst .wall)) answer out ≡ afterPlay image burst answer out
+  unfolding afterPlay
+  play-given z = sym (rw (sym is, eq-eqb n 0 z))
+
+module _ (image out : List ℕ) (n : ℕ) (is : n ≡ refusalFor (readOf image .refusal) (leb (sizeOf (readOf image .wall)) (length out))) where
+  pub read-refused : (n ≡ 0 → ⊥) → refused n [] out ≡ afterRead image out
+  unfolding afterRead
+  read-refused h = sym (rw (sym is, ne-eqb n 0 h))
+
+  pub read-given : n ≡ 0 → given [] (setupOf (readOf image .wall)) [] out ≡ afterRead image out
+  unfolding afterRead
+  read-given z = sym (rw (sym is, eq-eqb n 0 z))

@@ -1,0 +1,25 @@
+-- How long an answer is at most. Assumes nothing.
+use mathlib.Core.Path.{_≡_}
+use Prim.Native.Nat.{_≤_}
+use native.Mathlib.Omega.{arith}
+use lib.ListN.{length, take, length-take}
+use Rattle.packet.specs.Packet.{groupId}
+use Rattle.packet.specs.Control.{controlData}
+use Rattle.packet.proofs.Packets.{packet-length}
+use Rattle.line.specs.declared.Answer.{Answer}
+use Rattle.line.specs.declared.Answer.the-variants.{Silence, Word, Report}
+use Rattle.line.specs.declared.Reply.{Reply}
+use Rattle.line.specs.Reply.{sentBy, sentBytes}
+
+-- a report has at most 8 data bytes
+pub sent-few : (r : Reply) → length (r .bytes) ≡ 8 → length (sentBytes r) ≤ 12
+unfolding sentBytes
+sent-few r n = go (r .answer)
+  where
+    go : (a : Answer) → length (sentBy a (r .id) (take (r .count) (r .bytes))) ≤ 12
+    go Silence = omega arith
+    go (Word c) = omega (arith, packet-length (r .id) (groupId 0) (controlData c) (omega arith))
+    go Report =
+        let d = take (r .count) (r .bytes) in
+        let few : length d ≤ 8 = simp length-take (omega arith) in
+        omega (arith, packet-length (r .id) (groupId 0) d (omega arith))

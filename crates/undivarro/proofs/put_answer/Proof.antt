@@ -1,0 +1,75 @@
+-- There is room, so the answer is written; its length is small. Assumes nothing.
+use mathlib.Core.Path.{_≡_, sym, ap, _∙_}
+use mathlib.Core.List.{List}
+use Prim.Native.Nat.{ℕ, _≤_}
+use native.Mathlib.Omega.{arith}
+use borrow.Author.Tests.{le-leb}
+use lib.ListN.{length}
+use Rattle.packet.specs.Packet.{laidOver}
+use Rattle.line.specs.declared.Reply.{Reply}
+use Rattle.line.specs.declared.Sent.{Sent}
+use Rattle.line.specs.declared.Sent.the-variants.{Bytes, NoRoom}
+use Rattle.line.specs.Reply.{sentBytes, sentOf, outputOf}
+use Rattle.undivarro.proofs.Lengths.{sent-few}
+use borrow.Author.Needs.{needs}
+use Rattle.undivarro.proofs.put_answer.Statement.{statement}
+use Rattle.undivarro.proofs.put_answer.Tie as tie
+
+-- the number that the match makes of it
+abbrev number-of : Sent → ℕ
+number-of (Bytes n) = n
+number-of NoRoom = 0
+
+fits : (out : List ℕ) (r : Reply) → 40 ≤ length out → (sentOf out r ≡ Bytes (length (sentBytes r))) × (outputOf out r ≡ laidOver (sentBytes r) out)
+unfolding sentOf outputOf
+fits out r h = (simp (le-leb _ _ h), simp (le-leb _ _ h))
+
+-- what was sent, whatever the match told
+sent : (c : tie.After-write-answer) (s : Sent) → c .write-answer .result ≡ s
+    → let a = c .before .before .before .args in
+    (number-of s ≡ length (sentBytes (a .reply))) × (c .write-answer .last .1 .0 ≡ laidOver (sentBytes (a .reply)) (a .out .now))
+sent c s e =
+    let start = c .before .before .before in
+    let f = fits _ (start .args .reply) (start .pre) in
+    (ap number-of (sym e ∙ c .write-answer .ensures .0 ∙ f .0), c .write-answer .ensures .1 ∙ f .1)
+
+write-answer-requires : tie.Need-write-answer-requires
+write-answer-requires c κs = search needs
+
+enum-known-sent : tie.Need-enum-known-sent
+enum-known-sent c = search needs
+
+cast-result : tie.Need-cast-result
+cast-result c =
+    let call = c .before .before .before .before .before in
+    let reply = call .before .before .before .args .reply in
+    let n : length (reply .bytes) ≡ 8 = search needs in
+    omega (arith, sent-few reply n, sent call _ (c .before .sent .given .1) .0)
+
+enum-told : tie.Need-enum-told
+enum-told c = search needs
+
+same-length : tie.Need-same-length
+same-length c = search needs
+
+returns : tie.Need-returns
+returns c = sent (c .before .before .before .before .before) _ (c .before .sent .given .1)
+
+same-length-2 : tie.Need-same-length-2
+same-length-2 c = search needs
+
+returns-2 : tie.Need-returns-2
+returns-2 c = sent (c .before .before .before .before) _ (c .enum-told .given .1)
+
+pub put-answer-spec : {M : Type 1} → statement M
+put-answer-spec =
+    tie.close
+    (tie.spec
+    write-answer-requires
+    enum-known-sent
+    cast-result
+    enum-told
+    same-length
+    returns
+    same-length-2
+    returns-2)

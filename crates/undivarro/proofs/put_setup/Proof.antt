@@ -1,0 +1,77 @@
+-- There is room, so the image is written; it has at most 1,122 bytes. Assumes nothing.
+use mathlib.Core.Path.{_≡_, sym, ap, _∙_}
+use mathlib.Core.List.{List}
+use Prim.Native.Nat.{ℕ, _≤_}
+use native.Mathlib.Omega.{arith}
+use borrow.Author.Tests.{le-leb}
+use lib.ListN.{length}
+use Rattle.packet.specs.Packet.{laidOver}
+use Rattle.panels.specs.Wall.{Wall, panelsOf}
+use Rattle.image.specs.declared.Written.{Written}
+use Rattle.image.specs.declared.Written.the-variants.{Bytes, NoRoom}
+use Rattle.image.specs.Written.{sizeOf, writtenOf, outputOf}
+use Rattle.image.proofs.Back.{image-size}
+use Rattle.undivarro.specs.Calls.{setupOf}
+use borrow.Author.Needs.{needs}
+use Rattle.undivarro.proofs.put_setup.Statement.{statement}
+use Rattle.undivarro.proofs.put_setup.Tie as tie
+
+-- the number that the match makes of it
+abbrev number-of : Written → ℕ
+number-of (Bytes n) = n
+number-of NoRoom = 0
+
+fits : (w : Wall) (out : List ℕ) → sizeOf w ≤ length out → (writtenOf w out ≡ Bytes (sizeOf w)) × (outputOf w out ≡ laidOver (setupOf w) out)
+unfolding writtenOf outputOf
+fits w out h = (simp (le-leb _ _ h), simp (le-leb _ _ h))
+
+-- what was written, whatever the match told
+laid : (c : tie.After-write-image) (s : Written) → c .write-image .result ≡ s
+    → let a = c .before .before .before .args in
+    (number-of s ≡ length (setupOf (panelsOf (a .t)))) × (c .write-image .last .1 .0 ≡ laidOver (setupOf (panelsOf (a .t))) (a .out .now))
+laid c s e =
+    let start = c .before .before .before in
+    let w = panelsOf (start .args .t) in
+    let f = fits w _ (start .pre .1) in
+    (ap number-of (sym e ∙ c .write-image .ensures .0 ∙ f .0) ∙ sym (image-size w (start .pre .0 .good)), c .write-image .ensures .1 ∙ f .1)
+
+write-image-requires : tie.Need-write-image-requires
+write-image-requires c κs = search needs
+
+enum-known-written : tie.Need-enum-known-written
+enum-known-written c = search needs
+
+cast-result : tie.Need-cast-result
+cast-result c =
+    let call = c .before .before .before .before .before in
+    let start = call .before .before .before in
+    let w = panelsOf (start .args .t) in
+    omega (arith, image-size w (start .pre .0 .good), start .pre .0 .few, laid call _ (c .before .written .given .1) .0)
+
+enum-told : tie.Need-enum-told
+enum-told c = search needs
+
+same-length : tie.Need-same-length
+same-length c = search needs
+
+returns : tie.Need-returns
+returns c = laid (c .before .before .before .before .before) _ (c .before .written .given .1)
+
+same-length-2 : tie.Need-same-length-2
+same-length-2 c = search needs
+
+returns-2 : tie.Need-returns-2
+returns-2 c = laid (c .before .before .before .before) _ (c .enum-told .given .1)
+
+pub put-setup-spec : {M : Type 1} → statement M
+put-setup-spec =
+    tie.close
+    (tie.spec
+    write-image-requires
+    enum-known-written
+    cast-result
+    enum-told
+    same-length
+    returns
+    same-length-2
+    returns-2)

@@ -1,0 +1,39 @@
+-- The number of what was read is 0 where it is sound. Assumes nothing.
+use mathlib.Core.Path.{_≡_, sym, _∙_}
+use mathlib.Core.Bool.{true}
+use borrow.Author.Tests.{eq-eqb, ne-eqb}
+use Rattle.image.specs.Read.{isSound}
+use Rattle.undivarro.specs.Calls.{refusalFor}
+use borrow.Author.Needs.{needs}
+use Rattle.undivarro.proofs.refusal_for.Statement.{statement}
+use Rattle.undivarro.proofs.refusal_for.Tie as tie
+
+refusal-number-requires : tie.Need-refusal-number-requires
+refusal-number-requires c κs = search needs
+
+cast-result : tie.Need-cast-result
+cast-result c = search needs
+
+returns : tie.Need-returns
+unfolding refusalFor
+returns c =
+    let call = c .before in
+    let e = call .refusal-number .ensures in
+    let no = ne-eqb _ 0 (λ z. c .if1 .taken (e ∙ z)) in
+    e ∙ sym (rw no)
+
+-- past the first test it is sound
+sound : (c : tie.Else1) → isSound (c .before .before .args .read) ≡ true
+sound c = eq-eqb _ 0 (sym (c .before .refusal-number .ensures) ∙ c .if1 .left)
+
+returns-2 : tie.Need-returns-2
+unfolding refusalFor
+returns-2 c = sym (rw (sound (c .before), c .if2 .taken))
+
+returns-3 : tie.Need-returns-3
+unfolding refusalFor
+returns-3 c = sym (rw (sound (c .before), c .if2 .left))
+
+pub refusal-for-spec : {M : Type 1} → statement M
+refusal-for-spec =
+    tie.close (tie.spec refusal-number-requires cast-result returns returns-2 returns-3)

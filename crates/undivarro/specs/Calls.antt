@@ -1,0 +1,54 @@
+-- What a call from C leaves: three numbers, and every byte of both buffers. 01, "For C".
+use Prim.Native.Nat.{ℕ}
+use mathlib.Core.Bool.{Bool, cond, _&&_}
+use mathlib.Core.List.{List, []}
+use lib.Dec.{leb, eqb}
+use lib.ListN.{length}
+use Rattle.packet.specs.Packet.{laidOver}
+use Rattle.panels.specs.Wall.{Wall}
+use Rattle.line.specs.Reply.{sentBytes}
+use Rattle.line.specs.Played.{played}
+use Rattle.image.specs.declared.Refusal.{Refusal}
+use Rattle.image.specs.Written.{recordsOf, imageOf, sizeOf}
+use Rattle.image.specs.Read.{isSound, readRefusalOf, readOf}
+use Rattle.undivarro.specs.declared.Outcome.{Outcome}
+
+pub record After : Type 0 where
+  pub outcome : Outcome
+  pub answer : List ℕ
+  pub out : List ℕ
+
+-- both lengths 0, both buffers as before
+abbrev pub refused : ℕ → List ℕ → List ℕ → After
+refused number answer out = record { outcome = record { refusal = number; answered = 0; written = 0 }; answer = answer; out = out }
+
+-- an answer and an image at the front of the buffers, and their lengths; the bytes past them are untouched
+abbrev pub given : List ℕ → List ℕ → List ℕ → List ℕ → After
+given sent setup answer out = record {
+  outcome = record { refusal = 0; answered = length sent; written = length setup };
+  answer = laidOver sent answer;
+  out = laidOver setup out;
+}
+
+-- the image of a wall
+abbrev pub setupOf : Wall → List ℕ
+setupOf w = imageOf (recordsOf w)
+
+-- reading faults are 11 to 18; then 19 where there is no room
+unfoldable pub refusalFor : Refusal → Bool → ℕ
+refusalFor read room = cond (isSound read) (cond room 0 19) (readRefusalOf read)
+
+-- the answer has room from 40 bytes on, and the image where the buffer has 35n + 2
+unfoldable pub afterPlay : List ℕ → List ℕ → List ℕ → List ℕ → After
+afterPlay image burst answer out =
+    let r = readOf image in
+    let o = played (r .wall) burst in
+    let n = refusalFor (r .refusal) (leb 40 (length answer) && leb (sizeOf (r .wall)) (length out)) in
+    cond (eqb n 0) (given (sentBytes (o .reply)) (setupOf (o .wall)) answer out) (refused n answer out)
+
+-- no burst, and no buffer for an answer
+unfoldable pub afterRead : List ℕ → List ℕ → After
+afterRead image out =
+    let r = readOf image in
+    let n = refusalFor (r .refusal) (leb (sizeOf (r .wall)) (length out)) in
+    cond (eqb n 0) (given [] (setupOf (r .wall)) [] out) (refused n [] out)

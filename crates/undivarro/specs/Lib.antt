@@ -1,0 +1,2 @@
+-- What the exported functions leave.
+pub mod Calls

@@ -1,0 +1,186 @@
+/* Guest instructions per call, the proved box and the plain one, on a wall of 32 panels. Runs under qemu-x86_64 with the
+ * counting plugin: make bench. */
+#define _GNU_SOURCE
+
+#include <fcntl.h>
+#include <inttypes.h>
+#include <stdbool.h>
+#include <stdio.h>
+#include <stdlib.h>
+#include <string.h>
+#include <unistd.h>
+
+#include "count.h"
+#include "plain.h"
+
+enum { PANELS = UNDIVARRO_MAX_PANELS };
+
+typedef struct undivarro_result play_function(const uint8_t *, size_t, const uint8_t *, size_t, uint8_t *, size_t, uint8_t *,
+                                              size_t);
+typedef struct undivarro_result read_function(const uint8_t *, size_t, uint8_t *, size_t);
+
+static int count_from, count_to;        /* the pipe through which the counts come */
+
+static uint64_t count_now(void)
+{
+    uint64_t count;
+    syscall(ASK_FOR_COUNT, count_to);
+    if (read(count_from, &count, sizeof count) != sizeof count) {
+        fputs("bench: nothing counts here; run it with make bench\n", stderr);
+        exit(2);
+    }
+    return count;
+}
+
+/* A call that does nothing: what stands around each call is counted with it and taken off. */
+static struct undivarro_result no_play(const uint8_t *image, size_t image_len, const uint8_t *burst, size_t burst_len,
+                                       uint8_t *answer, size_t answer_cap, uint8_t *out, size_t out_cap)
+{
+    (void)image, (void)image_len, (void)burst, (void)burst_len, (void)answer, (void)answer_cap, (void)out, (void)out_cap;
+    return (struct undivarro_result){0};
+}
+
+static struct undivarro_result no_read(const uint8_t *image, size_t image_len, uint8_t *out, size_t out_cap)
+{
+    (void)image, (void)image_len, (void)out, (void)out_cap;
+    return (struct undivarro_result){0};
+}
+
+struct outcome {
+    struct undivarro_result result;
+    uint8_t answer[UNDIVARRO_ANSWER_CAP], out[UNDIVARRO_IMAGE_CAP];
+};
+
+static uint8_t image[UNDIVARRO_IMAGE_CAP];
+static size_t image_len;
+
+/* noipa: one piece of code for all, so that what stands around a call is the same for each. */
+__attribute__((noipa)) static uint64_t count_play(play_function *function, const uint8_t *burst, size_t len, struct outcome *o)
+{
+    uint64_t before = count_now();
+    o->result = function(image, image_len, burst, len, o->answer, sizeof o->answer, o->out, sizeof o->out);
+    return count_now() - before;
+}
+
+__attribute__((noipa)) static uint64_t count_read(read_function *function, struct outcome *o)
+{
+    uint64_t before = count_now();
+    o->result = function(image, image_len, o->out, sizeof o->out);
+    return count_now() - before;
+}
+
+static void check_same(const char *what, const struct outcome *proved, const struct outcome *plain)
+{
+    if (memcmp(proved, plain, sizeof *proved) != 0 || proved->result.refusal != 0) {
+        fprintf(stderr, "bench: %s: the two differ, or refuse; run make rig-test\n", what);
+        exit(1);
+    }
+}
+
+struct cost {
+    uint64_t proved, plain;
+};
+
+static void print_head(const char *what)
+{
+    printf("| %s | proved | plain | proved / plain |\n|---|---|---|---|\n", what);
+}
+
+static void print_row(const char *what, struct cost cost)
+{
+    printf("| %s | %" PRIu64 " | %" PRIu64 " | %.2f |\n", what, cost.proved, cost.plain, (double)cost.proved / (double)cost.plain);
+}
+
+struct trial {
+    const char *what;
+    const uint8_t *form;
+    size_t len;
+    bool to_all;
+    uint8_t spoil;
+};
+
+static const uint8_t get_power[] = {0, 0, 0, 0x19, 0};
+static const uint8_t set_video[] = {0, 0, 0, 0x32, 10, 20, 30, 40, 60, 70, 2, 0};
+static const uint8_t set_fan[] = {0, 0, 0, 0x61, 4, 0};
+static const struct trial trials[] = {
+    {"get of power, 5 bytes, to one of 32", get_power, sizeof get_power, false, 0},
+    {"set of video, 12 bytes, to one of 32", set_video, sizeof set_video, false, 0},
+    {"set of fan, 6 bytes, to all 32", set_fan, sizeof set_fan, true, 0},
+    {"set of video, 12 bytes, to all 32", set_video, sizeof set_video, true, 0},
+    {"damaged burst, 5 bytes, for one of 32 (NACK)", get_power, sizeof get_power, false, 1},
+};
+enum { TRIALS = sizeof trials / sizeof trials[0] };
+
+/* One burst for each panel in turn, the mean of all; where no panel is named, all 32 calls are alike. The first byte is
+ * put in as the size, the second is the panel's ID unless all are meant, the last is put in as the checksum plus spoil. */
+static struct cost cost_of_play(const struct trial *t)
+{
+    static struct outcome proved, plain, none;
+    uint64_t proved_sum = 0, plain_sum = 0;
+    for (unsigned k = 0; k < PANELS; k++) {
+        uint8_t burst[UNDIVARRO_ANSWER_CAP];
+        memcpy(burst, t->form, t->len);
+        burst[0] = (uint8_t)t->len;
+        burst[1] = t->to_all ? 0 : (uint8_t)(k + 1);
+        burst[t->len - 1] = t->spoil;
+        for (size_t i = 0; i < t->len - 1; i++)
+            burst[t->len - 1] ^= burst[i];
+        uint64_t around = count_play(no_play, burst, t->len, &none);
+        proved_sum += count_play(undivarro_play, burst, t->len, &proved) - around;
+        plain_sum += count_play(plain_play, burst, t->len, &plain) - around;
+        check_same(t->what, &proved, &plain);
+    }
+    return (struct cost){proved_sum / PANELS, plain_sum / PANELS};
+}
+
+static struct cost cost_of_read(const char *what)
+{
+    static struct outcome proved, plain, none;
+    uint64_t around = count_read(no_read, &none);
+    uint64_t by_proved = count_read(undivarro_read, &proved) - around;
+    uint64_t by_plain = count_read(plain_read, &plain) - around;
+    check_same(what, &proved, &plain);
+    return (struct cost){by_proved, by_plain};
+}
+
+/* 32 fresh panels, all in group 9, as they are written. */
+static void make_wall(void)
+{
+    uint8_t fresh[4 * PANELS + 2];
+    for (unsigned k = 0; k < PANELS; k++) {
+        fresh[2 * k] = (uint8_t)(k + 1);
+        fresh[2 * k + 1] = 9;
+        fresh[2 * PANELS + 2 * k] = 0;
+        fresh[2 * PANELS + 2 * k + 1] = (uint8_t)(2 * k);
+    }
+    fresh[4 * PANELS] = PANELS;
+    fresh[4 * PANELS + 1] = 1;
+    image_len = plain_read(fresh, sizeof fresh, image, sizeof image).image_len;
+}
+
+int main(void)
+{
+    int ends[2];
+    if (pipe2(ends, O_NONBLOCK) != 0) {
+        perror("bench: no pipe");
+        return 2;
+    }
+    count_from = ends[0];
+    count_to = ends[1];
+    make_wall();
+    count_now();
+
+    struct cost costs[TRIALS];
+    print_head("call");
+    for (int i = 0; i < TRIALS; i++)
+        print_row(trials[i].what, costs[i] = cost_of_play(&trials[i]));
+    const char *what = "image of 32 read and written";
+    struct cost image_cost = cost_of_read(what);
+    print_row(what, image_cost);
+
+    putchar('\n');
+    print_head("the burst alone");
+    for (int i = 0; i < TRIALS; i++)
+        print_row(trials[i].what, (struct cost){costs[i].proved - image_cost.proved, costs[i].plain - image_cost.plain});
+    return 0;
+}

@@ -1,0 +1,47 @@
+/* Random cases for the comparison: a setup image, a burst, and how much room is lent for answer and output. A case is
+ * made from the seed and its number alone, and is the same on every machine. */
+#ifndef CASES_H
+#define CASES_H
+
+#include <stdbool.h>
+#include <stddef.h>
+#include <stdint.h>
+
+enum { MAX_IMAGE_BYTES = 70000, MAX_BURST_BYTES = 70000, MAX_ROOM = 1300 };
+
+/* What was done to the image last; a case may have up to three spoilings, and one spoiling may hide another. */
+enum image_kind {
+    IMAGE_WRITTEN, IMAGE_ANY_ORDER, IMAGE_LEFT_OUT, IMAGE_NO_PANELS, IMAGE_33_PANELS,
+    RECORD_SHORT, RECORD_ID_0, RECORD_GROUP_0, RECORD_ID_TWICE,
+    FIELD_GET_CODE, FIELD_UNKNOWN, FIELD_TWICE, FIELD_LENGTH, FIELD_CUT, FIELD_CODE_ALONE, FIELD_VALUE,
+    WHOLE_FORM, WHOLE_COUNT, WHOLE_CUT, WHOLE_STARTS, WHOLE_EXTRA, WHOLE_NOISE, WHOLE_SHORT, WHOLE_RANDOM, WHOLE_LONG,
+    IMAGE_KINDS
+};
+
+enum burst_kind {
+    BURST_EMPTY, BURST_GET, BURST_SET, BURST_SET_ANY_VALUE, BURST_SET_LENGTH, BURST_GET_LENGTH, BURST_UNKNOWN,
+    BURST_NO_DATA, BURST_FULL, BURST_CHANGED, BURST_LOST, BURST_ADDED, BURST_SWAPPED, BURST_SHORT, BURST_LONG,
+    BURST_VERY_LONG, BURST_RANDOM,
+    BURST_KINDS
+};
+
+enum room_kind { ROOM_EXACT, ROOM_AMPLE, ROOM_EDGE, ROOM_ANY, ROOM_KINDS };
+
+extern const char *const image_kind_names[IMAGE_KINDS];
+extern const char *const burst_kind_names[BURST_KINDS];
+extern const char *const room_kind_names[ROOM_KINDS];
+
+struct test_case {
+    bool is_read;                       /* the read function; else play */
+    enum image_kind image_kind;
+    enum burst_kind burst_kind;
+    enum room_kind room_kind;
+    size_t image_len, burst_len, answer_cap, out_cap;
+    uint64_t fill;                      /* what answer, out and their guards hold before */
+    uint8_t image[MAX_IMAGE_BYTES];
+    uint8_t burst[MAX_BURST_BYTES];
+};
+
+void make_case(uint64_t seed, uint64_t number, struct test_case *c);
+
+#endif

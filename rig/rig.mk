@@ -1,0 +1,60 @@
+# The bench rig. All that links the proved library is x86-64, as the library is; on another processor it is
+# cross-compiled and run under qemu. `rig/tools.sh` installs what is missing.
+UNDIVARRO_LIB ?= target/staticlib/libundivarro.a
+CASES ?= 1000000
+SEED ?=
+
+RIG_FLAGS := -std=c11 -Wall -Wextra -Werror -O2 -Iinclude
+QEMU := qemu-x86_64
+ifeq ($(shell uname -m),x86_64)
+X86_CC := gcc
+RUN :=
+else
+X86_CC := x86_64-linux-gnu-gcc
+RUN := $(QEMU)
+endif
+
+rig_out := target/rig
+rig_programs := $(addprefix $(rig_out)/bin/,rig rig-stopped compare bench)
+rig_files := $(wildcard rig/*.h) include/undivarro.h rig/rig.mk
+
+.PHONY: rig rig-test rig-tools bench
+# the program: target/rig/rig
+rig: $(rig_out)/rig
+# the rig's tests; SEED=... repeats a comparison, CASES=... sets its length
+rig-test: rig $(rig_programs) $(rig_out)/bin/sanitized
+	RUN='$(RUN)' CASES='$(CASES)' SEED='$(SEED)' rig/test.sh $(rig_out)
+# guest instructions per call, proved and plain, as a table
+bench: $(rig_out)/bin/bench $(rig_out)/libcount.so
+	@$(QEMU) -plugin $(rig_out)/libcount.so $(rig_out)/bin/bench
+
+rig-tools:
+	@rig/tools.sh
+
+# A file of its own makes the program run alike on every processor.
+$(rig_out)/rig: $(rig_out)/bin/rig
+	printf '#!/bin/sh\nexec $(RUN) "$$(dirname "$$0")/bin/rig" "$$@"\n' >$@
+	chmod +x $@
+
+target/staticlib/libundivarro.a: $(wildcard crates/*/src/*.rt crates/*/src/*/*.rt)
+	rt staticlib undivarro
+
+$(rig_out)/bin/rig: rig/rig.c rig/setup_file.c rig/names.c
+$(rig_out)/bin/rig-stopped: rig/rig.c rig/setup_file.c rig/names.c rig/stops.c
+$(rig_out)/bin/rig-stopped: RIG_LINK := -Wl,--wrap=write,--wrap=fsync,--wrap=rename
+$(rig_out)/bin/compare: rig/compare.c rig/trial.c rig/cases.c rig/plain.c
+$(rig_out)/bin/bench: rig/bench.c rig/plain.c
+$(rig_programs): $(UNDIVARRO_LIB) $(rig_files) | rig-tools
+	@mkdir -p $(@D)
+	$(X86_CC) $(RIG_FLAGS) -static $(filter %.c,$^) $(UNDIVARRO_LIB) $(RIG_LINK) -o $@
+
+# The plain box alone, for the machine's own processor: the sanitizers do not run under qemu.
+$(rig_out)/bin/sanitized: rig/compare.c rig/trial.c rig/cases.c rig/plain.c $(rig_files) | rig-tools
+	@mkdir -p $(@D)
+	gcc $(RIG_FLAGS) -g -fsanitize=address,undefined -fno-sanitize-recover=all -DPLAIN_ALONE $(filter %.c,$^) -o $@
+
+# Before version 9 qemu had version 1 of its plugin interface.
+$(rig_out)/libcount.so: rig/count.c $(rig_files) | rig-tools
+	@mkdir -p $(@D)
+	gcc $(RIG_FLAGS) -fPIC -shared -o $@ rig/count.c -DQEMU_PLUGIN_VERSION=$$($(QEMU) --version | \
+	    awk 'NR == 1 { split($$3, v, "."); print v[1] < 9 ? 1 : 2 }')

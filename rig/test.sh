@@ -1,0 +1,314 @@
+#!/bin/bash
+# The rig's tests: one line for each, last `N passed, M failed`. `make rig-test` builds what it needs and calls it with
+# the folder of the programs. RUN is the emulator or nothing, CASES and SEED are the comparison's.
+set -u
+programs=$(cd "$1" && pwd)
+cases=${CASES:-1000000}
+seed=${SEED:-$(od -An -N6 -tu8 /dev/urandom | tr -d ' ')}
+short_cases=100000
+
+work=$(mktemp -d)
+trap 'chmod -R u+w "$work"; rm -rf "$work"' EXIT
+chmod 755 "$work"
+cd "$work" || exit 2
+cp "$programs/bin/rig" "$programs/bin/rig-stopped" .
+chmod 755 rig rig-stopped
+
+rig() { ${RUN:-} ./rig "$@"; }
+rig_stopped() { ${RUN:-} ./rig-stopped "$@"; }
+
+passed=0
+failed=0
+# test NAME FUNCTION: the function's output is shown only when it fails
+test_that() {
+    if "$2" >"$work/log" 2>&1; then
+        passed=$((passed + 1))
+        echo "ok      $1"
+    else
+        failed=$((failed + 1))
+        echo "FAILED  $1"
+        sed 's/^/        /' "$work/log"
+    fi
+}
+
+# same WHAT GOT WANTED
+same() {
+    [ "$2" = "$3" ] && return
+    printf '%s:\n got     %s\n wanted  %s\n' "$1" "$2" "$3"
+    return 1
+}
+
+# ends STATUS WORDS COMMAND...: exit status and a part of the message on standard error
+ends() {
+    local wanted=$1 words=$2 status
+    shift 2
+    "$@" 2>message </dev/null >/dev/null
+    status=$?
+    same "status of $*" "$status" "$wanted" || { cat message; return 1; }
+    grep -qF -- "$words" message || { echo "message of $*: no '$words' in"; cat message; return 1; }
+}
+
+# a wall of 01's two panels, both in group 9
+wall() { rm -f "$1" && rig new "$1" 1:9 2:9; }
+bytes() { od -An -v -tx1 "$1" | tr -d ' \n'; }
+# image FILE HEX...: a file of these bytes
+image() {
+    local file=$1 byte
+    shift
+    for byte in $*; do printf "\\x$byte"; done >"$file"
+}
+
+# 01, "Bursts to try"
+bursts_of_01() {
+    local burst answer
+    while read -r burst answer; do
+        wall w && same "$burst" "$(echo "$burst" | rig play w)" "$answer" || return
+    done <<'END'
+050100191D 06010019021C
+050100191C 060100001512
+0401191C -
+060100610462 060100000601
+060100610563 06010000181F
+06000961026C -
+0601FF61029B -
+030100 060100001512
+050300191F -
+04010005 06010000181F
+END
+}
+
+one_session() {
+    wall w
+    same answers "$(printf '05 01 00 19 1D\n06 00 09 61 02 6C\n05 02 00 62 65\n04 01 19 1C\n' | rig play w)" \
+        "$(printf '06010019021C\n-\n060200620264\n-')"
+}
+
+show_names_the_settings() {
+    rm -f w && rig new w 1:9 200:255 && printf '06010018011E\n0C010032643264000164036B\n' | rig play w >answers || return
+    same answers "$(cat answers)" "$(printf '060100000601\n060100000601')" || return
+    same show "$(rig show w)" "\
+ ID  group  power                    video  gamma  colour temperature  treble  bass  fan  cold start  APM  power saving
+  1      9    off       100 50 100 0 1 100      3                   1      50    50    1           2    0             0
+200    off     on        50 50 50 50 50 50      3                   1      50    50    1           2    0             0
+2 panels"
+}
+
+new_is_written_whole() {
+    rm -f w && rig new w 7:255 || return
+    same bytes "$(bytes w)" 07ff18010232073232323232320334010142023232610101a30102d00100dd010000000101 || return
+    rm -f w && rig new w && same 'no panels' "$(bytes w)" 0001 || return
+    rm -f w && rig new w $(seq -f '%g:9' 1 32) && same 'length of 32' "$(wc -c <w)" 1122
+}
+
+a_set_outlasts_the_program() {
+    wall w
+    echo 060100610462 | rig play w >/dev/null || return
+    same report "$(echo 0501006266 | rig play w)" 060100620461
+}
+
+# Fan and ID only, in the form that other tools may write: not rewritten until a setting changes.
+written_only_when_changed() {
+    image w 01 09 61 01 04 00 00 01 01
+    local before
+    before=$(bytes w)
+    touch -d 2001-01-01 w
+    printf '0501006266\n\n060100610462\n0601006105\n06010061FF99\n' | rig play w >/dev/null || return
+    same 'bytes after a get, silence, a set to what it was, NACK and NAV' "$(bytes w)" "$before" || return
+    same 'time of the file' "$(stat -c %Y w)" "$(date -d 2001-01-01 +%s)" || return
+    echo 060100610365 | rig play w >/dev/null || return
+    same 'length after a set' "$(wc -c <w)" 37
+}
+
+input_forms() {
+    wall w
+    same 'spaces, tabs, lower case, CR, no last line end' \
+        "$(printf ' 05 01 00 19 1d \n\t0501\t00191D\r\n \n\n050100191D' | rig play w)" \
+        "$(printf '06010019021C\n06010019021C\n-\n-\n06010019021C')" || return
+    same 'no input' "$(rig play w </dev/null)" ''
+}
+
+any_length() {
+    wall w
+    same '40 bytes' "$(printf '28010019%070d%02X\n' 0 $((0x28 ^ 0x01 ^ 0x19)) | rig play w)" 06010000181F || return
+    same '41 bytes' "$(printf '29010019%072d%02X\n' 0 $((0x29 ^ 0x01 ^ 0x19)) | rig play w)" 060100001512 || return
+    same '100,000 bytes' "$({ printf 050100; head -c 199994 /dev/zero | tr '\0' 0; } | rig play w)" 060100001512
+}
+
+not_hex() {
+    local line
+    wall w
+    for line in '05 0x' 0 '05 0 1' 'hello' '050100191D 5'; do
+        printf '060100610462\n%s\n060100610166\n' "$line" >input
+        rig play w <input >answers 2>message
+        same "status at $line" $? 2 || return
+        grep -q 'line 2,' message || { cat message; return 1; }
+        same 'answers before it' "$(cat answers)" 060100000601 || return
+    done
+    same 'the set before it is kept' "$(echo 0501006266 | rig play w)" 060100620461
+}
+
+bad_arguments() {
+    wall w
+    ends 2 'no command' rig && ends 2 'is no command' rig paly w && ends 2 'one IMAGE' rig play && ends 2 usage rig show &&
+        ends 2 'one IMAGE' rig play w w && ends 2 'one IMAGE' rig show w w && ends 2 'an IMAGE' rig new || return
+    local panel
+    for panel in 1 1: :1 1:256 256:1 a:1 1:a 1:1: -1:1 99999999999999999999:1 ''; do
+        ends 2 'is not ID:GROUP' rig new n "$panel" && [ ! -e n ] || return
+    done
+    ends 2 'at most 32' rig new n $(seq -f '%g:9' 1 33) && [ ! -e n ] || return
+    ends 2 'there already' rig new w 1:9
+}
+
+unreadable_files() {
+    mkdir -p folder
+    ends 2 'rig new missing' rig play missing && ends 2 'rig new missing' rig show missing &&
+        ends 2 'Is a directory' rig show folder && ends 2 'Is a directory' rig play folder &&
+        ends 2 'No such file' rig new missing/w 1:9
+}
+
+refusals_by_number() {
+    local number words hex
+    while IFS=';' read -r number words hex; do
+        image w "$hex"
+        ends 1 "refusal $number: $words" rig show w && ends 1 "refusal $number: $words" rig play w || return
+        same "the image refused by $number" "$(bytes w)" "$(echo "$hex" | tr -d ' ')" || return
+    done <<'END'
+11;image: fewer than 2 bytes;
+11;image: fewer than 2 bytes;01
+12;image: last byte is not 1;00 02
+13;image: panel count above 32;21 01
+14;image: shorter than 2n + 2 bytes;00 01 01
+15;image: starts don't fit;00 00 01
+15;image: starts don't fit;01 09 00 02 01 01
+16;record: under 2 bytes, ID 0, group 0, or ID seen before;00 09 00 00 01 01
+16;record: under 2 bytes, ID 0, group 0, or ID seen before;01 09 01 09 00 00 00 02 02 01
+17;field: not a set code of the table (a get code isn't one), or seen before in this record, length wrong, or cut off;01 09 62 01 04 00 00 01 01
+17;field: not a set code of the table (a get code isn't one), or seen before in this record, length wrong, or cut off;01 09 61 00 00 01 01
+18;field: value not allowed;01 09 61 01 05 00 00 01 01
+END
+    ends 1 'refusal 16: record' rig new n 0:9 && ends 1 'refusal 16: record' rig new n 1:0 &&
+        ends 1 'refusal 16: record' rig new n 1:9 1:8 && [ ! -e n ]
+}
+
+output_that_is_full() {
+    wall w
+    rig show w >/dev/full 2>message
+    same 'status of show' $? 2 && grep -q 'standard output' message
+}
+
+a_link_is_followed() {
+    mkdir -p folder && wall folder/w && rm -f w && ln -s folder/w w || return
+    echo 060100610462 | rig play w >/dev/null || return
+    [ -L w ] && same report "$(echo 0501006266 | rig play folder/w)" 060100620461
+}
+
+permissions_stay() {
+    wall w && chmod 640 w
+    echo 060100610462 | rig play w >/dev/null && same permissions "$(stat -c %a w)" 640
+}
+
+# stop MOMENT STATUS: the fan is 2; the program is stopped while it sets it to 4
+stop() {
+    rm -rf stopped && mkdir stopped && wall stopped/w && echo 060100610264 | rig play stopped/w >/dev/null || return
+    bytes stopped/w >old
+    # a shell of its own, so that its word about the kill stays out of the log
+    (echo 060100610462 | STOP_AT=$1 rig_stopped play stopped/w >answers 2>message; exit "$?") 2>/dev/null
+    same "status when $1" $? "$2"
+}
+old_setup_whole() {
+    same 'no answer was printed' "$(cat answers)" '' || return
+    same 'the setup' "$(bytes stopped/w)" "$(cat old)" && same 'the fan' "$(echo 0501006266 | rig play stopped/w)" 060100620267
+}
+new_setup_whole() {
+    same 'the fan' "$(echo 0501006266 | rig play stopped/w)" 060100620461
+}
+nothing_beside() { same 'the folder' "$(ls stopped)" w; }
+sets_as_before() {
+    same 'a later set' "$(echo 060100610365 | rig play stopped/w)" 060100000601 &&
+        same 'the fan' "$(echo 0501006266 | rig play stopped/w)" 060100620366
+}
+
+# the test program is the rig where it is not stopped
+not_stopped() { stop never 0 && same answer "$(cat answers)" 060100000601 && new_setup_whole && nothing_beside; }
+killed_in_write() { stop killed-in-write 137 && old_setup_whole && sets_as_before; }
+killed_before_sync() { stop killed-before-sync 137 && old_setup_whole && sets_as_before; }
+killed_before_rename() {
+    stop killed-before-rename 137 && old_setup_whole || return
+    same 'the new setup beside it' "$(cat stopped/w.*.new | wc -c)" 72 && sets_as_before
+}
+killed_after_rename() { stop killed-after-rename 137 && new_setup_whole && nothing_beside && sets_as_before; }
+no_space() { stop no-space 2 && grep -q 'No space left' message && old_setup_whole && nothing_beside; }
+sync_fails() { stop sync-fails 2 && grep -q 'cannot sync the new' message && old_setup_whole && nothing_beside; }
+rename_fails() { stop rename-fails 2 && grep -q 'cannot rename' message && old_setup_whole && nothing_beside; }
+folder_sync_fails() { stop folder-sync-fails 2 && grep -q 'has the new setup' message && new_setup_whole && nothing_beside; }
+
+# The system's own refusal to write one byte more to any file; messages go through a pipe, which has no such limit.
+file_size_limit() {
+    rm -rf stopped && mkdir stopped && wall stopped/w && echo 060100610264 | rig play stopped/w >/dev/null || return
+    bytes stopped/w >old
+    local message
+    : >answers
+    message=$( (trap '' XFSZ; ulimit -f 0; echo 060100610462 | rig play stopped/w 2>&1); echo "status $?")
+    case $message in
+    'rig: stopped/w: cannot write the new setup beside it: File too large'*'status 2') ;;
+    *) echo "got $message"; return 1 ;;
+    esac
+    old_setup_whole && nothing_beside
+}
+
+# Permissions do not bind root, so root plays as nobody.
+read_only_folder() {
+    rm -rf stopped && mkdir stopped && wall stopped/w && echo 060100610264 | rig play stopped/w >/dev/null || return
+    bytes stopped/w >old
+    chmod 666 stopped/w
+    chmod 555 stopped
+    local as= status
+    [ "$(id -u)" -ne 0 ] || as='setpriv --reuid=65534 --regid=65534 --clear-groups'
+    echo 060100610462 | $as ${RUN:-} ./rig play stopped/w >answers 2>message
+    status=$?
+    chmod 755 stopped
+    same status "$status" 2 || { cat message; return 1; }
+    grep -q 'cannot create a file beside it: Permission denied' message || { cat message; return 1; }
+    old_setup_whole && nothing_beside
+}
+
+# What it met stays in comparison.txt beside the programs.
+compared() {
+    ${RUN:-} "$programs/bin/compare" "$cases" "$seed" >"$programs/comparison.txt" || { cat "$programs/comparison.txt"; return 1; }
+}
+sanitized() {
+    "$programs/bin/sanitized" "$short_cases" "$seed" >plain_alone || { cat plain_alone; return 1; }
+    ${RUN:-} "$programs/bin/compare" "$short_cases" "$seed" >both || { cat both; return 1; }
+    same 'the sums' "$(tail -n 1 plain_alone)" "$(tail -n 1 both)"
+}
+
+test_that "01's bursts, each on a fresh wall" bursts_of_01
+test_that 'a session of bursts' one_session
+test_that 'show names the settings' show_names_the_settings
+test_that 'new writes all fields' new_is_written_whole
+test_that 'a set outlasts the program' a_set_outlasts_the_program
+test_that 'the file is written only when a setting changes' written_only_when_changed
+test_that 'forms of input' input_forms
+test_that 'bursts of any length' any_length
+test_that 'a line that is not hex' not_hex
+test_that 'bad arguments' bad_arguments
+test_that 'unreadable files' unreadable_files
+test_that 'refusals by number' refusals_by_number
+test_that 'an output that is full' output_that_is_full
+test_that 'a link to the image is followed' a_link_is_followed
+test_that 'the permissions of the image stay' permissions_stay
+test_that 'the program of the tests below, not stopped' not_stopped
+test_that 'killed half through writing: the old setup' killed_in_write
+test_that 'killed before the sync: the old setup' killed_before_sync
+test_that 'killed between writing and renaming: the old setup' killed_before_rename
+test_that 'killed after renaming: the new setup' killed_after_rename
+test_that 'no space left: the old setup' no_space
+test_that 'a sync that fails: the old setup' sync_fails
+test_that 'a rename that fails: the old setup' rename_fails
+test_that 'a folder that does not sync: the new setup, and a word' folder_sync_fails
+test_that 'no file may grow: the old setup' file_size_limit
+test_that 'a read-only folder: the old setup' read_only_folder
+test_that "proved and plain on $cases cases, seed $seed" compared
+test_that "plain with sanitizers on $short_cases of them" sanitized
+echo "$passed passed, $failed failed"
+[ "$failed" -eq 0 ]

@@ -1,0 +1,50 @@
+#!/bin/sh
+# Installs what the rig needs and is missing, on Debian and its kin: a C compiler for x86-64, qemu's user emulation (on an
+# x86-64 machine only `make bench` runs under it), make. Does nothing where all is there.
+set -eu
+scratch=$(mktemp -d)
+trap 'rm -rf "$scratch"' EXIT
+
+missing=
+need() { # need PACKAGE TEST...
+    package=$1
+    shift
+    "$@" >/dev/null 2>&1 || missing="$missing $package"
+}
+has_command() { command -v "$1"; }
+# a program that is linked as the rig's are
+links() { printf 'int main(void) { return 0; }\n' | "$@" -x c - -o "$scratch/program"; }
+
+case "$(uname -m)" in
+x86_64)
+    need libc6-dev links gcc -static
+    ;;
+aarch64)
+    need gcc-x86-64-linux-gnu has_command x86_64-linux-gnu-gcc
+    need libc6-dev-amd64-cross links x86_64-linux-gnu-gcc -static
+    need libc6-dev links gcc
+    ;;
+*)
+    echo "rig/tools.sh: no way is known to run x86-64 programs on $(uname -m)" >&2
+    exit 2
+    ;;
+esac
+need gcc has_command gcc
+need make has_command make
+need qemu-user has_command qemu-x86_64
+[ -n "$missing" ] || exit 0
+
+as_root=
+if [ "$(id -u)" -ne 0 ]; then
+    if ! command -v sudo >/dev/null; then
+        echo "rig/tools.sh: run as root, or install yourself:$missing" >&2
+        exit 2
+    fi
+    as_root=sudo
+fi
+echo "installing:$missing"
+if ! { $as_root apt-get update -q &&
+    DEBIAN_FRONTEND=noninteractive $as_root apt-get install -q -y --no-install-recommends $missing; } >"$scratch/log" 2>&1; then
+    cat "$scratch/log" >&2
+    exit 2
+fi

@@ -1,0 +1,209 @@
+#include "trial.h"
+
+#include <stdio.h>
+#include <string.h>
+
+/* In the sanitized run a read or write of a guard byte is a fault at once. */
+#ifdef __SANITIZE_ADDRESS__
+#include <sanitizer/asan_interface.h>
+#else
+#define ASAN_POISON_MEMORY_REGION(at, len) ((void)(at), (void)(len))
+#define ASAN_UNPOISON_MEMORY_REGION(at, len) ((void)(at), (void)(len))
+#endif
+
+static _Alignas(8) uint8_t image_area[GUARD + MAX_IMAGE_BYTES + GUARD];
+static _Alignas(8) uint8_t burst_area[GUARD + MAX_BURST_BYTES + GUARD];
+static _Alignas(8) uint8_t filled[AREA];        /* what answer and out hold before the call */
+
+static void close_guards(uint8_t *area, size_t len, bool closed)
+{
+    if (closed) {
+        ASAN_POISON_MEMORY_REGION(area, GUARD);
+        ASAN_POISON_MEMORY_REGION(area + GUARD + len, GUARD);
+    } else {
+        ASAN_UNPOISON_MEMORY_REGION(area, GUARD);
+        ASAN_UNPOISON_MEMORY_REGION(area + GUARD + len, GUARD);
+    }
+}
+
+static void close_all(const struct test_case *c, struct trial *t, bool closed)
+{
+    close_guards(image_area, c->image_len, closed);
+    close_guards(burst_area, c->burst_len, closed);
+    close_guards(t->answer, c->answer_cap, closed);
+    close_guards(t->out, c->out_cap, closed);
+}
+
+/* The bytes from..to of an area are as they were before the call. */
+static bool as_before(const uint8_t *area, size_t from, size_t to)
+{
+    return memcmp(area + from, filled + from, to - from) == 0;
+}
+
+static const char *fault_of(const struct test_case *c, const struct trial *t)
+{
+    struct undivarro_result r = t->result;
+    if (memcmp(image_area + GUARD, c->image, c->image_len) != 0)
+        return "the lent image was written to";
+    if (memcmp(burst_area + GUARD, c->burst, c->burst_len) != 0)
+        return "the lent burst was written to";
+    if (r.refusal && (r.answer_len || r.image_len))
+        return "a refusal with a length that is not 0";
+    if (r.answer_len > c->answer_cap || r.image_len > c->out_cap)
+        return "a length above what was lent";
+    if (!as_before(t->answer, 0, GUARD) || !as_before(t->out, 0, GUARD))
+        return "a byte before a buffer was touched";
+    if (!as_before(t->answer, GUARD + r.answer_len, GUARD + c->answer_cap + GUARD))
+        return "a byte past the answer was touched";
+    if (!as_before(t->out, GUARD + r.image_len, GUARD + c->out_cap + GUARD))
+        return "a byte past the image was touched";
+    return NULL;
+}
+
+void run_trial(const struct box *box, const struct test_case *c, struct trial *t)
+{
+    size_t answer_area = GUARD + c->answer_cap + GUARD, out_area = GUARD + c->out_cap + GUARD;
+    size_t larger = answer_area > out_area ? answer_area : out_area;
+    for (size_t i = 0; i < larger; i += 8)
+        memcpy(filled + i, &c->fill, 8);
+    memcpy(t->answer, filled, answer_area);
+    memcpy(t->out, filled, out_area);
+    memcpy(image_area + GUARD, c->image, c->image_len);
+    memcpy(burst_area + GUARD, c->burst, c->burst_len);
+
+    /* Where nothing is lent the pointer may be NULL. */
+    bool null = c->fill & 1;
+    const uint8_t *image = null && c->image_len == 0 ? NULL : image_area + GUARD;
+    const uint8_t *burst = null && c->burst_len == 0 ? NULL : burst_area + GUARD;
+    uint8_t *answer = null && c->answer_cap == 0 ? NULL : t->answer + GUARD;
+    uint8_t *out = null && c->out_cap == 0 ? NULL : t->out + GUARD;
+
+    close_all(c, t, true);
+    if (c->is_read)
+        t->result = box->read(image, c->image_len, out, c->out_cap);
+    else
+        t->result = box->play(image, c->image_len, burst, c->burst_len, answer, c->answer_cap, out, c->out_cap);
+    close_all(c, t, false);
+    t->fault = fault_of(c, t);
+}
+
+bool same_outcome(const struct test_case *c, const struct trial *a, const struct trial *b)
+{
+    return a->result.refusal == b->result.refusal && a->result.answer_len == b->result.answer_len
+        && a->result.image_len == b->result.image_len
+        && memcmp(a->answer, b->answer, GUARD + c->answer_cap + GUARD) == 0
+        && memcmp(a->out, b->out, GUARD + c->out_cap + GUARD) == 0;
+}
+
+static uint64_t mix(uint64_t sum, uint64_t word)
+{
+    sum = (sum ^ word) * 0x9FB21C651E98DF25u;
+    return sum ^ sum >> 32;
+}
+
+static uint64_t mix_bytes(uint64_t sum, const uint8_t *bytes, size_t len)
+{
+    for (size_t i = 0; i < len; i += 8) {
+        uint64_t word = 0;
+        for (size_t j = i; j < i + 8 && j < len; j++)
+            word = word << 8 | bytes[j];
+        sum = mix(sum, word);
+    }
+    return sum;
+}
+
+/* Guards and the bytes past the lengths are left to fault_of. */
+uint64_t add_outcome(uint64_t sum, const struct trial *t)
+{
+    sum = mix(sum, t->result.refusal);
+    sum = mix(sum, (uint64_t)t->result.answer_len << 32 | t->result.image_len);
+    sum = mix_bytes(sum, t->answer + GUARD, t->result.answer_len);
+    return mix_bytes(sum, t->out + GUARD, t->result.image_len);
+}
+
+static const uint8_t get_codes[] = {0x19, 0x33, 0x35, 0x43, 0x62, 0xA4, 0xD1, 0xDE};
+
+void count_outcome(struct tally *tally, const struct test_case *c, const struct trial *t)
+{
+    const uint8_t *answer = t->answer + GUARD;
+    tally->image[c->image_kind]++;
+    tally->room[c->room_kind]++;
+    tally->refusal[t->result.refusal < 20 ? t->result.refusal : 1]++;
+    if (c->is_read)
+        return;
+    tally->burst[c->burst_kind]++;
+    if (t->result.refusal)
+        return;
+    if (t->result.answer_len == 0)
+        tally->silence++;
+    else if (t->result.answer_len < 6)
+        return;
+    else if (answer[3] != 0)
+        tally->report[answer[3]]++;
+    else if (answer[4] == 0x06)
+        tally->ack++;
+    else if (answer[4] == 0x15)
+        tally->nack++;
+    else if (answer[4] == 0x18)
+        tally->nav++;
+}
+
+static void print_line(const char *what, unsigned long met)
+{
+    printf("  %-40s %9lu\n", what, met);
+}
+
+void print_tally(const struct tally *tally)
+{
+    puts("images, by their last spoiling:");
+    for (int i = 0; i < IMAGE_KINDS; i++)
+        print_line(image_kind_names[i], tally->image[i]);
+    puts("bursts:");
+    for (int i = 0; i < BURST_KINDS; i++)
+        print_line(burst_kind_names[i], tally->burst[i]);
+    puts("room lent:");
+    for (int i = 0; i < ROOM_KINDS; i++)
+        print_line(room_kind_names[i], tally->room[i]);
+    puts("refusals:");
+    print_line("none", tally->refusal[0]);
+    for (int i = 11; i <= 19; i++)
+        printf("  %-40d %9lu\n", i, tally->refusal[i]);
+    puts("answers:");
+    print_line("silence", tally->silence);
+    print_line("ACK", tally->ack);
+    print_line("NACK", tally->nack);
+    print_line("NAV", tally->nav);
+    for (size_t i = 0; i < sizeof get_codes; i++)
+        printf("  report 0x%02X                              %9lu\n", get_codes[i], tally->report[get_codes[i]]);
+}
+
+static bool met(const char *what, const char *which, unsigned long times)
+{
+    if (times == 0)
+        printf("never met: %s %s\n", what, which);
+    return times > 0;
+}
+
+bool met_everything(const struct tally *tally)
+{
+    bool all = true;
+    char number[16];
+    for (int i = 0; i < IMAGE_KINDS; i++)
+        all &= met("image", image_kind_names[i], tally->image[i]);
+    for (int i = 0; i < BURST_KINDS; i++)
+        all &= met("burst", burst_kind_names[i], tally->burst[i]);
+    for (int i = 0; i < ROOM_KINDS; i++)
+        all &= met("room", room_kind_names[i], tally->room[i]);
+    all &= met("refusal", "none", tally->refusal[0]);
+    for (int i = 11; i <= 19; i++) {
+        snprintf(number, sizeof number, "%d", i);
+        all &= met("refusal", number, tally->refusal[i]);
+    }
+    all &= met("answer", "silence", tally->silence) & met("answer", "ACK", tally->ack);
+    all &= met("answer", "NACK", tally->nack) & met("answer", "NAV", tally->nav);
+    for (size_t i = 0; i < sizeof get_codes; i++) {
+        snprintf(number, sizeof number, "0x%02X", get_codes[i]);
+        all &= met("report", number, tally->report[get_codes[i]]);
+    }
+    return all;
+}
