@@ -64,6 +64,3 @@ abbrev pub asked : Wall → ℕ → Command → Played
 asked w k c =
     let p = getD w k blank in
     record { table = tableOf (set w k (panelAfter (judge c p) p)); reply = replyBy (p .id) (judge c p) }
-
-abbrev pub turnedAt : Table → ℕ → MonitorId → GroupId → Command → Table
-turnedAt t k i g c = record { panels = set (t .panels) k (turned i g c (getD (t .panels) k blank)); count = t .count }

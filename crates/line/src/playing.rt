@@ -10,7 +10,7 @@ ghost use Rattle.panels.specs.Wall.{tableOf, panelsOf};
 ghost use Rattle.panels.specs.Addressed.{isHeard};
 ghost use Rattle.panels.specs.WellFormed.{WellFormed};
 ghost use Rattle.line.specs.Judged.{setOf, command, orderOf};
-ghost use Rattle.line.specs.Played.{turned, playedPacket, damagedReply, played, inTable, asked, turnedAt};
+ghost use Rattle.line.specs.Played.{turned, playedPacket, damagedReply, played, inTable, asked};
 use crate::Order;
 use crate::Played;
 use crate::Reply;
@@ -20,6 +20,7 @@ use packet::Control;
 use packet::GroupId;
 use packet::MonitorId;
 use packet::Verdict;
+use panels::Panel;
 use panels::Place;
 use panels::Table;
 
@@ -52,19 +53,15 @@ fn play_one(t: Table, k: usize, order: Order, d: &[u8]) -> Played
     }
 }
 
-// The values are stored at place k if the panel there is addressed.
-fn store_at(t: Table, k: usize, id: MonitorId, group: GroupId, row: usize, d: &[u8]) -> Table
-    requires { ⌜ (k < 32) × (length (t .panels) ≡ 32) × (row < 8) × (length (now d) ≡ byteCount row + 1) × (allowedFor row (drop 1 (now d)) ≡ true) ⌝ }
-    ensures { λ r. ⌜ r ≡ turnedAt t k id group (setOf row (drop 1 (now (d .entry)))) ⌝ }
+// The panel after a set: with the values, if it is addressed.
+fn store_in(p: Panel, id: MonitorId, group: GroupId, row: usize, d: &[u8]) -> Panel
+    requires { ⌜ (row < 8) × (length (now d) ≡ byteCount row + 1) × (allowedFor row (drop 1 (now d)) ≡ true) ⌝ }
+    ensures { λ r. ⌜ r ≡ turned id group (setOf row (drop 1 (now (d .entry)))) p ⌝ }
 {
-    let p = t.panels[k];
     if panels::addresses(id, group, p) {
-        let mut table = t;
-        let q = judging::with_values(p, row, d);
-        table.panels[k] = q;
-        return table;
+        return judging::with_values(p, row, d);
     }
-    t
+    p
 }
 
 // The values are stored in every panel that is addressed.
@@ -76,7 +73,8 @@ fn store_in_all(t: Table, id: MonitorId, group: GroupId, row: usize, d: &[u8]) -
     let mut table = t;
     let mut k = 0;
     while k < n {
-        table = store_at(table, k, id, group, row, d);
+        let p = store_in(table.panels[k], id, group, row, d);
+        table.panels[k] = p;
         k += 1;
     }
     table

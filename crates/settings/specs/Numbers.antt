@@ -27,7 +27,7 @@ abbrev pub rowOf : ℕ → Row
 rowOf k = record { 0 = setCode k; 1 = getCode k; 2 = byteCount k; 3 = place k }
 
 abbrev pub valueOf : ℕ → Value
-valueOf p = record { 0 = getD freshValues p 0; 1 = rangesFrom p; 2 = length (rangesOf p) }
+valueOf p = record { 0 = rangesFrom p; 1 = length (rangesOf p) }
 
 abbrev pub spanOf : ℕ → Span
 spanOf i = record { 0 = rangeAt i .low; 1 = rangeAt i .high }
@@ -38,4 +38,4 @@ each f zero = []
 each f (suc n) = f 0 ∷ each (λ k. f (suc k)) n
 
 unfoldable pub paperTable : Table
-paperTable = record { rows = each rowOf 8; values = each valueOf 15; ranges = each spanOf 18 }
+paperTable = record { rows = each rowOf 8; values = each valueOf 15; ranges = each spanOf 18; fresh = freshValues }

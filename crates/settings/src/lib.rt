@@ -1,15 +1,15 @@
 // The eight settings as one fixed table of numbers, which box, host and image all read.
 ghost use mathlib.Core.Path.{_≡_};
 ghost use Prim.Native.Nat.{_<_};
-ghost use lib.ListN.{length, getD};
+ghost use lib.ListN.{length};
 ghost use Rattle.settings.specs.Settings.{foundBy, setCode, getCode, byteCount, place, inRange, within, allowedFor, freshValues};
 ghost use Rattle.settings.specs.Numbers.{rangeAt, rangesFrom, rangesOf, paperTable};
 
 // A setting: its set code, its get code, its count of value bytes, and the place of the first among all value bytes.
 struct Row(u8, u8, u8, u8);
 
-// A value byte: its fresh value, the first of its ranges, and how many it has.
-struct Value(u8, u8, u8);
+// A value byte: the first of its ranges, and how many it has.
+struct Value(u8, u8);
 
 // The values from the lowest to the highest that a range allows.
 struct Span(u8, u8);
@@ -18,6 +18,7 @@ struct Table {
     rows: [Row; 8],
     values: [Value; 15],
     ranges: [Span; 18],
+    fresh: [u8; 15],
 }
 
 const TABLE: Table = Table {
@@ -32,21 +33,21 @@ const TABLE: Table = Table {
         Row(0xDD, 0xDE, 1, 14), // power saving
     ],
     values: [
-        Value(2, 0, 1), // power
-        Value(50, 1, 1), // video: six, and gamma
-        Value(50, 2, 1),
-        Value(50, 3, 1),
-        Value(50, 4, 1),
-        Value(50, 5, 1),
-        Value(50, 6, 1),
-        Value(3, 7, 1),
-        Value(1, 8, 4), // colour temperature
-        Value(50, 12, 1), // treble, bass
-        Value(50, 13, 1),
-        Value(1, 14, 1), // fan
-        Value(2, 15, 1), // cold start
-        Value(0, 16, 1), // APM
-        Value(0, 17, 1), // power saving
+        Value(0, 1), // power
+        Value(1, 1), // video: six, and gamma
+        Value(2, 1),
+        Value(3, 1),
+        Value(4, 1),
+        Value(5, 1),
+        Value(6, 1),
+        Value(7, 1),
+        Value(8, 4), // colour temperature
+        Value(12, 1), // treble, bass
+        Value(13, 1),
+        Value(14, 1), // fan
+        Value(15, 1), // cold start
+        Value(16, 1), // APM
+        Value(17, 1), // power saving
     ],
     ranges: [
         Span(1, 2), // power
@@ -67,6 +68,23 @@ const TABLE: Table = Table {
         Span(0, 2), // cold start
         Span(0, 3), // APM
         Span(0, 3), // power saving
+    ],
+    fresh: [
+        2, // power
+        50, // video: six, and gamma
+        50,
+        50,
+        50,
+        50,
+        50,
+        3,
+        1, // colour temperature
+        50, // treble, bass
+        50,
+        1, // fan
+        2, // cold start
+        0, // APM
+        0, // power saving
     ],
 };
 
@@ -94,7 +112,7 @@ fn row_at(k: usize) -> Row
 
 fn value_at(p: usize) -> Value
     requires { ⌜ p < 15 ⌝ }
-    ensures { λ r. ⌜ (r .0 ≡ getD freshValues p 0) × (r .1 ≡ rangesFrom p) × (r .2 ≡ length (rangesOf p)) ⌝ }
+    ensures { λ r. ⌜ (r .0 ≡ rangesFrom p) × (r .1 ≡ length (rangesOf p)) ⌝ }
 {
     let values = the_table().values;
     values[p]
@@ -172,8 +190,8 @@ fn allowed_at(p: usize, v: u8) -> bool
     ensures { λ r. ⌜ r ≡ within (rangesOf p) v ⌝ }
 {
     let value = value_at(p);
-    let first = value.1 as usize;
-    let count = value.2 as usize;
+    let first = value.0 as usize;
+    let count = value.1 as usize;
     let mut k = 0;
     while k < count {
         if in_range(first + k, v) {
@@ -208,11 +226,5 @@ pub fn allowed(row: usize, values: &[u8]) -> bool
 pub fn fresh() -> [u8; 15]
     ensures { λ r. ⌜ r ≡ freshValues ⌝ }
 {
-    let mut values = [0u8; 15];
-    let mut p = 0;
-    while p < 15 {
-        values[p] = value_at(p).0;
-        p += 1;
-    }
-    values
+    the_table().fresh
 }

@@ -23,7 +23,7 @@ unfolding paperTable
 returns c =
     let call = c .before .before in
     let e = ap (λ (t : Table). getD (t .values) (call .before .args .p) _) (call .the-table .ensures) ∙ in-each valueOf 15 _ (call .before .pre) in
-    (ap (λ (r : Value). r .0) e, ap (λ (r : Value). r .1) e, ap (λ (r : Value). r .2) e)
+    (ap (λ (r : Value). r .0) e, ap (λ (r : Value). r .1) e)
 
 pub value-at-spec : {M : Type 1} → statement M
 value-at-spec = tie.close (tie.spec the-table-requires mul-result array-copy-out-result returns)

@@ -1,17 +1,18 @@
 -- One pass over the table. The invariant: the first k places are turned, the others are as they were. Assumes nothing.
 use mathlib.Core.Path.{_≡_, refl, sym, ap, ap₂, _∙_}
 use mathlib.Core.List.{List, _++_, map}
-use Prim.Native.Nat.{ℕ, _-_, _≤_}
+use Prim.Native.Nat.{ℕ, _-_, _≤_, _<_}
 use native.Mathlib.Numerals.{add-one}
 use native.Mathlib.Omega.{arith}
 use borrow.Author.Needs.{needs}
-use lib.ListN.{length, take, drop, replicate, length-append, length-take, length-drop, length-map}
+use lib.ListN.{length, take, drop, set, replicate, length-append, length-take, length-drop, length-map}
 use lib.Seq.{drop-at}
 use Rattle.packet.specs.declared.MonitorId.{MonitorId}
 use Rattle.packet.specs.declared.GroupId.{GroupId}
 use Rattle.panels.specs.declared.Panel.{Panel}
 use Rattle.panels.specs.declared.Table.{Table}
 use Rattle.panels.specs.Wall.{Wall, blank, panelsOf}
+use Rattle.panels.proofs.Lists.{getD-inside}
 use Rattle.panels.proofs.Laws.{count-is, count-few, places-are, places-count, table-is}
 use Rattle.line.specs.Judged.{setOf}
 use Rattle.line.specs.Played.{turned}
@@ -20,7 +21,7 @@ use Rattle.line.proofs.playing.store_in_all.Statement.{statement}
 use Rattle.line.proofs.playing.store_in_all.Tie as tie
 use Rattle.line.proofs.playing.store_in_all.Reads as reads
 use Rattle.line.proofs.playing.store_in_all.Lts as lts
-use Rattle.line.proofs.playing.store_at.Reads as store-at-reads
+use Rattle.line.proofs.playing.store_in.Reads as store-in-reads
 
 -- the change of one panel
 abbrev change : MonitorId → GroupId → ℕ → List ℕ → Panel → Panel
@@ -42,27 +43,41 @@ in-turn c =
     let f = c .before .before .pre .0 in
     ap length (c .loop .inv .2) ∙ simp (length-append, length-take, length-drop, length-map) (omega (arith, count-few f, places-count f))
 
-store-at-requires : tie.Need-store-at-requires Inv-loop μ-loop
-store-at-requires c κs =
-    let start = c .before .before .before in
-    (omega (arith, count-few (start .pre .0)), in-turn (c .before), start .pre .1, start .pre .2, start .pre .3)
+mul-store-in : tie.Need-mul-store-in Inv-loop μ-loop
+mul-store-in c = omega (arith, count-few (c .before .before .before .pre .0))
+
+element-copy-out-store-in : tie.Need-element-copy-out-store-in Inv-loop μ-loop
+element-copy-out-store-in c = omega (arith, count-few (c .before .before .before .pre .0))
+
+store-in-requires : tie.Need-store-in-requires Inv-loop μ-loop
+store-in-requires c κs = search needs
+
+mul-p : tie.Need-mul-p Inv-loop μ-loop
+mul-p c = omega (arith, count-few (c .before .before .before .before .before .pre .0))
+
+element-set-from-p : tie.Need-element-set-from-p Inv-loop μ-loop
+element-set-from-p c = omega (arith, count-few (c .before .before .before .before .before .pre .0))
 
 add-k : tie.Need-add-k Inv-loop μ-loop
-add-k c = omega (arith, count-few (c .before .before .before .before .pre .0))
+add-k c = omega (arith, count-few (c .before .before .before .before .before .pre .0))
 
 loop-less : tie.Need-loop-less Inv-loop μ-loop
 loop-less c = omega arith
 
 loop-again : tie.Need-loop-again Inv-loop μ-loop
 loop-again c =
-    let loop = c .before .before in
+    let loop = c .before .before .before in
     let start = loop .before .before in
     let a = start .args in
     let f = start .pre .0 in
-    let turned-next = turn-next (change (a .id) (a .group) (a .row) (a .d .now)) (a .t .panels) (loop .loop .k) (omega (arith, count-few f, places-count f)) in (
+    let k = loop .loop .k in
+    let g = change (a .id) (a .group) (a .row) (a .d .now) in
+    let inside : k < length (loop .loop .table .panels) = omega (arith, count-few f, in-turn loop) in
+    let panel = c .store-in .ensures ∙ ap g (getD-inside (loop .loop .table .panels) k _ blank inside) in
+    let turned-next = turn-next g (a .t .panels) k (omega (arith, count-few f, places-count f)) in (
       omega arith,
-      ap (λ (t : Table). t .count) (c .store-at .ensures) ∙ loop .loop .inv .1,
-      ap (λ (t : Table). t .panels) (c .store-at .ensures) ∙ rw (loop .loop .inv .2, add-one) turned-next,
+      loop .loop .inv .1,
+      ap (set (loop .loop .table .panels) k) panel ∙ rw (loop .loop .inv .2, add-one) turned-next,
     )
 
 returns : tie.Need-returns Inv-loop μ-loop
@@ -83,4 +98,4 @@ returns c =
 pub store-in-all-spec : {M : Type 1} → statement M
 store-in-all-spec =
     tie.close
-    (tie.spec Inv-loop μ-loop loop-holds store-at-requires add-k loop-less loop-again returns)
+    (tie.spec Inv-loop μ-loop loop-holds mul-store-in element-copy-out-store-in store-in-requires mul-p element-set-from-p add-k loop-less loop-again returns)
