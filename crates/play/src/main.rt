@@ -1,19 +1,31 @@
 // The play program. Standard input has for each burst a count byte and then that many bytes; each answer of the sample wall
 // is printed behind its burst's number.
+ghost use mathlib.Core.Path.{_≡_};
+ghost use Rattle.panels.specs.Wall.{tableOf, panelsOf};
 ghost use Rattle.panels.specs.WellFormed.{WellFormed};
+ghost use Rattle.line.specs.Played.{played};
 use panels::Table;
 use text::Read;
+
+// The last line: `end` or `cut`, and how many bursts were played.
+fn print_last(word: &[u8], number: u64) {
+    io::write_all(1, word);
+    io::print_decimal(1, number);
+    io::write_all(1, b"\n");
+}
 
 // One burst: its number, a space, and the answer.
 fn answer(t: Table, number: u64, burst: &[u8]) -> Table
     requires { ⌜ WellFormed t ⌝ }
-    ensures { λ r. ⌜ WellFormed r ⌝ }
+    ensures { λ r. ⌜ (r ≡ tableOf (played (panelsOf t) (now (burst .entry)) .wall)) × WellFormed r ⌝ }
 {
     let played = line::play(t, burst);
     io::print_decimal(1, number);
     io::write_all(1, b" ");
     let reply = played.reply;
-    sample::print_answer(reply);
+    let mut digits = [0u8; 80];
+    let n = sample::shown_answer(reply, &mut digits);
+    io::write_all(1, text::front(&digits, n));
     io::write_all(1, b"\n");
     played.table
 }
@@ -30,11 +42,11 @@ fn main() {
                 table = answer(table, number, text::front(&buffer, n));
             }
             Read::Cut => {
-                sample::print_last(b"cut ", number);
+                print_last(b"cut ", number);
                 return;
             }
             Read::End => {
-                sample::print_last(b"end ", number);
+                print_last(b"end ", number);
                 return;
             }
         }

@@ -1,8 +1,10 @@
-// What the programs over the box share: the sample wall of panels 1 and 2, both in group 9, and what they print.
+// What the programs over the box share: the sample wall of panels 1 and 2, both in group 9, and bytes as they print them.
 ghost use mathlib.Core.Path.{_≡_};
 ghost use Rattle.panels.specs.Wall.{tableOf};
 ghost use Rattle.panels.specs.WellFormed.{WellFormed};
 ghost use Rattle.line.specs.Cases.{twoPanels};
+ghost use Rattle.line.specs.Reply.{sentBytes};
+ghost use Rattle.sample.specs.Shown.{shownCount, shownOver};
 use line::Reply;
 use line::Sent;
 use packet::GroupId;
@@ -19,36 +21,30 @@ pub fn two_panels() -> Table
     two.table
 }
 
-// Bytes in upper-case hex, or a dash where there are none.
-pub fn print_bytes(bytes: &[u8])
-    ensures { λ r. ⌜ r ≡ tt ⌝ }
+// Bytes in upper-case hex, or a dash where there are none, at the front of out; answers how many characters.
+pub fn shown(bytes: &[u8], out: &mut [u8]) -> usize
+    ensures { λ r. ⌜ r ≡ shownCount (now (bytes .entry)) (now (out .entry)) ⌝ }
+    ensures { λ _. ⌜ now (out .exit) ≡ shownOver (now (bytes .entry)) (now (out .entry)) ⌝ }
 {
-    if bytes.len() == 0 {
-        io::write_all(1, b"-");
-        return;
+    if bytes.len() != 0 {
+        return text::hex(bytes, out);
     }
-    let mut digits = [0u8; 510];
-    let n = text::hex(bytes, &mut digits);
-    io::write_all(1, &digits[..n]);
+    if out.len() == 0 {
+        return 0;
+    }
+    out[0] = b'-';
+    1
 }
 
-// The bytes that go out for a reply.
-pub fn print_answer(reply: Reply)
-    ensures { λ r. ⌜ r ≡ tt ⌝ }
+// The bytes that go out for a reply, shown.
+pub fn shown_answer(reply: Reply, out: &mut [u8]) -> usize
+    ensures { λ r. ⌜ r ≡ shownCount (sentBytes reply) (now (out .entry)) ⌝ }
+    ensures { λ _. ⌜ now (out .exit) ≡ shownOver (sentBytes reply) (now (out .entry)) ⌝ }
 {
-    let mut out = [0u8; 40];
-    let sent = line::write_answer(reply, &mut out);
+    let mut packet = [0u8; 40];
+    let sent = line::write_answer(reply, &mut packet);
     let Sent::Bytes(n) = sent else {
-        return;
+        return 0;
     };
-    print_bytes(text::front(&out, n));
-}
-
-// The last line: `end` or `cut`, and how many bursts were played.
-pub fn print_last(word: &[u8], number: u64)
-    ensures { λ r. ⌜ r ≡ tt ⌝ }
-{
-    io::write_all(1, word);
-    io::print_decimal(1, number);
-    io::write_all(1, b"\n");
+    shown(text::front(&packet, n), out)
 }

@@ -3,10 +3,19 @@ use text::Read;
 
 fn answer(burst: &[u8]) {
     let played = line::play(sample::two_panels(), burst);
-    sample::print_bytes(burst);
+    let mut digits = [0u8; 510];
+    let shown = sample::shown(burst, &mut digits);
+    io::write_all(1, text::front(&digits, shown));
     io::write_all(1, b" ");
     let reply = played.reply;
-    sample::print_answer(reply);
+    let answered = sample::shown_answer(reply, &mut digits);
+    io::write_all(1, text::front(&digits, answered));
+    io::write_all(1, b"\n");
+}
+
+fn print_last(word: &[u8], number: u64) {
+    io::write_all(1, word);
+    io::print_decimal(1, number);
     io::write_all(1, b"\n");
 }
 
@@ -21,11 +30,11 @@ fn main() {
                 answer(text::front(&buffer, n));
             }
             Read::Cut => {
-                sample::print_last(b"cut ", number);
+                print_last(b"cut ", number);
                 return;
             }
             Read::End => {
-                sample::print_last(b"end ", number);
+                print_last(b"end ", number);
                 return;
             }
         }

@@ -20,19 +20,32 @@ slice-aggregate-write-all c = search needs
 write-all-requires : tie.Need-write-all-requires
 write-all-requires c κs = search needs
 
-print-answer-requires : tie.Need-print-answer-requires
-print-answer-requires c κs = search needs
+slice-aggregate-shown-answer : tie.Need-slice-aggregate-shown-answer
+slice-aggregate-shown-answer c = search needs
 
-slice-aggregate-write-all-2 : tie.Need-slice-aggregate-write-all-2
-slice-aggregate-write-all-2 c = search needs
+shown-answer-requires : tie.Need-shown-answer-requires
+shown-answer-requires c κs = search needs
+
+slice-aggregate-front : tie.Need-slice-aggregate-front
+slice-aggregate-front c = search needs
+
+front-requires : tie.Need-front-requires
+front-requires c κs = search needs
 
 write-all-requires-2 : tie.Need-write-all-requires-2
 write-all-requires-2 c κs = search needs
 
+slice-aggregate-write-all-2 : tie.Need-slice-aggregate-write-all-2
+slice-aggregate-write-all-2 c = search needs
+
+write-all-requires-3 : tie.Need-write-all-requires-3
+write-all-requires-3 c κs = search needs
+
 returns : tie.Need-returns
 returns c =
-    let call = c .before .before .before .before .before .before .before .before in
-    subst WellFormed (sym (ap (λ (p : Played). p .table) (call .play .ensures))) (played-formed (call .before .before .pre) _)
+    let call = c .before .before .before .before .before .before .before .before .before .before .before .before .before in
+    let table = ap (λ (p : Played). p .table) (call .play .ensures) in
+    (table, subst WellFormed (sym table) (played-formed (call .before .before .pre) _))
 
 pub answer-spec : {M : Type 1} → statement M
 answer-spec =
@@ -42,7 +55,11 @@ answer-spec =
     print-decimal-requires
     slice-aggregate-write-all
     write-all-requires
-    print-answer-requires
-    slice-aggregate-write-all-2
+    slice-aggregate-shown-answer
+    shown-answer-requires
+    slice-aggregate-front
+    front-requires
     write-all-requires-2
+    slice-aggregate-write-all-2
+    write-all-requires-3
     returns)

@@ -42,7 +42,7 @@ loop-less : tie.Need-loop-less Inv-loop μ-loop
 loop-less c = search needs
 
 loop-again : tie.Need-loop-again Inv-loop μ-loop
-loop-again c = c .answer .ensures
+loop-again c = c .answer .ensures .1
 
 enum-told : tie.Need-enum-told Inv-loop μ-loop
 enum-told c = search needs
