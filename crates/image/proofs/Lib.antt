@@ -8,6 +8,7 @@ pub mod Steps
 pub mod Values
 pub mod Edges
 pub mod Sound
+pub mod Marked
 pub mod Entries
 pub mod Order
 pub mod Split

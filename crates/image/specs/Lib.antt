@@ -6,4 +6,5 @@ pub mod Written
 pub mod Whole
 pub mod Fields
 pub mod Read
+pub mod Marked
 pub mod Entries

@@ -38,11 +38,13 @@ pub record Reading : Type 0 where
 abbrev pub refused : Refusal → Reading
 refused r = record { refusal = r; wall = [] }
 
--- at least 2 bytes, neither ID nor group 0, and an ID not seen before
+-- at least 2 bytes, and neither ID nor group 0
+abbrev pub headStands : List ℕ → Bool
+headStands bytes = leb 2 (length bytes) && not (eqb (getD bytes 0 0) 0) && not (eqb (getD bytes 1 0) 0)
+
+-- and an ID not seen before
 unfoldable pub headFits : Wall → List ℕ → Bool
-headFits w bytes =
-    leb 2 (length bytes) && not (eqb (getD bytes 0 0) 0) && not (eqb (getD bytes 1 0) 0)
-    && ifThere (placeOf (monitorId (getD bytes 0 0)) w) false true
+headFits w bytes = headStands bytes && ifThere (placeOf (monitorId (getD bytes 0 0)) w) false true
 
 -- 16, then the fields' 17 and 18
 unfoldable pub recordRefusal : Wall → List ℕ → Refusal

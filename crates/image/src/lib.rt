@@ -9,6 +9,7 @@ ghost use Rattle.panels.specs.Wall.{panelsOf};
 ghost use Rattle.panels.specs.WellFormed.{WellFormed};
 ghost use Rattle.image.specs.Written.{writtenOf, outputOf};
 ghost use Rattle.image.specs.Read.{readRefusalOf, readOf, inTable};
+use panels::Panel;
 use panels::Table;
 
 // An image's size, once it is written; or the output has no room for it.
@@ -44,17 +45,16 @@ pub enum Step {
     End,
 }
 
-// A place among a record's fields: which rows were seen before it, and the values with those fields taken.
-pub struct Cursor {
-    pub at: usize,
-    pub seen: [bool; 8],
-    pub values: [u8; 15],
-}
-
 // A panel's values with its record's fields taken, and why the walk over them stopped.
 pub struct Fields {
     pub refusal: Refusal,
     pub values: [u8; 15],
+}
+
+// A record's panel, and why it was refused, if it was.
+pub struct ReadPanel {
+    pub refusal: Refusal,
+    pub panel: Panel,
 }
 
 // The table's image at the front of out, of which the rest stays as it was.

@@ -1,26 +1,24 @@
 // The records of an image, one after the other: 16, the fields, and the panel behind the last.
 ghost use mathlib.Core.Path.{_≡_};
-ghost use mathlib.Core.Bool.{true, cond};
+ghost use mathlib.Core.Bool.{true};
 ghost use mathlib.Core.List.{[]};
-ghost use Prim.Native.Nat.{_<_};
-ghost use Rattle.panels.specs.Wall.{panelsOf, tableOf};
-ghost use Rattle.panels.specs.WellFormed.{WellFormed};
+ghost use lib.ListN.{length};
 ghost use Rattle.image.specs.Whole.{wholeRefusal, recordsIn};
-ghost use Rattle.image.specs.Read.{isSound, headFits, recordRefusal, wallWith, readRecords, inTable};
+ghost use Rattle.image.specs.Read.{isSound, readRecords, inTable};
+ghost use Rattle.image.specs.Marked.{headFitsBy, panelBy};
 use crate::Read;
+use crate::ReadPanel;
 use crate::Refusal;
 use crate::walk;
 use crate::whole;
 use packet::GroupId;
 use packet::MonitorId;
 use panels::Panel;
-use panels::Place;
-use panels::Table;
 
-// At least 2 bytes, neither ID nor group 0, and an ID that the table does not have.
-fn head_fits(t: Table, bytes: &[u8]) -> bool
-    requires { ⌜ WellFormed t ⌝ }
-    ensures { λ r. ⌜ r ≡ headFits (panelsOf t) (now (bytes .entry)) ⌝ }
+// At least 2 bytes, neither ID nor group 0, and an ID not seen before.
+fn head_fits(bytes: &[u8], seen: &[bool]) -> bool
+    requires { ⌜ length (now seen) ≡ 256 ⌝ }
+    ensures { λ r. ⌜ r ≡ headFitsBy (now (seen .entry)) (now (bytes .entry)) ⌝ }
 {
     if bytes.len() < 2 {
         return false;
@@ -32,44 +30,34 @@ fn head_fits(t: Table, bytes: &[u8]) -> bool
     if bytes[1] == 0 {
         return false;
     }
-    let place = panels::find_panel(t, MonitorId(id));
-    match place {
-        Place::At(_) => false,
-        Place::Nowhere => true,
-    }
+    !seen[id as usize]
 }
 
-// The table with a record's panel behind the last; on a refusal it is as before.
-fn with_record(t: Table, bytes: &[u8]) -> Read
-    requires { ⌜ WellFormed t × (t .count < 32) ⌝ }
-    ensures { λ r. ⌜ r .refusal ≡ recordRefusal (panelsOf t) (now (bytes .entry)) ⌝ }
-    ensures { λ r. ⌜ r .table ≡ tableOf (cond (isSound (r .refusal)) (wallWith (panelsOf t) (now (bytes .entry))) (panelsOf t)) ⌝ }
+// The panel of a record, behind others whose IDs are marked as seen.
+fn panel_of(bytes: &[u8], seen: &[bool]) -> ReadPanel
+    requires { ⌜ length (now seen) ≡ 256 ⌝ }
+    ensures { λ r. ⌜ r ≡ panelBy (now (seen .entry)) (now (bytes .entry)) ⌝ }
 {
-    if !head_fits(t, bytes) {
-        return Read {
+    if !head_fits(bytes, seen) {
+        let panel = Panel {
+            id: MonitorId(0),
+            group: GroupId(0),
+            values: [0u8; 15],
+        };
+        return ReadPanel {
             refusal: Refusal::Record,
-            table: t,
+            panel,
         };
     }
     let fields = walk::fields_of(&bytes[2..]);
     let refusal = fields.refusal;
-    if crate::refusal_number(refusal) != 0 {
-        return Read { refusal, table: t };
-    }
     let values = fields.values;
-    let p = Panel {
+    let panel = Panel {
         id: MonitorId(bytes[0]),
         group: GroupId(bytes[1]),
         values,
     };
-    let n = t.count;
-    let mut next = t;
-    next.panels[n] = p;
-    next.count = n + 1;
-    Read {
-        refusal,
-        table: next,
-    }
+    ReadPanel { refusal, panel }
 }
 
 // All records of an image that is sound as a whole, in order.
@@ -79,19 +67,23 @@ pub fn all(image: &[u8]) -> Read
 {
     let n = whole::count_of(image);
     let mut t = panels::empty_table();
+    let mut seen = [false; 256];
     let mut start = 0;
     let mut k = 0;
     while k < n {
         let end = whole::edge_at(image, n, k + 1);
-        let read = with_record(t, &image[start..end]);
+        let read = panel_of(&image[start..end], &seen);
         let refusal = read.refusal;
         if crate::refusal_number(refusal) != 0 {
             let table = panels::empty_table();
             return Read { refusal, table };
         }
-        t = read.table;
-        start = end;
+        let panel = read.panel;
+        seen[panel.id.0 as usize] = true;
+        t.panels[k] = panel;
         k += 1;
+        t.count = k;
+        start = end;
     }
     Read {
         refusal: Refusal::Nothing,

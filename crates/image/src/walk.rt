@@ -1,19 +1,18 @@
-// The walk over a record's fields: a step that tells what stands at the cursor, and the cursor past a field that is taken.
+// The walk over a record's fields: what stands at the front of the bytes that are left, and a field's values taken.
 ghost use mathlib.Core.Path.{_≡_};
 ghost use Prim.Native.Nat.{_+_, _≤_, _<_};
-ghost use lib.ListN.{length, drop};
-ghost use Rattle.settings.specs.Settings.{byteCount, place};
-ghost use Rattle.image.specs.Laid.{laidAt};
-ghost use Rattle.image.specs.Fields.{stepAt, seenWith, valuesWith, valuesIn, fieldsIn};
-use crate::Cursor;
+ghost use lib.ListN.{length};
+ghost use Rattle.settings.specs.Settings.{byteCount};
+ghost use Rattle.image.specs.Fields.{stepAt, valuesWith, valuesIn, fieldsIn};
 use crate::Fields;
 use crate::Refusal;
 use crate::Step;
 use settings::Found;
 
 // What stands at the front of the bytes that are left, where some rows were seen before.
-fn step_at(left: &[u8], seen: [bool; 8]) -> Step
-    ensures { λ r. ⌜ r ≡ stepAt seen (now (left .entry)) ⌝ }
+fn step_at(left: &[u8], seen: &[bool]) -> Step
+    requires { ⌜ length (now seen) ≡ 8 ⌝ }
+    ensures { λ r. ⌜ r ≡ stepAt (now (seen .entry)) (now (left .entry)) ⌝ }
 {
     let n = left.len();
     if n == 0 {
@@ -39,43 +38,30 @@ fn step_at(left: &[u8], seen: [bool; 8]) -> Step
     Step::Field(row)
 }
 
-// The cursor past a field of a row, which is taken.
-fn taken(c: Cursor, bytes: &[u8], row: usize) -> Cursor
-    requires { ⌜ (row < 8) × (length (c .values) ≡ 15) × (c .at + 2 + byteCount row ≤ length (now bytes)) ⌝ }
-    ensures { λ r. ⌜ (r .at ≡ c .at + 2 + byteCount row) × (r .seen ≡ seenWith row (c .seen)) × (r .values ≡ valuesWith row (valuesIn row (drop (c .at) (now (bytes .entry)))) (c .values)) ⌝ }
+// The values of a row's field, which stands at the front of the bytes that are left, laid at the row's place.
+fn take_values(left: &[u8], row: usize, values: &mut [u8])
+    requires { ⌜ (row < 8) × (length (now values) ≡ 15) × (2 + byteCount row ≤ length (now left)) ⌝ }
+    ensures { λ _. ⌜ now (values .exit) ≡ valuesWith row (valuesIn row (now (left .entry))) (now (values .entry)) ⌝ }
 {
     let count = settings::byte_count(row);
     let first = settings::place_of(row);
-    let from = c.at + 2;
-    let mut values = c.values;
-    bytes::copy(&bytes[from..from + count], &mut values[first..]);
-    let mut seen = c.seen;
-    seen[row] = true;
-    Cursor {
-        at: from + count,
-        seen,
-        values,
-    }
+    bytes::copy(&left[2..2 + count], &mut values[first..]);
 }
 
 // The values of a panel whose record goes on with these bytes.
 pub fn fields_of(bytes: &[u8]) -> Fields
     ensures { λ r. ⌜ r ≡ fieldsIn (now (bytes .entry)) ⌝ }
 {
-    let values = settings::fresh();
-    let mut c = Cursor {
-        at: 0,
-        seen: [false; 8],
-        values,
-    };
+    let mut values = settings::fresh();
+    let mut seen = [false; 8];
+    let mut at = 0;
     loop {
-        let at = c.at;
-        let seen = c.seen;
-        let step = step_at(&bytes[at..], seen);
-        let values = c.values;
+        let step = step_at(&bytes[at..], &seen);
         match step {
             Step::Field(row) => {
-                c = taken(c, bytes, row);
+                take_values(&bytes[at..], row, &mut values);
+                seen[row] = true;
+                at = at + 2 + settings::byte_count(row);
             }
             Step::NotAllowed(_) => {
                 return Fields {

@@ -12,7 +12,7 @@ use lib.Seq.{drop-cons}
 use Rattle.settings.specs.declared.Found.{Found}
 use Rattle.settings.specs.declared.Found.the-variants.{Set, Get, Nothing}
 use Rattle.settings.specs.Settings.{Range, Setting, settings, noSetting, setting, foundFrom, foundBy, setCode, getCode, byteCount, place, within, allAllowed, allowedFor, allowedByRow, allowedValues, freshValues}
-use Rattle.settings.specs.Numbers.{rangesOf}
+use Rattle.settings.specs.Numbers.{rangesOf, firstRange, otherRanges, othersOf}
 use Rattle.settings.proofs.WrittenOut.{alike}
 use Rattle.settings.proofs.Flat.{in-flat, flat-fits, flat-apart}
 
@@ -98,6 +98,11 @@ places-apart j k h = rw (← allowed-of-row j) (flat-apart allowedByRow j k h)
 pub at-place : (row k : ℕ) → k < byteCount row → getD (setting row .allowed) k [] ≡ rangesOf (place row + k)
 unfolding allowedValues
 at-place row k h = sym (in-flat allowedByRow row k [] (rw (allowed-of-row row) h) ∙ rw (allowed-of-row row))
+
+-- Every value byte has a first range.
+pub first-and-others : {p : ℕ} → p < 15 → rangesOf p ≡ firstRange p ∷ othersOf p
+unfolding settings allowedByRow allowedValues otherRanges flatten
+first-and-others h = alike rangesOf (λ p. firstRange p ∷ othersOf p) 15 refl h
 
 -- Values are allowed only where there are as many as the row has.
 pub other-count : (rs : List (List Range)) (vs : List ℕ) → (length vs ≡ length rs → ⊥) → allAllowed rs vs ≡ false

@@ -1,36 +1,51 @@
--- The code's const table: the paper's, with the ranges of all value bytes numbered through.
+-- The code's const table: the paper's, with the first range of each value byte apart, since most have but that one.
 use Prim.Native.Nat.{ℕ, zero, suc}
-use mathlib.Core.List.{List, [], _∷_, flatten}
-use lib.ListN.{length, getD}
+use mathlib.Core.List.{List, [], _∷_, map, flatten}
+use lib.ListN.{length, getD, drop}
 use Rattle.settings.specs.Settings.{Range, setCode, getCode, byteCount, place, allowedValues, freshValues, startOf}
 use Rattle.settings.specs.declared.Row.{Row}
-use Rattle.settings.specs.declared.Value.{Value}
 use Rattle.settings.specs.declared.Span.{Span}
+use Rattle.settings.specs.declared.Others.{Others}
 use Rattle.settings.specs.declared.Table.{Table}
 
--- the ranges of the first value byte, then those of the second, and so on
-unfoldable pub allRanges : List Range
-unfolding flatten
-allRanges = flatten allowedValues
+abbrev pub noRange : Range
+noRange = record { low = 0; high = 0 }
 
-abbrev pub rangeAt : ℕ → Range
-rangeAt i = getD allRanges i (record { low = 0; high = 0 })
-
--- the ranges of the value at place p, and the first one's number
+-- the ranges of the value at place p: the first, and the others
 abbrev pub rangesOf : ℕ → List Range
 rangesOf p = getD allowedValues p []
 
-abbrev pub rangesFrom : ℕ → ℕ
-rangesFrom p = startOf allowedValues p
+abbrev pub firstRange : ℕ → Range
+firstRange p = getD (rangesOf p) 0 noRange
+
+unfoldable pub otherRanges : List (List Range)
+otherRanges = map (drop 1) allowedValues
+
+abbrev pub othersOf : ℕ → List Range
+othersOf p = getD otherRanges p []
+
+-- the others of all value bytes, one behind the other: where those of place p begin, and number i
+abbrev pub othersFrom : ℕ → ℕ
+othersFrom p = startOf otherRanges p
+
+unfoldable pub allOthers : List Range
+unfolding flatten
+allOthers = flatten otherRanges
+
+abbrev pub otherRange : ℕ → Range
+otherRange i = getD allOthers i noRange
 
 abbrev pub rowOf : ℕ → Row
 rowOf k = record { 0 = setCode k; 1 = getCode k; 2 = byteCount k; 3 = place k }
 
-abbrev pub valueOf : ℕ → Value
-valueOf p = record { 0 = rangesFrom p; 1 = length (rangesOf p) }
+abbrev pub partOf : ℕ → Others
+partOf p = record { 0 = othersFrom p; 1 = length (othersOf p) }
 
-abbrev pub spanOf : ℕ → Span
-spanOf i = record { 0 = rangeAt i .low; 1 = rangeAt i .high }
+abbrev pub spanOf : Range → Span
+spanOf r = record { 0 = r .low; 1 = r .high }
+
+abbrev pub rangeOf : Span → Range
+rangeOf s = record { low = s .0; high = s .1 }
 
 -- f at 0, 1, .., n - 1
 abbrev pub each : {A : Type 0} → (ℕ → A) → ℕ → List A
@@ -38,4 +53,10 @@ each f zero = []
 each f (suc n) = f 0 ∷ each (λ k. f (suc k)) n
 
 unfoldable pub paperTable : Table
-paperTable = record { rows = each rowOf 8; values = each valueOf 15; ranges = each spanOf 18; fresh = freshValues }
+paperTable = record {
+  rows = each rowOf 8;
+  ranges = each (λ p. spanOf (firstRange p)) 15;
+  others = each partOf 15;
+  more = each (λ i. spanOf (otherRange i)) 3;
+  fresh = freshValues;
+}

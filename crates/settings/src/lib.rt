@@ -3,21 +3,22 @@ ghost use mathlib.Core.Path.{_≡_};
 ghost use Prim.Native.Nat.{_<_};
 ghost use lib.ListN.{length};
 ghost use Rattle.settings.specs.Settings.{foundBy, setCode, getCode, byteCount, place, inRange, within, allowedFor, freshValues};
-ghost use Rattle.settings.specs.Numbers.{rangeAt, rangesFrom, rangesOf, paperTable};
+ghost use Rattle.settings.specs.Numbers.{rangeOf, rangesOf, firstRange, othersOf, othersFrom, otherRange, paperTable};
 
 // A setting: its set code, its get code, its count of value bytes, and the place of the first among all value bytes.
 struct Row(u8, u8, u8, u8);
 
-// A value byte: the first of its ranges, and how many it has.
-struct Value(u8, u8);
-
 // The values from the lowest to the highest that a range allows.
 struct Span(u8, u8);
 
+// A value byte's other ranges, behind its first: where they begin among all such, and how many there are.
+struct Others(u8, u8);
+
 struct Table {
     rows: [Row; 8],
-    values: [Value; 15],
-    ranges: [Span; 18],
+    ranges: [Span; 15],
+    others: [Others; 15],
+    more: [Span; 3],
     fresh: [u8; 15],
 }
 
@@ -32,23 +33,6 @@ const TABLE: Table = Table {
         Row(0xD0, 0xD1, 1, 13), // APM
         Row(0xDD, 0xDE, 1, 14), // power saving
     ],
-    values: [
-        Value(0, 1), // power
-        Value(1, 1), // video: six, and gamma
-        Value(2, 1),
-        Value(3, 1),
-        Value(4, 1),
-        Value(5, 1),
-        Value(6, 1),
-        Value(7, 1),
-        Value(8, 4), // colour temperature
-        Value(12, 1), // treble, bass
-        Value(13, 1),
-        Value(14, 1), // fan
-        Value(15, 1), // cold start
-        Value(16, 1), // APM
-        Value(17, 1), // power saving
-    ],
     ranges: [
         Span(1, 2), // power
         Span(0, 100), // video: six, and gamma
@@ -59,15 +43,34 @@ const TABLE: Table = Table {
         Span(0, 100),
         Span(1, 5),
         Span(0, 1), // colour temperature
-        Span(3, 6),
-        Span(9, 10),
-        Span(13, 13),
         Span(0, 100), // treble, bass
         Span(0, 100),
         Span(0, 4), // fan
         Span(0, 2), // cold start
         Span(0, 3), // APM
         Span(0, 3), // power saving
+    ],
+    others: [
+        Others(0, 0), // power
+        Others(0, 0), // video: six, and gamma
+        Others(0, 0),
+        Others(0, 0),
+        Others(0, 0),
+        Others(0, 0),
+        Others(0, 0),
+        Others(0, 0),
+        Others(0, 3), // colour temperature
+        Others(3, 0), // treble, bass
+        Others(3, 0),
+        Others(3, 0), // fan
+        Others(3, 0), // cold start
+        Others(3, 0), // APM
+        Others(3, 0), // power saving
+    ],
+    more: [
+        Span(3, 6), // colour temperature
+        Span(9, 10),
+        Span(13, 13),
     ],
     fresh: [
         2, // power
@@ -110,19 +113,19 @@ fn row_at(k: usize) -> Row
     rows[k]
 }
 
-fn value_at(p: usize) -> Value
+fn others_at(p: usize) -> Others
     requires { ⌜ p < 15 ⌝ }
-    ensures { λ r. ⌜ (r .0 ≡ rangesFrom p) × (r .1 ≡ length (rangesOf p)) ⌝ }
+    ensures { λ r. ⌜ (r .0 ≡ othersFrom p) × (r .1 ≡ length (othersOf p)) ⌝ }
 {
-    let values = the_table().values;
-    values[p]
+    let others = the_table().others;
+    others[p]
 }
 
-fn span_at(i: usize) -> Span
-    requires { ⌜ i < 18 ⌝ }
-    ensures { λ r. ⌜ (r .0 ≡ rangeAt i .low) × (r .1 ≡ rangeAt i .high) ⌝ }
+fn other_range_at(i: usize) -> Span
+    requires { ⌜ i < 3 ⌝ }
+    ensures { λ r. ⌜ rangeOf r ≡ otherRange i ⌝ }
 {
-    let ranges = the_table().ranges;
+    let ranges = the_table().more;
     ranges[i]
 }
 
@@ -176,30 +179,39 @@ pub fn place_of(row: usize) -> usize
     row_at(row).3 as usize
 }
 
-fn in_range(i: usize, v: u8) -> bool
-    requires { ⌜ i < 18 ⌝ }
-    ensures { λ r. ⌜ r ≡ inRange (rangeAt i) v ⌝ }
+fn in_range(range: Span, v: u8) -> bool
+    ensures { λ r. ⌜ r ≡ inRange (rangeOf range) v ⌝ }
 {
-    let span = span_at(i);
-    span.0 <= v && v <= span.1
+    range.0 <= v && v <= range.1
 }
 
-// Whether v may stand at place p.
-fn allowed_at(p: usize, v: u8) -> bool
+// Whether v is in one of the ranges of place p behind the first.
+fn in_others(p: usize, v: u8) -> bool
     requires { ⌜ p < 15 ⌝ }
-    ensures { λ r. ⌜ r ≡ within (rangesOf p) v ⌝ }
+    ensures { λ r. ⌜ r ≡ within (othersOf p) v ⌝ }
 {
-    let value = value_at(p);
-    let first = value.0 as usize;
-    let count = value.1 as usize;
+    let others = others_at(p);
+    let first = others.0 as usize;
+    let count = others.1 as usize;
     let mut k = 0;
     while k < count {
-        if in_range(first + k, v) {
+        if in_range(other_range_at(first + k), v) {
             return true;
         }
         k += 1;
     }
     false
+}
+
+// Whether v may stand at place p, whose first range is given.
+fn allowed_at(p: usize, range: Span, v: u8) -> bool
+    requires { ⌜ (p < 15) × (rangeOf range ≡ firstRange p) ⌝ }
+    ensures { λ r. ⌜ r ≡ within (rangesOf p) v ⌝ }
+{
+    if in_range(range, v) {
+        return true;
+    }
+    in_others(p, v)
 }
 
 // Whether these bytes may be set in a row: as many as it has, and each of them allowed.
@@ -212,9 +224,11 @@ pub fn allowed(row: usize, values: &[u8]) -> bool
     if values.len() != count {
         return false;
     }
+    let ranges = the_table().ranges;
     let mut k = 0;
     while k < count {
-        if !allowed_at(first + k, values[k]) {
+        let p = first + k;
+        if !allowed_at(p, ranges[p], values[k]) {
             return false;
         }
         k += 1;

@@ -1,103 +1,39 @@
--- One range of the value after the other is tried. The invariant: the answer is that of the ranges from k on.
--- Assumes nothing.
+-- The first range is tried, then the others. Assumes nothing.
 use mathlib.Core.Path.{_≡_, refl, sym, ap, _∙_}
 use mathlib.Core.Bool.{Bool, true, false, _||_}
-use mathlib.Core.List.{flatten}
-use Prim.Native.Nat.{ℕ, _+_, _-_, _≤_, _<_}
-use native.Mathlib.Nat.{le-antisymm}
-use native.Mathlib.Numerals.{add-one}
-use native.Mathlib.Omega.{arith}
+use Prim.Native.Nat.{ℕ, _<_}
 use borrow.Author.Needs.{needs}
-use lib.ListN.{length, getD, drop}
-use lib.Seq.{drop-cons, drop-length}
-use Rattle.settings.specs.Settings.{Range, inRange, within, settings, allowedByRow, allowedValues}
-use Rattle.settings.specs.Numbers.{allRanges, rangeAt, rangesFrom, rangesOf}
-use Rattle.settings.proofs.Flat.{in-flat, flat-fits}
+use Rattle.settings.specs.Settings.{Range, inRange, within}
+use Rattle.settings.specs.Numbers.{rangeOf, rangesOf, firstRange, othersOf}
+use Rattle.settings.proofs.Laws.{first-and-others}
 use Rattle.settings.proofs.allowed_at.Statement.{statement}
 use Rattle.settings.proofs.allowed_at.Tie as tie
 use Rattle.settings.proofs.allowed_at.Reads as reads
 use Rattle.settings.proofs.allowed_at.Lts as lts
+use Rattle.settings.proofs.in_others.Reads as in-others-reads
 use Rattle.settings.proofs.in_range.Reads as in-range-reads
-use Rattle.settings.proofs.value_at.Reads as value-at-reads
 
-rest : ℕ → ℕ → ℕ → Bool
-rest p v k = within (drop k (rangesOf p)) v
+apart : {p : ℕ} (v : ℕ) {r : Range} → p < 15 → r ≡ firstRange p → inRange r v || within (othersOf p) v ≡ within (rangesOf p) v
+unfolding within
+apart v h e = rw (first-and-others h, e)
 
-step : (p v k : ℕ) → k < length (rangesOf p) → rest p v k ≡ inRange (rangeAt (rangesFrom p + k)) v || rest p v (k + 1)
-unfolding rest within allRanges
-step p v k h = rw (drop-cons (rangesOf p) k (record { low = 0; high = 0 }), add-one, in-flat allowedValues p k)
+in-range-requires : tie.Need-in-range-requires
+in-range-requires c κs = tt
 
-fits : (p : ℕ) → rangesFrom p + length (rangesOf p) ≤ 18
-unfolding settings allowedByRow allowedValues flatten
-fits p = flat-fits allowedValues p
-
-abbrev Inv-loop : tie.InvT-loop
-Inv-loop p v first count k₀ k = (k ≤ length (rangesOf p)) × (rest p v 0 ≡ rest p v k)
-
-abbrev μ-loop : tie.MeasureT-loop
-μ-loop p v first count k₀ k = length (rangesOf p) - k
-
-value-at-requires : tie.Need-value-at-requires Inv-loop μ-loop
-value-at-requires c κs = search needs
-
-cast-first : tie.Need-cast-first Inv-loop μ-loop
-cast-first c = search needs
-
-cast-count : tie.Need-cast-count Inv-loop μ-loop
-cast-count c = search needs
-
-loop-holds : tie.Need-loop-holds Inv-loop μ-loop
-loop-holds c = (omega arith, refl)
-
-add-in-range : tie.Need-add-in-range Inv-loop μ-loop
-add-in-range c = omega (arith, fits (c .before .before .before .before .before .args .p))
-
-in-range-requires : tie.Need-in-range-requires Inv-loop μ-loop
-in-range-requires c κs = omega (arith, fits (c .before .before .before .before .before .args .p))
-
-returns : tie.Need-returns Inv-loop μ-loop
-unfolding rest
+returns : tie.Need-returns
 returns c =
-    let loop = c .before .before .before in
-    let value = loop .before .before .before in
-    let here : inRange (rangeAt (rangesFrom (value .before .args .p) + loop .loop .k)) (value .before .args .v) ≡ true = (cc) in
-    sym (loop .loop .inv .1 ∙ step (value .before .args .p) (value .before .args .v) (loop .loop .k) (omega arith) ∙ simp here)
+    let start = c .before .before in
+    let here : inRange (rangeOf (start .args .range)) (start .args .v) ≡ true = (cc) in
+    simp here at (apart (start .args .v) (start .pre .0) (start .pre .1))
 
-add-k : tie.Need-add-k Inv-loop μ-loop
-add-k c = omega (arith, fits (c .before .before .before .before .before .before .before .args .p))
+in-others-requires : tie.Need-in-others-requires
+in-others-requires c κs = search needs
 
-loop-less : tie.Need-loop-less Inv-loop μ-loop
-loop-less c = omega arith
-
-loop-again : tie.Need-loop-again Inv-loop μ-loop
-loop-again c =
-    let loop = c .before .before .before in
-    let value = loop .before .before .before in
-    let here : inRange (rangeAt (rangesFrom (value .before .args .p) + loop .loop .k)) (value .before .args .v) ≡ false = (cc) in
-    (omega arith, loop .loop .inv .1 ∙ step _ _ _ (omega arith) ∙ simp here)
-
-returns-2 : tie.Need-returns-2 Inv-loop μ-loop
-unfolding rest within
+returns-2 : tie.Need-returns-2
 returns-2 c =
-    let loop = c .before in
-    let p = loop .before .before .before .before .args .p in
-    let end : loop .loop .k ≡ length (rangesOf p) = omega arith in
-    sym (loop .loop .inv .1 ∙ rw (end, drop-length (rangesOf p)))
+    let start = c .before .before .before in
+    let here : inRange (rangeOf (start .args .range)) (start .args .v) ≡ false = (cc) in
+    c .in-others .ensures ∙ simp here at (apart (start .args .v) (start .pre .0) (start .pre .1))
 
 pub allowed-at-spec : {M : Type 1} → statement M
-allowed-at-spec =
-    tie.close
-    (tie.spec
-    Inv-loop
-    μ-loop
-    value-at-requires
-    cast-first
-    cast-count
-    loop-holds
-    add-in-range
-    in-range-requires
-    returns
-    add-k
-    loop-less
-    loop-again
-    returns-2)
+allowed-at-spec = tie.close (tie.spec in-range-requires returns in-others-requires returns-2)

@@ -50,10 +50,10 @@ module _ (seen : List Bool) (left : List ℕ) (row : ℕ) (n : eqb (length left)
     when-allowed d a = simp (n, found, s, le-ltb (length left) (2 + byteCount row) h, eq-eqb (getD left 1 0) (byteCount row) d, a)
 
 -- past the first two tests the bytes begin with the set code of a row
-some : (c : tie.After-find-setting) → eqb (length (c .before .before .before .before .args .left .now)) 0 ≡ false
+some : (c : tie.After-find-setting) → eqb (length (c .before .before .before .before .before .args .left .now)) 0 ≡ false
 some c = ne-eqb _ _ (c .before .before .if1 .left)
 
-found : (c : tie.After-known-told) → foundBy (getD (c .before .before .before .before .before .before .before .args .left .now) 0 0) ≡ Set (c .before .found .given .0 .0)
+found : (c : tie.After-known-told) → foundBy (getD (c .before .before .before .before .before .before .before .before .args .left .now) 0 0) ≡ Set (c .before .found .given .0 .0)
 found c = sym (c .before .before .before .find-setting .ensures) ∙ c .before .found .given .1
 
 in-table : (c : tie.After-known-told) → c .before .found .given .0 .0 < 8
@@ -76,39 +76,39 @@ returns-2 : tie.Need-returns-2
 unfolding stepAt
 returns-2 c =
     let call = c .before in
-    let a = call .before .before .before .before .args in
-    rw (some call, ← call .find-setting .ensures) (not-set (call .find-setting .result) (a .t2) (a .left .now) (c .match .keys2))
+    let a = call .before .before .before .before .before .args in
+    rw (some call, ← call .find-setting .ensures) (not-set (call .find-setting .result) (a .seen .now) (a .left .now) (c .match .keys2))
 
 byte-count-requires : tie.Need-byte-count-requires
 byte-count-requires c κs = in-table c
 
-array-read-if2 : tie.Need-array-read-if2
-array-read-if2 c = in-table (c .before)
+shared-slice-read-if2 : tie.Need-shared-slice-read-if2
+shared-slice-read-if2 c = omega (arith, in-table (c .before .before), c .before .before .before .before .before .before .before .before .before .before .pre)
 
 returns-3 : tie.Need-returns-3
-returns-3 c = let known = c .before .before in when-seen _ _ _ (some (known .before .before .before)) (found known) (c .if2 .taken)
+returns-3 c = let known = c .before .before .before in when-seen _ _ _ (some (known .before .before .before)) (found known) (c .if2 .taken)
 
 add-if3 : tie.Need-add-if3
-add-if3 c = omega (arith, place-fits (c .before .before .before .found .given .0 .0))
+add-if3 c = omega (arith, place-fits (c .before .before .before .before .found .given .0 .0))
 
 returns-4 : tie.Need-returns-4
 returns-4 c =
     let else2 = c .before in
-    let known = else2 .before .before in
-    when-cut _ _ _ (some (known .before .before .before)) (found known) (else2 .if2 .left) (omega (arith, c .if3 .taken, else2 .before .byte-count .ensures))
+    let known = else2 .before .before .before in
+    when-cut _ _ _ (some (known .before .before .before)) (found known) (else2 .if2 .left) (omega (arith, c .if3 .taken, else2 .before .before .byte-count .ensures))
 
 shared-slice-read-if4 : tie.Need-shared-slice-read-if4
 shared-slice-read-if4 c = search needs
 
 cast-if4 : tie.Need-cast-if4
-cast-if4 c = omega (arith, c .shared-slice-known3 .given 1)
+cast-if4 c = omega (arith, c .shared-slice-known5 .given 1)
 
 returns-5 : tie.Need-returns-5
 returns-5 c =
     let else3 = c .before .before in
     let else2 = else3 .before in
-    let known = else2 .before .before in
-    let n = else2 .before .byte-count .ensures in
+    let known = else2 .before .before .before in
+    let n = else2 .before .before .byte-count .ensures in
     when-other _ _ _ (some (known .before .before .before)) (found known) (else2 .if2 .left) (omega (arith, else3 .if3 .left)) (λ e. c .if4 .taken (e ∙ sym n))
 
 add-allowed : tie.Need-add-allowed
@@ -124,7 +124,7 @@ part-allowed-end : tie.Need-part-allowed-end
 part-allowed-end c = search needs
 
 allowed-requires : tie.Need-allowed-requires
-allowed-requires c κs = in-table (c .before .before .before .before .before .before)
+allowed-requires c κs = in-table (c .before .before .before .before .before .before .before)
 
 returns-6 : tie.Need-returns-6
 returns-6 c =
@@ -132,11 +132,11 @@ returns-6 c =
     let else4 = call .before .before in
     let else3 = else4 .before .before in
     let else2 = else3 .before in
-    let known = else2 .before .before in
-    let left = known .before .before .before .before .before .before .before .args .left .now in
+    let known = else2 .before .before .before in
+    let left = known .before .before .before .before .before .before .before .before .args .left .now in
     let row = known .before .found .given .0 .0 in
-    let n = else2 .before .byte-count .ensures in
-    let m : 2 + else2 .before .byte-count .result - 2 ≡ byteCount row = omega arith in
+    let n = else2 .before .before .byte-count .ensures in
+    let m : 2 + else2 .before .before .byte-count .result - 2 ≡ byteCount row = omega arith in
     let answer = call .allowed .ensures ∙ ap (λ (k : ℕ). allowedFor row (take k (drop 2 left))) m in
     when-not-allowed _ _ _ (some (known .before .before .before)) (found known) (else2 .if2 .left) (omega (arith, else3 .if3 .left)) (else4 .if4 .left ∙ n) (sym answer ∙ not-true _ (c .if5 .taken))
 
@@ -146,11 +146,11 @@ returns-7 c =
     let else4 = call .before .before in
     let else3 = else4 .before .before in
     let else2 = else3 .before in
-    let known = else2 .before .before in
-    let left = known .before .before .before .before .before .before .before .args .left .now in
+    let known = else2 .before .before .before in
+    let left = known .before .before .before .before .before .before .before .before .args .left .now in
     let row = known .before .found .given .0 .0 in
-    let n = else2 .before .byte-count .ensures in
-    let m : 2 + else2 .before .byte-count .result - 2 ≡ byteCount row = omega arith in
+    let n = else2 .before .before .byte-count .ensures in
+    let m : 2 + else2 .before .before .byte-count .result - 2 ≡ byteCount row = omega arith in
     let answer = call .allowed .ensures ∙ ap (λ (k : ℕ). allowedFor row (take k (drop 2 left))) m in
     when-allowed _ _ _ (some (known .before .before .before)) (found known) (else2 .if2 .left) (omega (arith, else3 .if3 .left)) (else4 .if4 .left ∙ n) (sym answer ∙ not-false _ (c .if5 .left))
 
@@ -164,7 +164,7 @@ step-at-spec =
     enum-known-found
     returns-2
     byte-count-requires
-    array-read-if2
+    shared-slice-read-if2
     returns-3
     add-if3
     returns-4
