@@ -3,7 +3,8 @@ use Prim.Native.Nat.{ℕ, zero, suc}
 use mathlib.Core.List.{List, [], _∷_, map, flatten}
 use lib.ListN.{length, getD, drop}
 use Rattle.settings.specs.Settings.{Range, setCode, getCode, byteCount, place, allowedValues, freshValues, startOf}
-use Rattle.settings.specs.declared.Row.{Row}
+use Rattle.settings.specs.declared.Codes.{Codes}
+use Rattle.settings.specs.declared.Values.{Values}
 use Rattle.settings.specs.declared.Span.{Span}
 use Rattle.settings.specs.declared.Others.{Others}
 use Rattle.settings.specs.declared.Table.{Table}
@@ -35,11 +36,14 @@ allOthers = flatten otherRanges
 abbrev pub otherRange : ℕ → Range
 otherRange i = getD allOthers i noRange
 
-abbrev pub rowOf : ℕ → Row
-rowOf k = record { 0 = setCode k; 1 = getCode k; 2 = byteCount k; 3 = place k }
+abbrev pub codesAt : ℕ → Codes
+codesAt k = record { 0 = setCode k; 1 = getCode k }
 
-abbrev pub partOf : ℕ → Others
-partOf p = record { 0 = othersFrom p; 1 = length (othersOf p) }
+abbrev pub valuesAt : ℕ → Values
+valuesAt k = record { 0 = byteCount k; 1 = place k }
+
+abbrev pub othersAt : ℕ → Others
+othersAt p = record { 0 = othersFrom p; 1 = length (othersOf p) }
 
 abbrev pub spanOf : Range → Span
 spanOf r = record { 0 = r .low; 1 = r .high }
@@ -54,9 +58,10 @@ each f (suc n) = f 0 ∷ each (λ k. f (suc k)) n
 
 unfoldable pub paperTable : Table
 paperTable = record {
-  rows = each rowOf 8;
+  codes = each codesAt 8;
+  values = each valuesAt 8;
   ranges = each (λ p. spanOf (firstRange p)) 15;
-  others = each partOf 15;
+  others = each othersAt 15;
   more = each (λ i. spanOf (otherRange i)) 3;
   fresh = freshValues;
 }

@@ -5,8 +5,11 @@ ghost use lib.ListN.{length};
 ghost use Rattle.settings.specs.Settings.{foundBy, setCode, getCode, byteCount, place, inRange, within, allowedFor, freshValues};
 ghost use Rattle.settings.specs.Numbers.{rangeOf, rangesOf, firstRange, othersOf, othersFrom, otherRange, paperTable};
 
-// A setting: its set code, its get code, its count of value bytes, and the place of the first among all value bytes.
-struct Row(u8, u8, u8, u8);
+// A setting's set code and its get code.
+struct Codes(u8, u8);
+
+// A setting's value bytes: how many there are, and the place of the first among all value bytes.
+struct Values(u8, u8);
 
 // The values from the lowest to the highest that a range allows.
 struct Span(u8, u8);
@@ -15,7 +18,8 @@ struct Span(u8, u8);
 struct Others(u8, u8);
 
 struct Table {
-    rows: [Row; 8],
+    codes: [Codes; 8],
+    values: [Values; 8],
     ranges: [Span; 15],
     others: [Others; 15],
     more: [Span; 3],
@@ -23,15 +27,25 @@ struct Table {
 }
 
 const TABLE: Table = Table {
-    rows: [
-        Row(0x18, 0x19, 1, 0), // power
-        Row(0x32, 0x33, 7, 1), // video
-        Row(0x34, 0x35, 1, 8), // colour temperature
-        Row(0x42, 0x43, 2, 9), // treble, bass
-        Row(0x61, 0x62, 1, 11), // fan
-        Row(0xA3, 0xA4, 1, 12), // cold start
-        Row(0xD0, 0xD1, 1, 13), // APM
-        Row(0xDD, 0xDE, 1, 14), // power saving
+    codes: [
+        Codes(0x18, 0x19), // power
+        Codes(0x32, 0x33), // video
+        Codes(0x34, 0x35), // colour temperature
+        Codes(0x42, 0x43), // treble, bass
+        Codes(0x61, 0x62), // fan
+        Codes(0xA3, 0xA4), // cold start
+        Codes(0xD0, 0xD1), // APM
+        Codes(0xDD, 0xDE), // power saving
+    ],
+    values: [
+        Values(1, 0), // power
+        Values(7, 1), // video
+        Values(1, 8), // colour temperature
+        Values(2, 9), // treble, bass
+        Values(1, 11), // fan
+        Values(1, 12), // cold start
+        Values(1, 13), // APM
+        Values(1, 14), // power saving
     ],
     ranges: [
         Span(1, 2), // power
@@ -105,12 +119,20 @@ fn the_table() -> Table
     TABLE
 }
 
-fn row_at(k: usize) -> Row
+fn codes_at(k: usize) -> Codes
     requires { ⌜ k < 8 ⌝ }
-    ensures { λ r. ⌜ (r .0 ≡ setCode k) × (r .1 ≡ getCode k) × (r .2 ≡ byteCount k) × (r .3 ≡ place k) ⌝ }
+    ensures { λ r. ⌜ (r .0 ≡ setCode k) × (r .1 ≡ getCode k) ⌝ }
 {
-    let rows = the_table().rows;
-    rows[k]
+    let codes = the_table().codes;
+    codes[k]
+}
+
+fn values_at(k: usize) -> Values
+    requires { ⌜ k < 8 ⌝ }
+    ensures { λ r. ⌜ (r .0 ≡ byteCount k) × (r .1 ≡ place k) ⌝ }
+{
+    let values = the_table().values;
+    values[k]
 }
 
 fn others_at(p: usize) -> Others
@@ -135,11 +157,11 @@ pub fn find_setting(code: u8) -> Found
 {
     let mut k = 0;
     while k < 8 {
-        let row = row_at(k);
-        if row.0 == code {
+        let codes = codes_at(k);
+        if codes.0 == code {
             return Found::Set(k);
         }
-        if row.1 == code {
+        if codes.1 == code {
             return Found::Get(k);
         }
         k += 1;
@@ -152,7 +174,7 @@ pub fn set_code(row: usize) -> u8
     requires { ⌜ row < 8 ⌝ }
     ensures { λ r. ⌜ r ≡ setCode row ⌝ }
 {
-    row_at(row).0
+    codes_at(row).0
 }
 
 // A row's get code, with which its report begins.
@@ -160,7 +182,7 @@ pub fn get_code(row: usize) -> u8
     requires { ⌜ row < 8 ⌝ }
     ensures { λ r. ⌜ r ≡ getCode row ⌝ }
 {
-    row_at(row).1
+    codes_at(row).1
 }
 
 // How many value bytes a row has.
@@ -168,7 +190,7 @@ pub fn byte_count(row: usize) -> usize
     requires { ⌜ row < 8 ⌝ }
     ensures { λ r. ⌜ r ≡ byteCount row ⌝ }
 {
-    row_at(row).2 as usize
+    values_at(row).0 as usize
 }
 
 // The place of a row's first value among a panel's 15.
@@ -176,7 +198,7 @@ pub fn place_of(row: usize) -> usize
     requires { ⌜ row < 8 ⌝ }
     ensures { λ r. ⌜ r ≡ place row ⌝ }
 {
-    row_at(row).3 as usize
+    values_at(row).1 as usize
 }
 
 fn in_range(range: Span, v: u8) -> bool

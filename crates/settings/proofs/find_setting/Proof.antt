@@ -19,22 +19,22 @@ abbrev μ-loop : tie.MeasureT-loop
 loop-holds : tie.Need-loop-holds Inv-loop μ-loop
 loop-holds c = (omega arith, refl)
 
-row-at-requires : tie.Need-row-at-requires Inv-loop μ-loop
-row-at-requires c κs = omega arith
+codes-at-requires : tie.Need-codes-at-requires Inv-loop μ-loop
+codes-at-requires c κs = omega arith
 
 returns : tie.Need-returns Inv-loop μ-loop
 unfolding foundAfter
 returns c =
-    let row = c .before .before in
-    let loop = row .before .before .loop in
-    sym (loop .inv .1 ∙ found-step _ _ (omega arith) ∙ simp (eq-eqb _ _ (sym (row .row-at .ensures .0) ∙ c .if1 .taken)))
+    let call = c .before .before in
+    let loop = call .before .before .loop in
+    sym (loop .inv .1 ∙ found-step _ _ (omega arith) ∙ simp (eq-eqb _ _ (sym (call .codes-at .ensures .0) ∙ c .if1 .taken)))
 
 returns-2 : tie.Need-returns-2 Inv-loop μ-loop
 unfolding foundAfter
 returns-2 c =
-    let row = c .before .before .before .before in
-    let loop = row .before .before .loop in
-    let at = row .row-at .ensures in
+    let call = c .before .before .before .before in
+    let loop = call .before .before .loop in
+    let at = call .codes-at .ensures in
     let no-set = ne-eqb _ _ (λ e. c .before .before .if1 .left (at .0 ∙ e)) in
     sym (loop .inv .1 ∙ found-step _ _ (omega arith) ∙ simp (no-set, eq-eqb _ _ (sym (at .1) ∙ c .if2 .taken)))
 
@@ -46,9 +46,9 @@ loop-less c = omega arith
 
 loop-again : tie.Need-loop-again Inv-loop μ-loop
 loop-again c =
-    let row = c .before .before .before .before in
-    let loop = row .before .before .loop in
-    let at = row .row-at .ensures in
+    let call = c .before .before .before .before in
+    let loop = call .before .before .loop in
+    let at = call .codes-at .ensures in
     let no-set = ne-eqb _ _ (λ e. c .before .before .if1 .left (at .0 ∙ e)) in
     let no-get = ne-eqb _ _ (λ e. c .if2 .left (at .1 ∙ e)) in
     (omega arith, loop .inv .1 ∙ found-step _ _ (omega arith) ∙ simp (no-set, no-get))
@@ -64,7 +64,7 @@ find-setting-spec =
     Inv-loop
     μ-loop
     loop-holds
-    row-at-requires
+    codes-at-requires
     returns
     returns-2
     add-k

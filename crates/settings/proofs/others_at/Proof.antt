@@ -1,10 +1,10 @@
--- Part p of the table is the paper's. Assumes nothing.
+-- The others of the table are the paper's. Assumes nothing.
 use mathlib.Core.Path.{ap, _∙_}
 use lib.ListN.{getD}
 use borrow.Author.Needs.{needs}
 use Rattle.settings.specs.declared.Others.{Others}
 use Rattle.settings.specs.declared.Table.{Table}
-use Rattle.settings.specs.Numbers.{partOf, paperTable}
+use Rattle.settings.specs.Numbers.{othersAt, paperTable}
 use Rattle.settings.proofs.WrittenOut.{in-each}
 use Rattle.settings.proofs.others_at.Statement.{statement}
 use Rattle.settings.proofs.others_at.Tie as tie
@@ -22,7 +22,7 @@ returns : tie.Need-returns
 unfolding paperTable
 returns c =
     let call = c .before .before in
-    let e = ap (λ (t : Table). getD (t .others) (call .before .args .p) _) (call .the-table .ensures) ∙ in-each partOf 15 _ (call .before .pre) in
+    let e = ap (λ (t : Table). getD (t .others) (call .before .args .p) _) (call .the-table .ensures) ∙ in-each othersAt 15 _ (call .before .pre) in
     (ap (λ (r : Others). r .0) e, ap (λ (r : Others). r .1) e)
 
 pub others-at-spec : {M : Type 1} → statement M
