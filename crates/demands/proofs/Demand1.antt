@@ -1,10 +1,9 @@
 -- Demand 1. Assumes nothing.
-use Prim.Native.Nat.{ℕ, _+_, _*_, _<_}
+use Prim.Native.Nat.{ℕ, _<_}
 use mathlib.Core.Bool.{Bool, true, false, cond, false≢true}
-use mathlib.Core.Logic.{_⊎_, inl, inr}
+use mathlib.Core.Logic.{inl, inr}
 use mathlib.Core.Path.{_≡_, refl, sym, ap, _∙_}
-use mathlib.Core.List.{List, [], _∷_, _++_, map, flatten}
-use native.Mathlib.Omega.{arith}
+use mathlib.Core.List.{List, [], _∷_, flatten}
 use lib.Seq.{drop-at}
 use lib.Dec.{leb, ltb}
 use lib.ListN.{length, getD, drop}
@@ -21,10 +20,9 @@ use Rattle.panels.specs.declared.Refusal.the-variants.{Nothing, Full, IdZero, I
 use Rattle.panels.specs.Wall.{Wall, blank, placeOf, panelsOf}
 use Rattle.panels.specs.Addressed.{reaches}
 use Rattle.panels.specs.Calls.{ifThere, addRefusal, unlessRefused, added, without, removed}
-use Rattle.panels.specs.WellFormed.{GoodWall, WellFormed}
 use Rattle.line.specs.declared.Sent.the-variants.{Bytes, NoRoom}
 use Rattle.line.specs.Reply.{sentBytes, sentOf, outputOf as answerOutput}
-use Rattle.line.specs.Judged.{command, judge, panelAfter}
+use Rattle.line.specs.Judged.{command}
 use Rattle.line.specs.Played.{turned, playedBy, played}
 use Rattle.line.proofs.Turns.{map-same, stays}
 use Rattle.image.specs.declared.Written.the-variants.{Bytes as WrittenBytes, NoRoom as NotWritten}

@@ -3,7 +3,7 @@ use Prim.Native.Nat.{ℕ, _<_}
 use mathlib.Core.Bool.{Bool, true, false, cond, _&&_}
 use mathlib.Core.Logic.{_⊎_, inl, inr}
 use mathlib.Core.Path.{_≡_, refl, ap, _∙_}
-use mathlib.Core.List.{List, [], _∷_, map}
+use mathlib.Core.List.{List, map}
 use lib.Dec.{leb, eqb}
 use lib.ListN.{length, getD, length-map, List·getD-map}
 use Rattle.settings.specs.Settings.{allowedFor}
@@ -14,27 +14,25 @@ use Rattle.packet.specs.declared.Verdict.{Verdict}
 use Rattle.packet.specs.declared.Verdict.the-variants.{Empty, Damaged, Intact}
 use Rattle.packet.specs.Packet.{monitorId, verdictOf, dataOf}
 use Rattle.panels.specs.declared.Panel.{Panel}
-use Rattle.panels.specs.declared.Table.{Table}
 use Rattle.panels.specs.declared.Place.{Place}
 use Rattle.panels.specs.declared.Place.the-variants.{At, Nowhere}
-use Rattle.panels.specs.Wall.{Wall, valuesOf, blank, panelsOf, placeOf}
+use Rattle.panels.specs.Wall.{Wall, blank, panelsOf, placeOf}
 use Rattle.panels.specs.Addressed.{reaches, isHeard}
 use Rattle.panels.specs.WellFormed.{GoodPanel, GoodWall}
 use Rattle.panels.proofs.Laws.{place-there}
 use Rattle.panels.proofs.Lists.{getD-inside}
 use Rattle.panels.proofs.Formed.{empty-formed, added-formed, removed-formed}
-use Rattle.line.specs.Reply.{silence, wordFrom, reportFrom}
+use Rattle.line.specs.Reply.{silence}
 use Rattle.line.specs.Judged.{Command, getOf, setOf, unavailable, command, judge, panelAfter, stored, taken, notAvailable, replyBy}
 use Rattle.line.specs.Played.{turned, replyFrom, nackTo, damagedReply, playedBy, played}
 use Rattle.line.proofs.Formed.{stored-own, stored-others, played-formed}
 use Rattle.line.proofs.Cases.{p-cases}
 use Rattle.image.specs.declared.Read.{Read}
-use Rattle.image.specs.Written.{sizeOf, outputOf}
 use Rattle.image.proofs.Lengths.{good-at}
 use Rattle.image.proofs.Sound.{read-formed}
 use Rattle.image.proofs.Order.{read-any-order, left-out}
 use Rattle.image.proofs.Back.{front-is-image, table-back}
-use Rattle.demands.specs.Demand2.{SetBy, OnlyAddressed, Answer·Is, Answers, Comes, empty, add, remove, image, burst, InRange, ReadsBack, AnyOrder, LeftOut, Cases}
+use Rattle.demands.specs.Demand2.{SetBy, OnlyAddressed, Answer·Is, Answers, empty, add, remove, image, burst, InRange, ReadsBack, AnyOrder, LeftOut, Cases}
 
 pub in-range : InRange
 in-range t empty = empty-formed

@@ -1,7 +1,7 @@
 -- Demand 3: a spoiled intact packet is damaged, and a damaged burst changes no panel. Assumes nothing.
 use Prim.Native.Nat.{ℕ}
 use mathlib.Core.Bool.{Bool, true, false, cond, _&&_}
-use mathlib.Core.Logic.{_⊎_, inl, inr}
+use mathlib.Core.Logic.{inl, inr}
 use mathlib.Core.Path.{_≡_, refl, sym, ap, subst, _∙_}
 use mathlib.Core.List.{List, [], _∷_, _++_, map, append-assoc, append-nil}
 use lib.Dec.{leb, eqb}
@@ -21,7 +21,7 @@ use Rattle.line.specs.Session.{Ended, session, Event, byte, quiet, burstsAfter,
 use Rattle.line.proofs.Bursts.{played-damaged}
 use Rattle.line.proofs.Streams.{stream-after}
 use Rattle.demands.specs.WrongBoxes.{byBurst}
-use Rattle.demands.specs.Demand3.{Item, whole, spoilt, sent, kept, SilenceOrNack, AsIfNeverSent, Withstands, Demand3, onLine, Demand3·line}
+use Rattle.demands.specs.Demand3.{whole, spoilt, sent, kept, SilenceOrNack, AsIfNeverSent, Withstands, Demand3, onLine, Demand3·line}
 
 nack-or-silent : (i : MonitorId) (q : Place) → SilenceOrNack (nackTo i q)
 nack-or-silent i Nowhere = inl refl

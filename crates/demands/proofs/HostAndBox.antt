@@ -1,10 +1,10 @@
 -- Host and box on one line. Assumes nothing.
-use Prim.Native.Nat.{ℕ, zero, suc, _≤_, _<_}
-use mathlib.Core.Bool.{Bool, true, false, cond, not, _&&_, false≢true}
+use Prim.Native.Nat.{ℕ, zero, suc, _≤_}
+use mathlib.Core.Bool.{Bool, true, false, not, _&&_, false≢true}
 use mathlib.Core.Path.{_≡_, refl, sym, ap, ap₂, subst, _∙_}
-use mathlib.Core.List.{List, [], _∷_, _++_, map}
+use mathlib.Core.List.{List, [], _∷_, map}
 use native.Mathlib.Omega.{arith}
-use borrow.Author.Tests.{eqb-true, eq-eqb, ne-eqb}
+use borrow.Author.Tests.{eqb-true, eq-eqb}
 use lib.Dec.{eqb, leb}
 use lib.ListN.{length, getD, replicate, length-take}
 use lib.Seq.{take-append-seam}
@@ -25,9 +25,9 @@ use Rattle.panels.specs.declared.Panel.{Panel}
 use Rattle.panels.specs.declared.Place.the-variants.{At}
 use Rattle.panels.specs.Wall.{Wall, valuesOf, blank, placeOf, panelsOf}
 use Rattle.panels.specs.Addressed.{reaches, isHeard}
-use Rattle.panels.specs.WellFormed.{GoodPanel, GoodWall, WellFormed}
+use Rattle.panels.specs.WellFormed.{GoodPanel, GoodWall}
 use Rattle.panels.proofs.Laws.{place-there}
-use Rattle.line.specs.Judged.{Command, getOf, setOf, unavailable, command, judge, panelAfter, stored, taken, notAvailable, replyBy}
+use Rattle.line.specs.Judged.{Command, getOf, setOf, unavailable, command, judge, stored, replyBy}
 use Rattle.line.specs.Played.{turned, playedBy, played}
 use Rattle.line.specs.Session.{session}
 use Rattle.line.proofs.Formed.{stored-twice, played-good}

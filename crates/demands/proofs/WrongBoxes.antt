@@ -11,6 +11,7 @@ use Rattle.packet.specs.declared.Verdict.the-variants.{Damaged}
 use Rattle.packet.specs.Xor.{_⊕_, xorAll}
 use Rattle.packet.specs.Packet.{isIntact, verdictOf, dataOf, packetOf}
 use Rattle.panels.specs.Wall.{Wall, placeFrom}
+use Rattle.panels.specs.Laid.{laidAt}
 use Rattle.panels.specs.Addressed.{reaches, isHeard}
 use Rattle.line.specs.declared.Answer.{Answer}
 use Rattle.line.specs.declared.Answer.the-variants.{Silence, Word, Report}
@@ -38,7 +39,7 @@ others = byBurst everyNav ∷ byBurst neverStores ∷ firstAlone ∷ byBurst sto
 
 -- one computed test
 tested : (sentBy session ≡ ours) × (map (λ (box : Box). same (sentBy box) ours) others ≡ false ∷ false ∷ false ∷ false ∷ false ∷ [])
-unfolding settings foundFrom allowedByRow freshValues within allAllowed flatten _⊕_ xorAll isIntact verdictOf dataOf packetOf placeFrom reaches isHeard sentBytes command stored judge turned damagedReply played session twoPanels byBurst written same
+unfolding settings foundFrom allowedByRow freshValues within allAllowed flatten _⊕_ xorAll isIntact verdictOf dataOf packetOf placeFrom reaches isHeard sentBytes command stored laidAt judge turned damagedReply played session twoPanels byBurst written same
 tested = (refl, refl)
 
 same-bytes : (box : Box) → box twoPanels written ≡ session twoPanels written → sentBy box ≡ ours

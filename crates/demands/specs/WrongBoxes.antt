@@ -12,7 +12,7 @@ use Rattle.line.specs.declared.Answer.the-variants.{Silence, Word, Report}
 use Rattle.line.specs.declared.Reply.{Reply}
 use Rattle.line.specs.Reply.{silence, wordFrom}
 use Rattle.line.specs.Played.{Outcome, played}
-use Rattle.line.specs.Session.{Ended, session}
+use Rattle.line.specs.Session.{session}
 use Rattle.line.specs.Cases.{twoPanels}
 use Rattle.demands.specs.Demand3.{Box, Withstands, SilenceOrNack}
 

@@ -15,7 +15,8 @@ use Rattle.image.specs.declared.Refusal.the-variants.{Nothing as Sound}
 use Rattle.image.specs.declared.Step.{Step}
 use Rattle.image.specs.declared.Step.the-variants.{Field, NotAllowed, Broken, End}
 use Rattle.image.specs.declared.Fields.{Fields}
-use Rattle.image.specs.Fields.{valuesIn, misfits, fieldBy, stepAt, seenWith, valuesWith, behind, fieldsFrom}
+use Rattle.panels.specs.Laid.{valuesWith}
+use Rattle.image.specs.Fields.{valuesIn, misfits, fieldBy, stepAt, seenWith, behind, fieldsFrom}
 use Rattle.image.specs.Entries.{Entry, bytesOf, Without}
 use Rattle.image.proofs.Steps.{Takes, takes, takes-it, fields-step}
 

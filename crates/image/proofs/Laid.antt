@@ -7,18 +7,10 @@ use native.Mathlib.Numerals.{add-one}
 use native.Mathlib.Omega.{arith}
 use borrow.Rule.Slice.PartMut.{midOf, putMid}
 use lib.ListN.{length, getD, take, drop, set, length-append, length-drop, take-append-drop}
-use lib.Seq.{length-take-le, take-length, take-at, drop-drop, set-split, drop-append-add, take-all}
+use lib.Seq.{take-length, take-at, drop-drop, set-split, drop-append-add, take-all}
 use Rattle.packet.specs.Packet.{laidOver}
-use Rattle.image.specs.Laid.{laidAt}
-
--- the part before the seam
-front : (at : ℕ) (b l : List ℕ) → at ≤ length l → length (take at l ++ b) ≡ at + length b
-front at b l h = rw (length-append (take at l) b, length-take-le at l h)
-
-pub length-laid : (at : ℕ) (b l : List ℕ) → at + length b ≤ length l → length (laidAt at b l) ≡ length l
-unfolding laidAt
-length-laid at b l h =
-    rw (length-append (take at l ++ b) (drop (at + length b) l), front at b l (omega arith), length-drop) (omega arith)
+use Rattle.panels.specs.Laid.{laidAt}
+use Rattle.panels.proofs.Laid.{front, length-laid}
 
 pub laid-none : (at : ℕ) (l : List ℕ) → laidAt at [] l ≡ l
 unfolding laidAt

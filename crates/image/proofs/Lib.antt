@@ -5,7 +5,6 @@
 pub mod Laid
 pub mod Lengths
 pub mod Steps
-pub mod Values
 pub mod Edges
 pub mod Sound
 pub mod Marked

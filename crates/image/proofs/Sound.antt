@@ -23,11 +23,12 @@ use Rattle.image.specs.declared.Refusal.the-variants.{Record}
 use Rattle.image.specs.declared.Step.{Step}
 use Rattle.image.specs.declared.Step.the-variants.{Field, NotAllowed, Broken, End}
 use Rattle.image.specs.Whole.{countOf, recordIn, recordsIn, wholeRefusal}
-use Rattle.image.specs.Fields.{stepAt, seenWith, valuesWith, valuesIn, behind, afterStep, gathered, fieldsFrom, fieldsIn}
+use Rattle.panels.specs.Laid.{valuesWith}
+use Rattle.image.specs.Fields.{stepAt, seenWith, valuesIn, behind, afterStep, gathered, fieldsFrom, fieldsIn}
 use Rattle.image.specs.Read.{isSound, headFits, recordRefusal, panelIn, wallWith, refused, readRecords, readOf, inTable}
 use Rattle.image.proofs.Lengths.{length-each}
 use Rattle.image.proofs.Steps.{takes}
-use Rattle.image.proofs.Values.{InRange, fresh-in-range, with-in-range}
+use Rattle.panels.proofs.Values.{InRange, fresh-in-range, with-in-range}
 use Rattle.image.proofs.Edges.{both, fits}
 
 -- the values gathered are in range

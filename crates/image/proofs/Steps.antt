@@ -14,7 +14,8 @@ use Rattle.settings.specs.Settings.{foundBy, setCode, byteCount, allowedFor}
 use Rattle.settings.proofs.Laws.{IsFound, found-right, set-found}
 use Rattle.image.specs.declared.Step.{Step}
 use Rattle.image.specs.declared.Step.the-variants.{Field, NotAllowed, Broken, End}
-use Rattle.image.specs.Fields.{valuesIn, fieldBy, stepAt, seenWith, valuesWith, behind, afterStep, gathered, fieldsFrom}
+use Rattle.panels.specs.Laid.{valuesWith}
+use Rattle.image.specs.Fields.{valuesIn, fieldBy, stepAt, seenWith, behind, afterStep, gathered, fieldsFrom}
 
 -- what stands at the front where a field is taken
 pub record Takes (seen : List Bool) (left : List ℕ) (row : ℕ) : Type 0 where

@@ -6,12 +6,12 @@ use lib.Dec.{ltb, eqb}
 use lib.ListN.{length, getD, take, drop, set, replicate}
 use Rattle.settings.specs.declared.Found.{Found}
 use Rattle.settings.specs.declared.Found.the-variants.{Set, Get, Nothing}
-use Rattle.settings.specs.Settings.{foundBy, byteCount, place, allowedFor, freshValues}
+use Rattle.settings.specs.Settings.{foundBy, byteCount, allowedFor, freshValues}
 use Rattle.image.specs.declared.Refusal.the-variants.{Nothing as Sound, Field as BadField, Value as BadValue}
 use Rattle.image.specs.declared.Step.{Step}
 use Rattle.image.specs.declared.Step.the-variants.{Field, NotAllowed, Broken, End}
 use Rattle.image.specs.declared.Fields.{Fields}
-use Rattle.image.specs.Laid.{laidAt}
+use Rattle.panels.specs.Laid.{valuesWith}
 
 -- the values of a row's field at the front of the bytes that are left: behind set code and length
 abbrev pub valuesIn : ℕ → List ℕ → List ℕ
@@ -37,9 +37,6 @@ stepAt seen left = cond (eqb (length left) 0) End (fieldBy (foundBy (getD left 0
 -- a field that is taken: its row is seen, its values stand at the row's place, and it is left behind
 abbrev pub seenWith : ℕ → List Bool → List Bool
 seenWith row seen = set seen row true
-
-abbrev pub valuesWith : ℕ → List ℕ → List ℕ → List ℕ
-valuesWith row vs values = laidAt (place row) vs values
 
 abbrev pub behind : ℕ → List ℕ → List ℕ
 behind row left = drop (2 + byteCount row) left

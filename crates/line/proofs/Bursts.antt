@@ -1,16 +1,16 @@
 -- What a burst does, by its bytes. Assumes nothing.
-use mathlib.Core.Path.{_≡_, refl, sym, ap, _∙_}
-use mathlib.Core.Bool.{Bool, true, false, and-false}
+use mathlib.Core.Path.{_≡_, sym, ap, _∙_}
+use mathlib.Core.Bool.{and-false}
 use mathlib.Core.List.{List, [], _∷_, _++_, append-nil}
 use Prim.Native.Nat.{ℕ, _≤_, _<_}
 use native.Mathlib.Omega.{arith}
 use borrow.Author.Tests.{le-leb, lt-leb, ne-eqb}
-use lib.ListN.{length, getD, take, drop, length-append}
+use lib.ListN.{length, length-append}
 use Rattle.packet.specs.declared.Verdict.{Verdict}
 use Rattle.packet.specs.declared.Verdict.the-variants.{Damaged}
 use Rattle.packet.specs.Packet.{isIntact, verdictOf}
 use Rattle.panels.specs.Wall.{Wall}
-use Rattle.line.specs.Played.{Outcome, damagedReply, playedBy, played}
+use Rattle.line.specs.Played.{damagedReply, playedBy, played}
 
 -- a damaged burst changes no panel
 pub played-damaged : (w : Wall) (b : List ℕ) → verdictOf b ≡ Damaged → played w b ≡ record { wall = w; reply = damagedReply w b }

@@ -5,6 +5,7 @@ use Rattle.settings.specs.Settings.{settings, foundFrom, allowedByRow, freshVal
 use Rattle.packet.specs.Xor.{_⊕_, xorAll}
 use Rattle.packet.specs.Packet.{isIntact, verdictOf, dataOf, packetOf}
 use Rattle.panels.specs.Wall.{placeFrom}
+use Rattle.panels.specs.Laid.{laidAt}
 use Rattle.panels.specs.Addressed.{reaches, isHeard}
 use Rattle.line.specs.Reply.{sentBytes}
 use Rattle.line.specs.Judged.{command, stored, judge}
@@ -12,5 +13,5 @@ use Rattle.line.specs.Played.{turned, damagedReply, played}
 use Rattle.line.specs.Cases.{Case, twoPanels, tried, cases}
 
 pub p-cases : map (λ (c : Case). tried (c .burst)) cases ≡ cases
-unfolding settings foundFrom allowedByRow freshValues within allAllowed flatten _⊕_ xorAll isIntact verdictOf dataOf packetOf placeFrom reaches isHeard sentBytes command stored judge turned damagedReply played twoPanels cases
+unfolding settings foundFrom allowedByRow freshValues within allAllowed flatten _⊕_ xorAll isIntact verdictOf dataOf packetOf placeFrom reaches isHeard sentBytes command stored laidAt judge turned damagedReply played twoPanels cases
 p-cases = refl

@@ -1,5 +1,5 @@
 -- What an order says of the data that it was made of. Assumes nothing.
-use mathlib.Core.Path.{_≡_, refl, sym, ap, subst, _∙_}
+use mathlib.Core.Path.{_≡_, refl, sym, ap, _∙_}
 use mathlib.Core.Bool.{Bool, true, false, cond}
 use mathlib.Core.List.{List, [], _∷_}
 use Prim.Native.Nat.{ℕ, suc, _+_, _<_}
@@ -13,7 +13,7 @@ use Rattle.panels.specs.declared.Panel.{Panel}
 use Rattle.panels.specs.Wall.{valuesOf}
 use Rattle.line.specs.declared.Order.{Order}
 use Rattle.line.specs.declared.Order.the-variants.{Report, Store, NotAvailable}
-use Rattle.line.specs.Judged.{Command, getOf, setOf, unavailable, command, commandBy, notAvailable, reported, taken, stored, judge, orderOf}
+use Rattle.line.specs.Judged.{Command, getOf, setOf, command, commandBy, notAvailable, reported, taken, stored, judge, orderOf}
 
 abbrev pub OrderIs : List ℕ → Order → Type 0
 OrderIs d (Report row) = (row < 8) × (command d ≡ getOf row)

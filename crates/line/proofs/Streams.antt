@@ -3,17 +3,16 @@ use mathlib.Core.Path.{_≡_, refl, sym, ap, ap₂, _∙_}
 use mathlib.Core.Bool.{Bool, true, false}
 use mathlib.Core.List.{List, [], _∷_, _++_, append-nil, append-assoc}
 use Prim.Native.Nat.{ℕ, suc, _+_, _-_, _≤_, _<_, min}
-use native.Mathlib.Numerals.{add-one}
 use native.Mathlib.Omega.{arith}
 use borrow.Author.Tests.{lt-ltb, le-ltb, ltb-true, ltb-false}
 use lib.Dec.{ltb}
-use lib.ListN.{length, take, drop, set, replicate, length-append, length-take, take-append-drop}
+use lib.ListN.{length, take, drop, length-append, length-take, take-append-drop}
 use lib.Seq.{take-all, take-at, take-append-le, set-at, append-snoc}
 use Rattle.panels.specs.Wall.{Wall}
 use Rattle.line.specs.declared.Receiver.{Receiver}
 use Rattle.line.specs.declared.Reply.{Reply}
 use Rattle.line.specs.Played.{Outcome, damagedReply, played}
-use Rattle.line.specs.Session.{Ended, session, Event, byte, quiet, burstsAfter, receiverOf, withByte, burstOf, streamed}
+use Rattle.line.specs.Session.{session, Event, byte, quiet, burstsAfter, receiverOf, withByte, burstOf, streamed}
 use Rattle.line.proofs.Bursts.{played-long, damaged-alike}
 
 abbrev receiver : List ℕ → ℕ → Receiver

@@ -1,5 +1,5 @@
 -- What a packet does to the wall. Assumes nothing.
-use mathlib.Core.Path.{_≡_, refl, sym, ap, ap₂, subst, _∙_}
+use mathlib.Core.Path.{_≡_, refl, sym, ap, ap₂, _∙_}
 use mathlib.Core.Bool.{Bool, true, false, cond, not, _&&_, false≢true}
 use mathlib.Core.List.{List, [], _∷_, _++_, map}
 use Prim.Native.Nat.{ℕ, zero, suc, _≤_, _<_}
@@ -12,7 +12,6 @@ use Rattle.packet.specs.declared.MonitorId.{MonitorId}
 use Rattle.packet.specs.declared.GroupId.{GroupId}
 use Rattle.packet.specs.Packet.{groupId}
 use Rattle.panels.specs.declared.Panel.{Panel}
-use Rattle.panels.specs.declared.Place.{Place}
 use Rattle.panels.specs.declared.Place.the-variants.{At, Nowhere}
 use Rattle.panels.specs.Wall.{Wall, blank, tableOf, placeOf}
 use Rattle.panels.specs.Addressed.{reaches, isHeard}
@@ -20,7 +19,7 @@ use Rattle.panels.specs.WellFormed.{Absent, GoodWall}
 use Rattle.panels.proofs.Lists.{getD-inside, store}
 use Rattle.panels.proofs.Laws.{place-there, place-nowhere}
 use Rattle.line.specs.Reply.{silence}
-use Rattle.line.specs.Judged.{Command, judge, panelAfter, replyBy}
+use Rattle.line.specs.Judged.{Command, judge, panelAfter}
 use Rattle.line.specs.Played.{turned, playedPacket, inTable, asked}
 
 module _ {A : Type 0} (f : A → A) (d : A) where

@@ -1,15 +1,15 @@
 -- What one panel makes of a packet's data. 01, "Answering a burst", steps 4 and 5; "The settings".
-use Prim.Native.Nat.{ℕ, _+_}
+use Prim.Native.Nat.{ℕ}
 use mathlib.Core.Bool.{cond}
-use mathlib.Core.List.{List, [], _∷_, _++_}
-use lib.ListN.{take, drop}
+use mathlib.Core.List.{List, [], _∷_}
 use Rattle.settings.specs.declared.Found.{Found}
 use Rattle.settings.specs.declared.Found.the-variants.{Set, Get, Nothing}
-use Rattle.settings.specs.Settings.{foundBy, getCode, byteCount, place, allowedFor}
+use Rattle.settings.specs.Settings.{foundBy, getCode, allowedFor}
 use Rattle.packet.specs.declared.MonitorId.{MonitorId}
 use Rattle.packet.specs.declared.Control.the-variants.{Ack, Nav}
 use Rattle.panels.specs.declared.Panel.{Panel}
 use Rattle.panels.specs.Wall.{valuesOf}
+use Rattle.panels.specs.Laid.{valuesWith}
 use Rattle.line.specs.declared.Order.{Order}
 use Rattle.line.specs.declared.Order.the-variants.{Report, Store, NotAvailable}
 use Rattle.line.specs.declared.Reply.{Reply}
@@ -38,8 +38,7 @@ pub data Judged : Type 0 where
 
 -- the panel with a row's values stored, and all else as it was
 unfoldable pub stored : ℕ → List ℕ → Panel → Panel
-stored row values p =
-    record { id = p .id; group = p .group; values = take (place row) (p .values) ++ values ++ drop (place row + byteCount row) (p .values) }
+stored row values p = record { id = p .id; group = p .group; values = valuesWith row values (p .values) }
 
 -- one panel decides for itself
 unfoldable pub judge : Command → Panel → Judged

@@ -11,7 +11,6 @@ use Rattle.packet.specs.declared.Verdict.the-variants.{Empty, Damaged, Intact}
 use Rattle.packet.specs.declared.Control.the-variants.{Nack}
 use Rattle.packet.specs.Packet.{monitorId, verdictOf, dataOf}
 use Rattle.panels.specs.declared.Panel.{Panel}
-use Rattle.panels.specs.declared.Table.{Table}
 use Rattle.panels.specs.declared.Place.{Place}
 use Rattle.panels.specs.declared.Place.the-variants.{At, Nowhere}
 use Rattle.panels.specs.Wall.{Wall, blank, tableOf, placeOf}

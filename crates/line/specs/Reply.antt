@@ -1,7 +1,7 @@
 -- An answer is silence, one of three control words, or a report. 01, "Answering a burst".
 use Prim.Native.Nat.{ℕ, _-_}
 use mathlib.Core.Bool.{cond}
-use mathlib.Core.List.{List, [], _∷_, _++_}
+use mathlib.Core.List.{List, [], _++_}
 use lib.Dec.{leb}
 use lib.ListN.{length, take, replicate}
 use Rattle.packet.specs.declared.MonitorId.{MonitorId}

@@ -1,18 +1,17 @@
 -- What an intact burst has, and that a packet written out is intact and reads back. Assumes nothing.
 use mathlib.Core.Path.{_≡_, refl, sym, ap, _∙_}
-use mathlib.Core.Bool.{Bool, true, false, false≢true, cond, _&&_}
-use mathlib.Core.List.{List, [], _∷_, _++_}
-use Prim.Native.Nat.{ℕ, _+_, _-_, _≤_, _<_}
+use mathlib.Core.Bool.{Bool, true, false, false≢true, _&&_}
+use mathlib.Core.List.{List}
+use Prim.Native.Nat.{ℕ, _+_, _-_, _≤_}
 use native.Mathlib.Omega.{arith}
-use borrow.Author.Tests.{leb-true, le-leb, lt-leb, eqb-true, eq-eqb, ne-eqb}
-use lib.Dec.{leb, eqb}
-use lib.ListN.{length, getD, take, drop, length-append}
+use borrow.Author.Tests.{leb-true, le-leb, eqb-true, eq-eqb, ne-eqb}
+use lib.ListN.{length, getD, length-append}
 use lib.Seq.{take-append-seam}
 use Rattle.packet.specs.Xor.{xorAll}
 use Rattle.packet.specs.Packet.{monitorId, groupId, isIntact, verdictOf, dataOf, unsummed, packetOf}
 use Rattle.packet.specs.declared.MonitorId.{MonitorId}
 use Rattle.packet.specs.declared.GroupId.{GroupId}
-use Rattle.packet.specs.declared.Verdict.the-variants.{Empty, Damaged, Intact}
+use Rattle.packet.specs.declared.Verdict.the-variants.{Intact}
 use Rattle.packet.proofs.Xor.{⊕-self, ⊕-zero, xorAll-append}
 
 pub record Sound (burst : List ℕ) : Type 0 where

@@ -3,16 +3,16 @@
 use mathlib.Core.Path.{_≡_, refl, sym, ap, _∙_}
 use mathlib.Core.Bool.{Bool, true, false}
 use mathlib.Core.List.{List, [], _∷_, _++_}
-use Prim.Native.Nat.{ℕ, zero, suc, _≤_, _<_}
+use Prim.Native.Nat.{ℕ, zero, suc, _≤_}
 use native.Mathlib.Omega.{arith}
 use borrow.Author.Tests.{ne-eqb}
-use lib.ListN.{length, getD, take, drop, set, length-append, length-take, length-drop, length-set}
+use lib.ListN.{length, getD, take, drop, length-append, length-take, length-drop, length-set}
 use lib.Seq.{set-split, split-at}
 use Rattle.packet.specs.Xor.{_⊕_, xorAll}
 use Rattle.packet.specs.Packet.{isIntact, verdictOf}
 use Rattle.packet.specs.Spoiled.{Spoiling, changed, lost, added, spoiled, Spoils}
 use Rattle.packet.specs.declared.Verdict.the-variants.{Damaged}
-use Rattle.packet.proofs.Xor.{xor-assoc, ⊕-comm, ⊕-zero, ⊕-zero-eq, xorAll-append}
+use Rattle.packet.proofs.Xor.{xor-assoc, ⊕-comm, ⊕-zero-eq, xorAll-append}
 use Rattle.packet.proofs.Packets.{Sound, sound}
 
 -- a byte of a list can be summed first

@@ -1,15 +1,15 @@
 -- Walls and the tables that hold them. Assumes nothing.
 use mathlib.Core.Path.{_≡_, refl, sym, ap, ap₂, subst, _∙_}
 use mathlib.Core.Bool.{Bool, true, false, cond}
-use mathlib.Core.List.{List, [], _∷_, _++_}
+use mathlib.Core.List.{[], _∷_, _++_}
 use Prim.Native.Nat.{ℕ, zero, suc, _+_, _-_, _≤_, _<_}
 use native.Mathlib.Nat.{add-zero, le-of-suc-le-suc, not-suc-le-zero}
 use native.Mathlib.Numerals.{add-one}
 use native.Mathlib.Omega.{arith}
 use borrow.Author.Tests.{eqb-true, eqb-false}
 use lib.Dec.{eqb}
-use lib.ListN.{length, getD, take, drop, set, replicate, length-append, length-set, length-replicate}
-use lib.Seq.{take-append-seam, drop-append-seam, drop-cons, getD-take, set-append-seam, set-append-left, append-snoc}
+use lib.ListN.{length, getD, drop, set, replicate, length-append, length-set, length-replicate}
+use lib.Seq.{take-append-seam, drop-cons, getD-take, set-append-seam, set-append-left, append-snoc}
 use Rattle.packet.specs.declared.MonitorId.{MonitorId}
 use Rattle.panels.specs.declared.Panel.{Panel}
 use Rattle.panels.specs.declared.Table.{Table}

@@ -1,7 +1,7 @@
 -- Add and remove. 01, "Table calls and numbers": lower numbers first, and a refusal changes nothing.
 use Prim.Native.Nat.{ℕ, suc}
 use mathlib.Core.Bool.{cond}
-use mathlib.Core.List.{List, [], _∷_, _++_}
+use mathlib.Core.List.{[], _∷_, _++_}
 use lib.Dec.{eqb, leb}
 use lib.ListN.{length, take, drop}
 use Rattle.packet.specs.declared.MonitorId.{MonitorId}

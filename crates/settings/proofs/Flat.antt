@@ -1,7 +1,7 @@
 -- Lists that stand one behind the other in one list: where element k of list j then stands. It serves the values of the
 -- rows and the ranges of the values. Assumes nothing.
-use mathlib.Core.Path.{_≡_, refl, sym, ap, _∙_}
-use mathlib.Core.List.{List, [], _∷_, _++_, flatten}
+use mathlib.Core.Path.{_≡_}
+use mathlib.Core.List.{List, [], _∷_, flatten}
 use Prim.Native.Nat.{ℕ, zero, suc, _+_, _≤_, _<_}
 use native.Mathlib.Nat.{add-assoc, zero-add, not-suc-le-zero}
 use native.Mathlib.Omega.{arith}

@@ -1,10 +1,8 @@
 -- Each test that fails makes one part of `isIntact` false. Assumes nothing.
-use mathlib.Core.Path.{_≡_, refl, sym, ap, _∙_}
 use mathlib.Core.Bool.{and-false}
 use native.Mathlib.Omega.{arith}
 use borrow.Author.Needs.{needs}
 use borrow.Author.Tests.{le-leb, lt-leb, eq-eqb, ne-eqb}
-use lib.ListN.{length, getD}
 use Rattle.packet.specs.Packet.{isIntact}
 use Rattle.packet.proofs.is_intact.Statement.{statement}
 use Rattle.packet.proofs.is_intact.Tie as tie

@@ -1,10 +1,9 @@
 -- Each test decides a case of `verdictOf`; an intact burst has at least four bytes. Assumes nothing.
-use mathlib.Core.Path.{_≡_, refl, sym, ap, _∙_}
+use mathlib.Core.Path.{_≡_, sym, _∙_}
 use mathlib.Core.Bool.{true}
 use native.Mathlib.Omega.{arith}
 use borrow.Author.Needs.{needs}
 use borrow.Author.Tests.{eq-eqb, ne-eqb, not-true, not-false}
-use lib.ListN.{length}
 use Rattle.packet.specs.Packet.{isIntact, verdictOf}
 use Rattle.packet.proofs.Packets.{sound, intact-verdict}
 use Rattle.packet.proofs.verdict_on.Statement.{statement}

@@ -1,5 +1,5 @@
 -- A refusal leaves the table as it is; otherwise a fresh panel stands behind the last. Assumes nothing.
-use mathlib.Core.Path.{_≡_, refl, sym, ap, _∙_}
+use mathlib.Core.Path.{_≡_, sym, ap, _∙_}
 use mathlib.Core.List.{_∷_, [], _++_}
 use mathlib.Core.Bool.{false}
 use native.Mathlib.Omega.{arith}

@@ -3,7 +3,7 @@ use mathlib.Core.Path.{_≡_, refl, sym, ap, _∙_}
 use Prim.Native.Nat.{_-_, _≤_}
 use native.Mathlib.Omega.{arith}
 use borrow.Author.Tests.{eq-eqb, ne-eqb}
-use lib.ListN.{length, getD, drop}
+use lib.ListN.{length, getD}
 use lib.Seq.{drop-length}
 use Rattle.panels.specs.declared.Panel.{Panel}
 use Rattle.panels.specs.Wall.{blank, panelsOf, placeFrom}

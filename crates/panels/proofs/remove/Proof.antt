@@ -1,5 +1,5 @@
 -- The panel with the ID is found, and the table is closed up over its place. Assumes nothing.
-use mathlib.Core.Path.{_≡_, sym, ap, _∙_}
+use mathlib.Core.Path.{_≡_, sym, _∙_}
 use native.Mathlib.Omega.{arith}
 use borrow.Author.Needs.{needs}
 use Rattle.panels.specs.declared.Place.the-variants.{At}

@@ -1,6 +1,5 @@
 -- A burst keeps the table well-formed. Assumes nothing.
 use mathlib.Core.Path.{sym, ap, subst}
-use Rattle.panels.specs.declared.Table.{Table}
 use Rattle.panels.specs.WellFormed.{WellFormed}
 use Rattle.line.specs.declared.Played.{Played}
 use Rattle.line.proofs.Formed.{played-formed}

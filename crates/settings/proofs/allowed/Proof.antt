@@ -2,16 +2,15 @@
 -- Assumes nothing.
 use mathlib.Core.Path.{_≡_, refl, sym, ap, _∙_}
 use mathlib.Core.Bool.{Bool, true, false, _&&_}
-use mathlib.Core.List.{List, [], _∷_, flatten}
-use Prim.Native.Nat.{ℕ, suc, _+_, _-_, _≤_, _<_}
-use native.Mathlib.Nat.{suc-inj}
+use mathlib.Core.List.{List, []}
+use Prim.Native.Nat.{ℕ, _+_, _-_, _≤_, _<_}
 use native.Mathlib.Numerals.{add-one}
 use native.Mathlib.Omega.{arith}
 use borrow.Author.Needs.{needs}
 use borrow.Author.Tests.{not-true, not-false}
-use lib.ListN.{length, getD, drop, List·getD-map}
+use lib.ListN.{length, getD, drop}
 use lib.Seq.{drop-cons, drop-length}
-use Rattle.settings.specs.Settings.{Setting, settings, noSetting, setting, byteCount, place, within, allAllowed, allowedFor, allowedByRow, allowedValues}
+use Rattle.settings.specs.Settings.{setting, byteCount, place, within, allAllowed}
 use Rattle.settings.specs.Numbers.{rangesOf, firstRange, rangeOf, spanOf, paperTable}
 use Rattle.settings.specs.declared.Span.{Span}
 use Rattle.settings.specs.declared.Table.{Table}

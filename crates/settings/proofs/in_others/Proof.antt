@@ -1,16 +1,15 @@
 -- One range of the value after the other is tried. The invariant: the answer is that of the ranges from k on.
 -- Assumes nothing.
-use mathlib.Core.Path.{_≡_, refl, sym, ap, _∙_}
+use mathlib.Core.Path.{_≡_, refl, sym, _∙_}
 use mathlib.Core.Bool.{Bool, true, false, _||_}
 use mathlib.Core.List.{flatten}
 use Prim.Native.Nat.{ℕ, _+_, _-_, _≤_, _<_}
-use native.Mathlib.Nat.{le-antisymm}
 use native.Mathlib.Numerals.{add-one}
 use native.Mathlib.Omega.{arith}
 use borrow.Author.Needs.{needs}
-use lib.ListN.{length, getD, drop}
+use lib.ListN.{length, drop}
 use lib.Seq.{drop-cons, drop-length}
-use Rattle.settings.specs.Settings.{Range, inRange, within, settings, allowedByRow, allowedValues}
+use Rattle.settings.specs.Settings.{inRange, within, settings, allowedByRow, allowedValues}
 use Rattle.settings.specs.Numbers.{noRange, otherRanges, allOthers, otherRange, othersFrom, othersOf}
 use Rattle.settings.proofs.Flat.{in-flat, flat-fits}
 use Rattle.settings.proofs.in_others.Statement.{statement}

@@ -1,14 +1,14 @@
 -- The field's values are copied to the row's place. Assumes nothing.
-use mathlib.Core.Path.{_≡_, refl, ap, _∙_}
+use mathlib.Core.Path.{_≡_, ap, _∙_}
 use mathlib.Core.List.{List, _++_}
 use Prim.Native.Nat.{ℕ, _+_, _-_, _≤_}
 use native.Mathlib.Omega.{arith}
 use borrow.Rule.Slice.PartMut.{midOf, putMid}
 use lib.ListN.{length, take, drop, length-take, length-drop}
-use lib.Seq.{drop-drop}
 use Rattle.settings.specs.Settings.{byteCount, place}
 use Rattle.settings.proofs.Laws.{place-fits}
-use Rattle.image.specs.Fields.{valuesIn, valuesWith}
+use Rattle.panels.specs.Laid.{valuesWith}
+use Rattle.image.specs.Fields.{valuesIn}
 use Rattle.image.proofs.Laid.{laid-copy}
 use borrow.Author.Needs.{needs}
 use Rattle.image.proofs.walk.take_values.Statement.{statement}

@@ -9,7 +9,7 @@ use borrow.Rule.Slice.PartMut.{midOf, putMid, same-len-mid}
 use Rattle.settings.specs.Settings.{setCode, byteCount, place}
 use Rattle.panels.specs.Wall.{valuesOf}
 use Rattle.settings.proofs.Laws.{place-fits}
-use Rattle.image.specs.Laid.{laidAt}
+use Rattle.panels.specs.Laid.{laidAt}
 use Rattle.image.specs.Written.{field}
 use Rattle.image.proofs.Lengths.{length-values}
 use Rattle.image.proofs.Laid.{laid-then, laid-two, laid-copy}

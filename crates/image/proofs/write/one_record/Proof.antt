@@ -4,9 +4,10 @@ use mathlib.Core.List.{[], _∷_, flatten}
 use Prim.Native.Nat.{_+_, _-_}
 use native.Mathlib.Omega.{arith}
 use lib.ListN.{length, length-set}
-use Rattle.image.specs.Laid.{laidAt}
+use Rattle.panels.specs.Laid.{laidAt}
 use Rattle.image.specs.Written.{fieldsOf, recordOf}
-use Rattle.image.proofs.Laid.{length-laid, laid-two, laid-then}
+use Rattle.panels.proofs.Laid.{length-laid}
+use Rattle.image.proofs.Laid.{laid-two, laid-then}
 use Rattle.image.proofs.Lengths.{fields-length, record-length}
 use borrow.Author.Needs.{needs}
 use Rattle.image.proofs.write.one_record.Statement.{statement}

@@ -7,9 +7,10 @@ use lib.ListN.{length, take, length-set}
 use lib.Seq.{take-all}
 use Rattle.settings.specs.Numbers.{each}
 use Rattle.settings.proofs.WrittenOut.{in-each}
-use Rattle.image.specs.Laid.{laidAt}
+use Rattle.panels.specs.Laid.{laidAt}
 use Rattle.image.specs.Written.{highLow}
-use Rattle.image.proofs.Laid.{length-laid, laid-none, laid-two, laid-more}
+use Rattle.panels.proofs.Laid.{length-laid}
+use Rattle.image.proofs.Laid.{laid-none, laid-two, laid-more}
 use Rattle.image.proofs.Lengths.{length-each, pairs-before}
 use Rattle.image.proofs.write.starts.Statement.{statement}
 use Rattle.image.proofs.write.starts.Tie as tie

@@ -1,16 +1,14 @@
 -- The bytes that were kept are played; past 40 they are damaged, whatever came behind them. Assumes nothing.
 use mathlib.Core.Path.{_≡_, sym, ap, ap₂, _∙_}
-use mathlib.Core.List.{List, [], _∷_, _++_}
-use Prim.Native.Nat.{ℕ, _≤_, _<_}
+use mathlib.Core.List.{[], _∷_, _++_}
 use native.Mathlib.Omega.{arith}
-use lib.ListN.{length, take, length-append}
+use lib.ListN.{length, length-append}
 use lib.Seq.{take-all, length-take-le, take-append-le}
 use Rattle.panels.specs.declared.Table.{Table}
-use Rattle.panels.specs.Wall.{Wall, panelsOf}
+use Rattle.panels.specs.Wall.{panelsOf}
 use Rattle.line.specs.declared.Heard.{Heard}
 use Rattle.line.specs.declared.Reply.{Reply}
 use Rattle.line.specs.declared.Played.{Played}
-use Rattle.line.specs.Played.{played, inTable}
 use Rattle.line.specs.Session.{receiverOf, burstOf, atMark}
 use Rattle.line.proofs.Bursts.{played-long, damaged-bare}
 use borrow.Author.Needs.{needs}

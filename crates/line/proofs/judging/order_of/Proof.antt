@@ -6,10 +6,10 @@ use native.Mathlib.Nat.{not-suc-le-zero}
 use native.Mathlib.Omega.{arith}
 use lib.ListN.{length, getD, drop, length-drop}
 use Rattle.settings.specs.declared.Found.{Found}
-use Rattle.settings.specs.declared.Found.the-variants.{Set, Get, Nothing}
+use Rattle.settings.specs.declared.Found.the-variants.{Get}
 use Rattle.settings.specs.Settings.{foundBy}
 use Rattle.settings.proofs.Laws.{IsFound, found-right}
-use Rattle.line.specs.Judged.{Command, getOf, unavailable, command, commandBy, orderOf}
+use Rattle.line.specs.Judged.{getOf, unavailable, command, commandBy, orderOf}
 use borrow.Author.Needs.{needs}
 use Rattle.line.proofs.judging.order_of.Statement.{statement}
 use Rattle.line.proofs.judging.order_of.Tie as tie

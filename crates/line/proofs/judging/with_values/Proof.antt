@@ -1,5 +1,5 @@
 -- The invariant: the first k of the values stand at the row's place. Assumes nothing.
-use mathlib.Core.Path.{_≡_, refl, sym, ap, _∙_}
+use mathlib.Core.Path.{_≡_, sym, ap, _∙_}
 use Prim.Native.Nat.{ℕ, _+_, _-_, _≤_, _<_}
 use mathlib.Core.List.{List}
 use native.Mathlib.Nat.{add-comm}
@@ -10,6 +10,7 @@ use lib.ListN.{length, getD, drop, set, length-drop}
 use lib.Seq.{paste, paste-zero, paste-suc, getD-drop, take-all}
 use Rattle.settings.specs.Settings.{byteCount}
 use Rattle.settings.proofs.Laws.{place-fits}
+use Rattle.panels.specs.Laid.{laidAt}
 use Rattle.line.specs.Judged.{stored}
 use Rattle.line.proofs.judging.with_values.Statement.{statement}
 use Rattle.line.proofs.judging.with_values.Tie as tie
@@ -67,7 +68,7 @@ loop-again c =
     (omega arith, loop .loop .inv .1, rw (loop .loop .inv .2) (copied vs (start .args .d .now) first (loop .loop .k) inside (omega arith)))
 
 returns : tie.Need-returns Inv-loop μ-loop
-unfolding stored
+unfolding stored laidAt
 returns c =
     let loop = c .before in
     let start = loop .before .before .before .before .before .before .before in
@@ -75,7 +76,8 @@ returns c =
     let first = loop .before .before .before .before .before .place-of in
     let all : loop .loop .k ≡ byteCount (start .args .row) = omega arith in
     let values = take-all (byteCount (start .args .row)) (drop 1 d) (simp length-drop (omega arith)) in
-    rw (loop .loop .inv .2, all, values, first .ensures)
+    let n : length (drop 1 d) ≡ byteCount (start .args .row) = simp length-drop (omega arith) in
+    rw (loop .loop .inv .2, all, values, first .ensures, n)
 
 pub with-values-spec : {M : Type 1} → statement M
 with-values-spec =

@@ -1,5 +1,5 @@
 -- The panel with the ID is asked; without one there is silence. Assumes nothing.
-use mathlib.Core.Path.{_≡_, sym, ap₂, _∙_}
+use mathlib.Core.Path.{sym, ap₂, _∙_}
 use native.Mathlib.Omega.{arith}
 use Rattle.panels.specs.declared.Table.{Table}
 use Rattle.panels.proofs.Laws.{count-is, place-there}

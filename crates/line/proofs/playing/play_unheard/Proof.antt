@@ -1,8 +1,6 @@
 -- Nobody answers, and only a set that is allowed changes panels. Assumes nothing.
 use mathlib.Core.Path.{_≡_, sym, ap, ap₂, subst, _∙_}
-use mathlib.Core.List.{List, map}
-use Prim.Native.Nat.{ℕ}
-use Rattle.panels.specs.declared.Panel.{Panel}
+use mathlib.Core.List.{map}
 use Rattle.panels.specs.declared.Table.{Table}
 use Rattle.panels.specs.Wall.{tableOf, panelsOf}
 use Rattle.line.specs.declared.Order.{Order}

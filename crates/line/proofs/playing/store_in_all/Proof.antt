@@ -10,7 +10,6 @@ use lib.Seq.{drop-at}
 use Rattle.packet.specs.declared.MonitorId.{MonitorId}
 use Rattle.packet.specs.declared.GroupId.{GroupId}
 use Rattle.panels.specs.declared.Panel.{Panel}
-use Rattle.panels.specs.declared.Table.{Table}
 use Rattle.panels.specs.Wall.{Wall, blank, panelsOf}
 use Rattle.panels.proofs.Lists.{getD-inside}
 use Rattle.panels.proofs.Laws.{count-is, count-few, places-are, places-count, table-is}

@@ -1,60 +1,26 @@
--- What a field that is taken does to a panel's 15 values. Assumes nothing.
+-- A panel's 15 values, row by row. Assumes nothing.
 use mathlib.Core.Path.{_≡_, refl, sym, ap, _∙_}
 use mathlib.Core.Bool.{Bool, true, false}
-use mathlib.Core.List.{List, _++_, append-assoc, flatten}
+use mathlib.Core.List.{List, flatten}
 use mathlib.Core.Logic.{⊎-elim}
 use Prim.Native.Nat.{ℕ, zero, suc, _+_, _-_, _≤_, _<_}
 use native.Mathlib.Nat.{eq-or-lt-of-le}
 use native.Mathlib.Omega.{arith}
 use borrow.Author.Tests.{ltb-true, ltb-false, eqb-true, eqb-false}
 use lib.Dec.{ltb, eqb}
-use lib.ListN.{length, take, drop}
-use lib.Seq.{length-take-le, take-at, drop-at, take-take, take-add, drop-drop, take-all}
+use lib.ListN.{length, take}
+use lib.Seq.{take-add, take-all}
 use Rattle.settings.specs.Settings.{settings, allowedByRow, byteCount, place, allowedFor, freshValues}
 use Rattle.settings.proofs.Laws.{place-fits, places-apart, allowed-count, fresh-allowed, fresh-count}
 use Rattle.settings.proofs.WrittenOut.{alike}
 use Rattle.panels.specs.Wall.{valuesOf}
-use Rattle.image.specs.Laid.{laidAt}
-use Rattle.image.specs.Fields.{valuesWith}
-use Rattle.image.proofs.Laid.{length-laid}
+use Rattle.panels.specs.Laid.{laidAt, valuesWith}
+use Rattle.panels.proofs.Laid.{length-laid, before-laid, laid-itself, behind-laid, ahead-of-laid}
 
 pub length-with : (row : ℕ) (vs values : List ℕ) → length vs ≡ byteCount row → length values ≡ 15 → length (valuesWith row vs values) ≡ 15
 length-with row vs values n full = length-laid (place row) vs values (omega (arith, place-fits row)) ∙ full
 
--- bytes laid over others: what stands before them, themselves, and what stands behind them
-module _ (at : ℕ) (b l : List ℕ) (h : at + length b ≤ length l) where
-  before-laid : take at (laidAt at b l) ≡ take at l
-  unfolding laidAt
-  before-laid = rw append-assoc (take-at (take at l) _ at (length-take-le at l (omega arith)))
-
-  from-laid : drop at (laidAt at b l) ≡ b ++ drop (at + length b) l
-  unfolding laidAt
-  from-laid = rw append-assoc (drop-at (take at l) _ at (length-take-le at l (omega arith)))
-
-  pub laid-itself : take (length b) (drop at (laidAt at b l)) ≡ b
-  laid-itself = rw from-laid (take-at b _ (length b) refl)
-
-  pub behind-laid : (a : ℕ) → at + length b ≤ a → drop a (laidAt at b l) ≡ drop a l
-  behind-laid a g =
-      let e : at + length b + (a - (at + length b)) ≡ a = omega arith in
-      let d = a - (at + length b) in
-      let past : drop (at + length b) (laidAt at b l) ≡ drop (at + length b) l = sym (drop-drop (length b) at _) ∙ rw from-laid (drop-at b _ (length b) refl) in
-      ap (λ (k : ℕ). drop k (laidAt at b l)) (sym e) ∙ sym (drop-drop d (at + length b) (laidAt at b l)) ∙ ap (drop d) past
-      ∙ drop-drop d (at + length b) l ∙ ap (λ (k : ℕ). drop k l) e
-
--- a part that ends before them
-part-is : (a n : ℕ) (l : List ℕ) → a ≤ length l → take n (drop a l) ≡ drop a (take (a + n) l)
-part-is a n l h = sym (rw (take-add a n l) (drop-at (take a l) _ a (length-take-le a l h)))
-
-pub ahead-of-laid : (at a n : ℕ) (b l : List ℕ) → at + length b ≤ length l → a + n ≤ at → take n (drop a (laidAt at b l)) ≡ take n (drop a l)
-ahead-of-laid at a n b l h g =
-    let x = laidAt at b l in
-    let long = length-laid at b l h in
-    part-is a n x (omega arith)
-    ∙ ap (drop a) (sym (take-take (a + n) at x g) ∙ ap (take (a + n)) (before-laid at b l h) ∙ take-take (a + n) at l g)
-    ∙ sym (part-is a n l (omega arith))
-
--- a field of a row sets that row's values, and no other row's
+-- a row that was stored to has the values, and every other row has what it had
 module _ (row : ℕ) (vs values : List ℕ) (n : length vs ≡ byteCount row) (full : length values ≡ 15) where
   room : place row + length vs ≤ length values
   room = omega (arith, place-fits row)
@@ -74,6 +40,11 @@ module _ (row : ℕ) (vs values : List ℕ) (n : length vs ≡ byteCount row) (f
       go : (t : Bool) → ltb r row ≡ t → valuesOf r (valuesWith row vs values) ≡ valuesOf r values
       go true e = below (ltb-true r row e)
       go false e = ⊎-elim (λ same. absurd (ne (sym same))) above (eq-or-lt-of-le (ltb-false r row e))
+
+  -- storing the same once more changes nothing
+  pub with-twice : valuesWith row vs (valuesWith row vs values) ≡ valuesWith row vs values
+  unfolding laidAt
+  with-twice = rw (before-laid (place row) vs values room, behind-laid (place row) vs values room (place row + length vs) (omega arith))
 
 -- 15 values are known by their rows
 next-place : {row : ℕ} → row < 8 → place (suc row) ≡ place row + byteCount row

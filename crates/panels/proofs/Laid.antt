@@ -1,0 +1,49 @@
+-- Bytes laid over others: what stands before them, they themselves, and what stands behind them. Assumes nothing.
+use mathlib.Core.Path.{_≡_, refl, sym, ap, _∙_}
+use mathlib.Core.List.{List, _++_, append-assoc}
+use Prim.Native.Nat.{ℕ, _+_, _-_, _≤_}
+use native.Mathlib.Omega.{arith}
+use lib.ListN.{length, take, drop, length-append, length-drop}
+use lib.Seq.{length-take-le, take-at, drop-at, take-take, take-add, drop-drop}
+use Rattle.panels.specs.Laid.{laidAt}
+
+-- the part before the seam
+pub front : (at : ℕ) (b l : List ℕ) → at ≤ length l → length (take at l ++ b) ≡ at + length b
+front at b l h = rw (length-append (take at l) b, length-take-le at l h)
+
+pub length-laid : (at : ℕ) (b l : List ℕ) → at + length b ≤ length l → length (laidAt at b l) ≡ length l
+unfolding laidAt
+length-laid at b l h =
+    rw (length-append (take at l ++ b) (drop (at + length b) l), front at b l (omega arith), length-drop) (omega arith)
+
+module _ (at : ℕ) (b l : List ℕ) (h : at + length b ≤ length l) where
+  pub before-laid : take at (laidAt at b l) ≡ take at l
+  unfolding laidAt
+  before-laid = rw append-assoc (take-at (take at l) _ at (length-take-le at l (omega arith)))
+
+  from-laid : drop at (laidAt at b l) ≡ b ++ drop (at + length b) l
+  unfolding laidAt
+  from-laid = rw append-assoc (drop-at (take at l) _ at (length-take-le at l (omega arith)))
+
+  pub laid-itself : take (length b) (drop at (laidAt at b l)) ≡ b
+  laid-itself = rw from-laid (take-at b _ (length b) refl)
+
+  pub behind-laid : (a : ℕ) → at + length b ≤ a → drop a (laidAt at b l) ≡ drop a l
+  behind-laid a g =
+      let e : at + length b + (a - (at + length b)) ≡ a = omega arith in
+      let d = a - (at + length b) in
+      let past : drop (at + length b) (laidAt at b l) ≡ drop (at + length b) l = sym (drop-drop (length b) at _) ∙ rw from-laid (drop-at b _ (length b) refl) in
+      ap (λ (k : ℕ). drop k (laidAt at b l)) (sym e) ∙ sym (drop-drop d (at + length b) (laidAt at b l)) ∙ ap (drop d) past
+      ∙ drop-drop d (at + length b) l ∙ ap (λ (k : ℕ). drop k l) e
+
+-- a part that ends before them
+part-is : (a n : ℕ) (l : List ℕ) → a ≤ length l → take n (drop a l) ≡ drop a (take (a + n) l)
+part-is a n l h = sym (rw (take-add a n l) (drop-at (take a l) _ a (length-take-le a l h)))
+
+pub ahead-of-laid : (at a n : ℕ) (b l : List ℕ) → at + length b ≤ length l → a + n ≤ at → take n (drop a (laidAt at b l)) ≡ take n (drop a l)
+ahead-of-laid at a n b l h g =
+    let x = laidAt at b l in
+    let long = length-laid at b l h in
+    part-is a n x (omega arith)
+    ∙ ap (drop a) (sym (take-take (a + n) at x g) ∙ ap (take (a + n)) (before-laid at b l h) ∙ take-take (a + n) at l g)
+    ∙ sym (part-is a n l (omega arith))

@@ -1,0 +1,13 @@
+-- Bytes in the place of others: parts of an image, and a row's values among a panel's 15.
+use Prim.Native.Nat.{ℕ, _+_}
+use mathlib.Core.List.{List, _++_}
+use lib.ListN.{length, take, drop}
+use Rattle.settings.specs.Settings.{place}
+
+-- a list with some bytes laid over it from place `at` on
+unfoldable pub laidAt : ℕ → List ℕ → List ℕ → List ℕ
+laidAt at bytes l = take at l ++ bytes ++ drop (at + length bytes) l
+
+-- a panel's values with those of a row stored
+abbrev pub valuesWith : ℕ → List ℕ → List ℕ → List ℕ
+valuesWith row vs values = laidAt (place row) vs values
