@@ -17,8 +17,6 @@ use Rattle.packet.specs.declared.Verdict.the-variants.{Empty, Damaged, I
 use Rattle.packet.proofs.Verdict.{the-type}
 use Rattle.packet.proofs.data_part.Statement.{statement}
 use Rattle.packet.proofs.data_part.Tie as tie
-use Rattle.packet.proofs.data_part.Reads as reads
-use Rattle.packet.proofs.data_part.Lts as lts
 
 no-data : (b : List ℕ) (v : Verdict) → OneOf (0 ∷ 1 ∷ []) (tagOf the-type v) → [] ≡ dataOf b v
 unfolding dataOf

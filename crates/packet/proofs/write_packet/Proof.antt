@@ -15,10 +15,6 @@ use borrow.Author.Needs.{needs}
 use Rattle.packet.proofs.Xor.{xor-assoc}
 use Rattle.packet.proofs.write_packet.Statement.{statement}
 use Rattle.packet.proofs.write_packet.Tie as tie
-use Rattle.packet.proofs.write_packet.Reads as reads
-use Rattle.packet.proofs.write_packet.Lts as lts
-use Rattle.bytes.proofs.copy.Reads as copy-reads
-use Rattle.packet.proofs.xor_of.Reads as xor-of-reads
 
 -- the head bytes stored, and the data copied behind them
 abbrev headed : List ℕ → ℕ → ℕ → ℕ → List ℕ

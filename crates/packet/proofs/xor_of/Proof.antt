@@ -11,8 +11,6 @@ use Rattle.packet.specs.Xor.{_⊕_, xorAll}
 use Rattle.packet.proofs.Xor.{xor-assoc, zero-⊕, ⊕-zero}
 use Rattle.packet.proofs.xor_of.Statement.{statement}
 use Rattle.packet.proofs.xor_of.Tie as tie
-use Rattle.packet.proofs.xor_of.Reads as reads
-use Rattle.packet.proofs.xor_of.Lts as lts
 
 take-out : (bytes : List ℕ) (i sum : ℕ) → i < length bytes
     → sum ⊕ xorAll (drop i bytes) ≡ bitXor sum (getD bytes i 0) ⊕ xorAll (drop (i + 1) bytes)

@@ -18,8 +18,6 @@ use Rattle.panels.specs.Calls.{addRefusal, unlessRefused, added, addedTo
 use Rattle.panels.proofs.Laws.{count-is, grown}
 use Rattle.panels.proofs.add.Statement.{statement}
 use Rattle.panels.proofs.add.Tie as tie
-use Rattle.panels.proofs.add.Reads as reads
-use Rattle.panels.proofs.add.Lts as lts
 
 answered : (t : Table) {u : Table} (i : MonitorId) (g : GroupId) (r : Refusal) → addRefusal (panelsOf t) i g ≡ r
     → u ≡ tableOf (unlessRefused r (panelsOf t ++ freshPanel i g ∷ []) (panelsOf t))

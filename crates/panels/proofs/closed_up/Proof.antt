@@ -16,9 +16,6 @@ use Rattle.panels.proofs.Lists.{store, behind, moved-up}
 use Rattle.panels.proofs.Laws.{count-is, count-few, places-are, places-count, table-is}
 use Rattle.panels.proofs.closed_up.Statement.{statement}
 use Rattle.panels.proofs.closed_up.Tie as tie
-use Rattle.panels.proofs.closed_up.Reads as reads
-use Rattle.panels.proofs.closed_up.Lts as lts
-use Rattle.panels.proofs.blank_panel.Reads as blank-panel-reads
 
 -- the wall without its panel k, which is one shorter
 length-without : (w : Wall) (k : ℕ) → k < length w → suc (length (without (At k) w)) ≡ length w

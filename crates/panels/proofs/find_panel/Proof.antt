@@ -10,8 +10,6 @@ use Rattle.panels.specs.Wall.{blank, panelsOf, placeFrom}
 use Rattle.panels.proofs.Laws.{count-is, count-few, in-wall, placeAfter, place-step}
 use Rattle.panels.proofs.find_panel.Statement.{statement}
 use Rattle.panels.proofs.find_panel.Tie as tie
-use Rattle.panels.proofs.find_panel.Reads as reads
-use Rattle.panels.proofs.find_panel.Lts as lts
 
 abbrev Inv-loop : tie.InvT-loop
 Inv-loop id t k₀ k = (k ≤ t .count) × (placeAfter id 0 (panelsOf t) ≡ placeAfter id k (panelsOf t))

@@ -8,10 +8,6 @@ use Rattle.panels.specs.Calls.{removed}
 use Rattle.panels.proofs.Laws.{count-is, place-there}
 use Rattle.panels.proofs.remove.Statement.{statement}
 use Rattle.panels.proofs.remove.Tie as tie
-use Rattle.panels.proofs.remove.Reads as reads
-use Rattle.panels.proofs.remove.Lts as lts
-use Rattle.panels.proofs.closed_up.Reads as closed-up-reads
-use Rattle.panels.proofs.find_panel.Reads as find-panel-reads
 
 find-panel-requires : tie.Need-find-panel-requires
 find-panel-requires c κs = search needs

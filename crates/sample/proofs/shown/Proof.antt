@@ -10,9 +10,6 @@ use Rattle.text.specs.Hex.{hexCount, hexOver}
 use Rattle.sample.specs.Shown.{shownCount, shownOver}
 use Rattle.sample.proofs.shown.Statement.{statement}
 use Rattle.sample.proofs.shown.Tie as tie
-use Rattle.sample.proofs.shown.Reads as reads
-use Rattle.sample.proofs.shown.Lts as lts
-use Rattle.text.proofs.hex.Reads as hex-reads
 
 some : (bytes out : List ℕ) → (length bytes ≡ 0 → ⊥) → (hexCount bytes out ≡ shownCount bytes out) × (hexOver bytes out ≡ shownOver bytes out)
 unfolding shownCount shownOver

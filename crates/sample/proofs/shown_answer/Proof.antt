@@ -14,11 +14,6 @@ use Rattle.sample.specs.Shown.{shownCount, shownOver}
 use borrow.Author.Needs.{needs}
 use Rattle.sample.proofs.shown_answer.Statement.{statement}
 use Rattle.sample.proofs.shown_answer.Tie as tie
-use Rattle.sample.proofs.shown_answer.Reads as reads
-use Rattle.sample.proofs.shown_answer.Lts as lts
-use Rattle.line.proofs.write_answer.Reads as write-answer-reads
-use Rattle.sample.proofs.shown.Reads as shown-reads
-use Rattle.text.proofs.front.Reads as front-reads
 
 abbrev empty : List ℕ
 empty = replicate 40 0

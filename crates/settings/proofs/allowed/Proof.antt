@@ -18,12 +18,6 @@ use Rattle.settings.proofs.WrittenOut.{in-each}
 use Rattle.settings.proofs.Laws.{place-fits, at-place, other-count}
 use Rattle.settings.proofs.allowed.Statement.{statement}
 use Rattle.settings.proofs.allowed.Tie as tie
-use Rattle.settings.proofs.allowed.Reads as reads
-use Rattle.settings.proofs.allowed.Lts as lts
-use Rattle.settings.proofs.allowed_at.Reads as allowed-at-reads
-use Rattle.settings.proofs.byte_count.Reads as byte-count-reads
-use Rattle.settings.proofs.place_of.Reads as place-of-reads
-use Rattle.settings.proofs.the_table.Reads as the-table-reads
 
 rest : ℕ → List ℕ → ℕ → Bool
 rest row vs k = allAllowed (drop k (setting row .allowed)) (drop k vs)

@@ -8,10 +8,6 @@ use Rattle.settings.specs.Numbers.{rangeOf, rangesOf, firstRange, others
 use Rattle.settings.proofs.Laws.{first-and-others}
 use Rattle.settings.proofs.allowed_at.Statement.{statement}
 use Rattle.settings.proofs.allowed_at.Tie as tie
-use Rattle.settings.proofs.allowed_at.Reads as reads
-use Rattle.settings.proofs.allowed_at.Lts as lts
-use Rattle.settings.proofs.in_others.Reads as in-others-reads
-use Rattle.settings.proofs.in_range.Reads as in-range-reads
 
 apart : {p : ℕ} (v : ℕ) {r : Range} → p < 15 → r ≡ firstRange p → inRange r v || within (othersOf p) v ≡ within (rangesOf p) v
 unfolding within

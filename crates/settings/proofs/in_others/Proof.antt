@@ -14,11 +14,6 @@ use Rattle.settings.specs.Numbers.{noRange, otherRanges, allOthers, othe
 use Rattle.settings.proofs.Flat.{in-flat, flat-fits}
 use Rattle.settings.proofs.in_others.Statement.{statement}
 use Rattle.settings.proofs.in_others.Tie as tie
-use Rattle.settings.proofs.in_others.Reads as reads
-use Rattle.settings.proofs.in_others.Lts as lts
-use Rattle.settings.proofs.other_range_at.Reads as other-range-at-reads
-use Rattle.settings.proofs.in_range.Reads as in-range-reads
-use Rattle.settings.proofs.others_at.Reads as others-at-reads
 
 rest : ℕ → ℕ → ℕ → Bool
 rest p v k = within (drop k (othersOf p)) v

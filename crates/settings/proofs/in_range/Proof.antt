@@ -3,8 +3,6 @@ use native.Mathlib.Omega.{arith}
 use borrow.Author.Tests.{le-leb, lt-leb}
 use Rattle.settings.proofs.in_range.Statement.{statement}
 use Rattle.settings.proofs.in_range.Tie as tie
-use Rattle.settings.proofs.in_range.Reads as reads
-use Rattle.settings.proofs.in_range.Lts as lts
 
 returns : tie.Need-returns
 returns c =

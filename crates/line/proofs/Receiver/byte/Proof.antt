@@ -4,8 +4,6 @@ use Rattle.line.specs.Session.{withByte}
 use borrow.Author.Needs.{needs}
 use Rattle.line.proofs.Receiver.byte.Statement.{statement}
 use Rattle.line.proofs.Receiver.byte.Tie as tie
-use Rattle.line.proofs.Receiver.byte.Reads as reads
-use Rattle.line.proofs.Receiver.byte.Lts as lts
 
 element-write-self : tie.Need-element-write-self
 element-write-self c = search needs

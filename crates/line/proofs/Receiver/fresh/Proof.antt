@@ -3,8 +3,6 @@ use mathlib.Core.Path.{refl}
 use Rattle.line.specs.Session.{receiverOf}
 use Rattle.line.proofs.Receiver.fresh.Statement.{statement}
 use Rattle.line.proofs.Receiver.fresh.Tie as tie
-use Rattle.line.proofs.Receiver.fresh.Reads as reads
-use Rattle.line.proofs.Receiver.fresh.Lts as lts
 
 returns : tie.Need-returns
 unfolding receiverOf

@@ -14,10 +14,6 @@ use Rattle.line.proofs.Bursts.{played-long, damaged-bare}
 use borrow.Author.Needs.{needs}
 use Rattle.line.proofs.Receiver.quiet.Statement.{statement}
 use Rattle.line.proofs.Receiver.quiet.Tie as tie
-use Rattle.line.proofs.Receiver.quiet.Reads as reads
-use Rattle.line.proofs.Receiver.quiet.Lts as lts
-use Rattle.line.proofs.playing.damaged_reply.Reads as damaged-reply-reads
-use Rattle.line.proofs.playing.play.Reads as play-reads
 
 slice-aggregate-damaged-reply : tie.Need-slice-aggregate-damaged-reply
 slice-aggregate-damaged-reply c = search needs

@@ -14,9 +14,6 @@ use Rattle.line.specs.declared.Sent.the-variants as sent
 use borrow.Author.Needs.{needs}
 use Rattle.line.proofs.answering.send.Statement.{statement}
 use Rattle.line.proofs.answering.send.Tie as tie
-use Rattle.line.proofs.answering.send.Reads as reads
-use Rattle.line.proofs.answering.send.Lts as lts
-use Rattle.packet.proofs.write_packet.Reads as write-packet-reads
 
 -- what the match makes of it
 abbrev passed-on : Written → Sent

@@ -15,10 +15,6 @@ use Rattle.line.specs.Reply.{sentBy, sentBytes, sentOf, outputOf}
 use borrow.Author.Needs.{needs}
 use Rattle.line.proofs.answering.write_answer.Statement.{statement}
 use Rattle.line.proofs.answering.write_answer.Tie as tie
-use Rattle.line.proofs.answering.write_answer.Reads as reads
-use Rattle.line.proofs.answering.write_answer.Lts as lts
-use Rattle.line.proofs.answering.send.Reads as send-reads
-use Rattle.packet.proofs.control_byte.Reads as control-byte-reads
 
 by-answer : (r : Reply) (a : Answer) → r .answer ≡ a → sentBytes r ≡ sentBy a (r .id) (take (r .count) (r .bytes))
 unfolding sentBytes

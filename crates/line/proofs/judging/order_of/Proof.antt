@@ -13,10 +13,6 @@ use Rattle.line.specs.Judged.{getOf, unavailable, command, commandBy, or
 use borrow.Author.Needs.{needs}
 use Rattle.line.proofs.judging.order_of.Statement.{statement}
 use Rattle.line.proofs.judging.order_of.Tie as tie
-use Rattle.line.proofs.judging.order_of.Reads as reads
-use Rattle.line.proofs.judging.order_of.Lts as lts
-use Rattle.line.proofs.judging.set_order.Reads as set-order-reads
-use Rattle.settings.proofs.find_setting.Reads as find-setting-reads
 
 no-code : (d : List ℕ) → length d ≡ 0 → command d ≡ unavailable
 unfolding command

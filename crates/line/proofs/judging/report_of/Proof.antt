@@ -17,11 +17,6 @@ use Rattle.line.specs.Reply.{reportFrom}
 use Rattle.settings.proofs.Laws.{place-fits, byte-count-few}
 use Rattle.line.proofs.judging.report_of.Statement.{statement}
 use Rattle.line.proofs.judging.report_of.Tie as tie
-use Rattle.line.proofs.judging.report_of.Reads as reads
-use Rattle.line.proofs.judging.report_of.Lts as lts
-use Rattle.settings.proofs.byte_count.Reads as byte-count-reads
-use Rattle.settings.proofs.get_code.Reads as get-code-reads
-use Rattle.settings.proofs.place_of.Reads as place-of-reads
 
 -- one value more behind the get code
 copied : (bytes vs : List ℕ) (row k : ℕ) → row < 8 → length bytes ≡ 8 → length vs ≡ 15 → k < byteCount row

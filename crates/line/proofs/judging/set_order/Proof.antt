@@ -9,9 +9,6 @@ use Rattle.settings.specs.Settings.{allowedFor}
 use borrow.Author.Needs.{needs}
 use Rattle.line.proofs.judging.set_order.Statement.{statement}
 use Rattle.line.proofs.judging.set_order.Tie as tie
-use Rattle.line.proofs.judging.set_order.Reads as reads
-use Rattle.line.proofs.judging.set_order.Lts as lts
-use Rattle.settings.proofs.allowed.Reads as allowed-reads
 
 behind-code : (d : List ℕ) → take (length d - 1) (drop 1 d) ≡ drop 1 d
 behind-code d = take-all (length d - 1) (drop 1 d) (simp length-drop (omega arith))

@@ -14,10 +14,6 @@ use Rattle.panels.specs.Laid.{laidAt}
 use Rattle.line.specs.Judged.{stored}
 use Rattle.line.proofs.judging.with_values.Statement.{statement}
 use Rattle.line.proofs.judging.with_values.Tie as tie
-use Rattle.line.proofs.judging.with_values.Reads as reads
-use Rattle.line.proofs.judging.with_values.Lts as lts
-use Rattle.settings.proofs.byte_count.Reads as byte-count-reads
-use Rattle.settings.proofs.place_of.Reads as place-of-reads
 
 copied : (vs d : List ℕ) (first k : ℕ) → first + k < length vs → k + 1 < length d
     → set (paste vs first (drop 1 d) k) (first + k) (getD d (k + 1) 0) ≡ paste vs first (drop 1 d) (k + 1)

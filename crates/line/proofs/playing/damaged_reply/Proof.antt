@@ -12,11 +12,6 @@ use Rattle.line.specs.Played.{nackTo, damagedReply}
 use borrow.Author.Needs.{needs}
 use Rattle.line.proofs.playing.damaged_reply.Statement.{statement}
 use Rattle.line.proofs.playing.damaged_reply.Tie as tie
-use Rattle.line.proofs.playing.damaged_reply.Reads as reads
-use Rattle.line.proofs.playing.damaged_reply.Lts as lts
-use Rattle.line.proofs.answering.no_reply.Reads as no-reply-reads
-use Rattle.line.proofs.answering.word_from.Reads as word-from-reads
-use Rattle.panels.proofs.find_panel.Reads as find-panel-reads
 
 too-short : (w : Wall) (b : List ℕ) → length b < 3 → silence ≡ damagedReply w b
 unfolding damagedReply

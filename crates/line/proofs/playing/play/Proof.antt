@@ -15,15 +15,6 @@ use Rattle.line.proofs.Turns.{heard-means}
 use borrow.Author.Needs.{needs}
 use Rattle.line.proofs.playing.play.Statement.{statement}
 use Rattle.line.proofs.playing.play.Tie as tie
-use Rattle.line.proofs.playing.play.Reads as reads
-use Rattle.line.proofs.playing.play.Lts as lts
-use Rattle.line.proofs.answering.no_reply.Reads as no-reply-reads
-use Rattle.line.proofs.playing.damaged_reply.Reads as damaged-reply-reads
-use Rattle.line.proofs.playing.play_heard.Reads as play-heard-reads
-use Rattle.line.proofs.playing.play_unheard.Reads as play-unheard-reads
-use Rattle.packet.proofs.data_part.Reads as data-part-reads
-use Rattle.packet.proofs.verdict_on.Reads as verdict-on-reads
-use Rattle.panels.proofs.is_answered.Reads as is-answered-reads
 
 verdict-on-requires : tie.Need-verdict-on-requires
 verdict-on-requires c κs = search needs

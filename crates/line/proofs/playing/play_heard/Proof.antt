@@ -9,12 +9,6 @@ use Rattle.line.proofs.Turns.{heard-there, heard-nowhere}
 use borrow.Author.Needs.{needs}
 use Rattle.line.proofs.playing.play_heard.Statement.{statement}
 use Rattle.line.proofs.playing.play_heard.Tie as tie
-use Rattle.line.proofs.playing.play_heard.Reads as reads
-use Rattle.line.proofs.playing.play_heard.Lts as lts
-use Rattle.line.proofs.answering.no_reply.Reads as no-reply-reads
-use Rattle.line.proofs.judging.order_of.Reads as order-of-reads
-use Rattle.line.proofs.playing.play_one.Reads as play-one-reads
-use Rattle.panels.proofs.find_panel.Reads as find-panel-reads
 
 find-panel-requires : tie.Need-find-panel-requires
 find-panel-requires c κs = search needs

@@ -22,11 +22,6 @@ use Rattle.line.specs.Played.{asked}
 use Rattle.line.proofs.Orders.{OrderIs, order-right, judge-get, judge-set}
 use Rattle.line.proofs.playing.play_one.Statement.{statement}
 use Rattle.line.proofs.playing.play_one.Tie as tie
-use Rattle.line.proofs.playing.play_one.Reads as reads
-use Rattle.line.proofs.playing.play_one.Lts as lts
-use Rattle.line.proofs.answering.word_from.Reads as word-from-reads
-use Rattle.line.proofs.judging.report_of.Reads as report-of-reads
-use Rattle.line.proofs.judging.with_values.Reads as with-values-reads
 
 asked-is : (t : Table) (k : ℕ) (c : Command) (j : Judged) (u : Table) → judge c (getD (panelsOf t) k blank) ≡ j
     → u ≡ tableOf (set (panelsOf t) k (panelAfter j (getD (panelsOf t) k blank)))

@@ -13,11 +13,6 @@ use Rattle.line.proofs.Turns.{unheard, unheard-same}
 use borrow.Author.Needs.{needs}
 use Rattle.line.proofs.playing.play_unheard.Statement.{statement}
 use Rattle.line.proofs.playing.play_unheard.Tie as tie
-use Rattle.line.proofs.playing.play_unheard.Reads as reads
-use Rattle.line.proofs.playing.play_unheard.Lts as lts
-use Rattle.line.proofs.answering.no_reply.Reads as no-reply-reads
-use Rattle.line.proofs.judging.order_of.Reads as order-of-reads
-use Rattle.line.proofs.playing.store_in_all.Reads as store-in-all-reads
 
 no-reply-requires : tie.Need-no-reply-requires
 no-reply-requires c κs = search needs

@@ -18,9 +18,6 @@ use Rattle.line.specs.Played.{turned}
 use Rattle.line.proofs.Turns.{turn-next, take-map}
 use Rattle.line.proofs.playing.store_in_all.Statement.{statement}
 use Rattle.line.proofs.playing.store_in_all.Tie as tie
-use Rattle.line.proofs.playing.store_in_all.Reads as reads
-use Rattle.line.proofs.playing.store_in_all.Lts as lts
-use Rattle.line.proofs.playing.store_in.Reads as store-in-reads
 
 -- the change of one panel
 abbrev change : MonitorId → GroupId → ℕ → List ℕ → Panel → Panel
