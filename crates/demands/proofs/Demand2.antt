@@ -21,14 +21,13 @@ use Rattle.panels.specs.Addressed.{reaches, isHeard}
 use Rattle.panels.specs.WellFormed.{GoodPanel, GoodWall}
 use Rattle.panels.proofs.Laws.{place-there}
 use Rattle.panels.proofs.Lists.{getD-inside}
-use Rattle.panels.proofs.Formed.{empty-formed, added-formed, removed-formed}
+use Rattle.panels.proofs.Formed.{empty-formed, added-formed, removed-formed, good-at}
 use Rattle.line.specs.Reply.{silence}
 use Rattle.line.specs.Judged.{Command, getOf, setOf, unavailable, command, judge, panelAfter, stored, taken, notAvailable, replyBy}
 use Rattle.line.specs.Played.{turned, replyFrom, nackTo, damagedReply, playedBy, played}
 use Rattle.line.proofs.Formed.{stored-own, stored-others, played-formed}
 use Rattle.line.proofs.Cases.{p-cases}
 use Rattle.image.specs.declared.Read.{Read}
-use Rattle.image.proofs.Lengths.{good-at}
 use Rattle.image.proofs.Sound.{read-formed}
 use Rattle.image.proofs.Order.{read-any-order, left-out}
 use Rattle.image.proofs.Back.{front-is-image, table-back}

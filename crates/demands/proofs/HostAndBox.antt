@@ -11,6 +11,7 @@ use lib.Seq.{take-append-seam}
 use Rattle.settings.specs.declared.Found.{Found}
 use Rattle.settings.specs.declared.Found.the-variants.{Set, Get, Nothing}
 use Rattle.settings.specs.Settings.{settings, foundBy, getCode, allowedFor}
+use Rattle.settings.proofs.Both.{both}
 use Rattle.settings.proofs.Laws.{IsFound, found-right, byte-count-few}
 use Rattle.settings.proofs.WrittenOut.{alike}
 use Rattle.packet.specs.declared.MonitorId.{MonitorId}
@@ -27,13 +28,13 @@ use Rattle.panels.specs.Wall.{Wall, valuesOf, blank, placeOf, panelsOf}
 use Rattle.panels.specs.Addressed.{reaches, isHeard}
 use Rattle.panels.specs.WellFormed.{GoodPanel, GoodWall}
 use Rattle.panels.proofs.Laws.{place-there}
+use Rattle.panels.proofs.Formed.{good-at}
 use Rattle.line.specs.Judged.{Command, getOf, setOf, unavailable, command, judge, stored, replyBy}
 use Rattle.line.specs.Played.{turned, playedBy, played}
 use Rattle.line.specs.Session.{session}
 use Rattle.line.proofs.Formed.{stored-twice, played-good}
 use Rattle.line.proofs.Turns.{stays}
 use Rattle.line.specs.Reply.{wordFrom, reportFrom, sentBytes}
-use Rattle.image.proofs.Lengths.{good-at}
 use Rattle.host.specs.declared.Request.{Request}
 use Rattle.host.specs.declared.Said.the-variants.{Report}
 use Rattle.host.specs.Request.{requestData, requestPacket, isDue, isTaken, isRequest}
@@ -96,13 +97,6 @@ swap true true e = refl
 swap true false e = e
 swap false b e = absurd (false≢true e)
 
-and-right : (a b : Bool) → (a && b) ≡ true → b ≡ true
-and-right true b e = e
-and-right false b e = absurd (false≢true e)
-
-and-left : (a b : Bool) → (a && b) ≡ true → a ≡ true
-and-left a b e = and-right b a (swap a b e)
-
 word-report : (code row : ℕ) (values : List ℕ) → foundBy code ≡ Get row → eqb (getCode row) 0 ≡ false → allowedFor row values ≡ true
     → wordIn code (getCode row ∷ values) ≡ Report
 unfolding wordIn isControl same endedBy isReport
@@ -134,11 +128,11 @@ module _ (w : Wall) (r : Request) (k : ℕ) (asked : isRequest r ≡ true) (due 
   unfolding isTaken command judge sentBytes ending
   ends good Nothing found t = absurd (false≢true t)
   ends good (Set row) found t =
-      let allowed = and-right (not (eqb (r .group .0) 255)) _ t in
+      let allowed = both (not (eqb (r .group .0) 255)) _ t .1 in
       let reply : played w (requestPacket r) .reply ≡ wordFrom (r .id) AckWord = box-answers ∙ rw (found, allowed) in
       rw reply (hears (controlData AckWord) (omega arith) ∙ (unfold wordIn isControl same endedBy in rw found))
   ends good (Get row) found t =
-      let none = eqb-true (r .count) 0 (and-left (eqb (r .count) 0) _ t) in
+      let none = eqb-true (r .count) 0 (both (eqb (r .count) 0) _ t .0) in
       let inTable = subst (IsFound (r .code)) found (found-right (r .code)) .0 in
       let d = getCode row ∷ valuesOf row (panel .values) in
       let short : length d ≤ 36 = simp length-take (omega (arith, byte-count-few inTable)) in
@@ -152,4 +146,4 @@ pub lossless : Lossless
 unfolding isRequest
 lossless t f r k asked due there =
     let h = place-there (r .id) (panelsOf t) k there .0 in
-    ends (panelsOf t) r k asked due there (good-at (panelsOf t) (f .good) k h) (foundBy (r .code)) refl (and-right (leb (r .count) 7) _ asked)
+    ends (panelsOf t) r k asked due there (good-at (panelsOf t) (f .good) k h) (foundBy (r .code)) refl (both (leb (r .count) 7) _ asked .1)

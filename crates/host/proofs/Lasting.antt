@@ -1,7 +1,7 @@
 -- A request is over at the latest with its third NACK or mark; every packet given out for it is the same and intact; the count in
 -- its result is the number of packets given out since start. Assumes nothing.
 use mathlib.Core.Path.{_≡_, refl, sym, ap, subst, _∙_}
-use mathlib.Core.Bool.{Bool, true, false, false≢true, _&&_}
+use mathlib.Core.Bool.{Bool, true, false, false≢true}
 use mathlib.Core.Logic.{_⊎_, inl, inr, ⊎-elim}
 use mathlib.Core.List.{List, [], _∷_, _++_, append-assoc}
 use Prim.Native.Nat.{ℕ, suc, _+_, _≤_}
@@ -11,6 +11,7 @@ use native.Mathlib.Omega.{arith}
 use borrow.Author.Tests.{ltb-true, leb-true, lt-ltb}
 use lib.Dec.{ltb}
 use lib.ListN.{length, replicate, length-replicate, length-take, length-append, replicate-append-replicate}
+use Rattle.settings.proofs.Both.{both}
 use Rattle.packet.specs.Packet.{verdictOf}
 use Rattle.packet.specs.declared.Verdict.the-variants.{Intact}
 use Rattle.packet.proofs.Packets.{packet-verdict, packet-data}
@@ -21,10 +22,6 @@ use Rattle.host.specs.Request.{requestData, requestPacket, isDue, isRequ
 use Rattle.host.specs.Heard.{saidTo, dataIn}
 use Rattle.host.specs.Machine.{Happening, start, burst, mark, State, Move, idle, sendings, mostSendings, waits, begun, again, ending, heard, step, run}
 use Rattle.host.specs.Lasting.{after, lasts, isNack, pushes, pushed, packets, countIn}
-
-both : (a b : Bool) → (a && b) ≡ true → (a ≡ true) × (b ≡ true)
-both true b e = (refl, e)
-both false b e = absurd (false≢true e)
 
 -- one happening
 

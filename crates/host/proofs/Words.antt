@@ -11,6 +11,7 @@ use lib.Seq.{take-all}
 use Rattle.settings.specs.Settings.{settings, foundBy, getCode, setting, byteCount, allowedFor}
 use Rattle.settings.specs.declared.Found.{Found}
 use Rattle.settings.specs.declared.Found.the-variants.{Set, Get, Nothing as NoSetting}
+use Rattle.settings.proofs.Both.{both}
 use Rattle.settings.proofs.WrittenOut.{alike}
 use Rattle.settings.proofs.Laws.{IsFound, found-right, allowed-count}
 use Rattle.packet.specs.Control.{controlByte}
@@ -56,15 +57,11 @@ seven h = leb-true _ 7 (alike (λ k. leb (byteCount k) 7) (λ k. true) 8 refl h)
 abbrev Fits : List ℕ → Type 0
 Fits d = (1 ≤ length d) × (length d ≤ 8)
 
-and-right : (a b : Bool) → (a && b) ≡ true → b ≡ true
-and-right true b e = e
-and-right false b e = absurd (false≢true e)
-
 report-fits : (row : ℕ) (d : List ℕ) → row < 8 → isReport row d ≡ true → Fits d
 unfolding isReport
 report-fits row [] h e = absurd (false≢true e)
 report-fits row (c ∷ values) h e =
-    let n = allowed-count (setting row .allowed) values (and-right (eqb c (getCode row)) _ e) in
+    let n = allowed-count (setting row .allowed) values (both (eqb c (getCode row)) _ e .1) in
     let most = seven h in
     (omega arith, omega arith)
 

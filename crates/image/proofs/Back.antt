@@ -20,17 +20,17 @@ use Rattle.panels.specs.declared.Table.{Table}
 use Rattle.panels.specs.declared.Place.the-variants.{Nowhere}
 use Rattle.panels.specs.Wall.{Wall, valuesOf, blank, panelsOf, placeFrom}
 use Rattle.panels.specs.WellFormed.{GoodPanel, Absent, GoodWall, WellFormed}
-use Rattle.panels.proofs.Formed.{absent-snoc}
+use Rattle.panels.proofs.Formed.{absent-snoc, good-at}
+use Rattle.panels.specs.Laid.{valuesWith}
+use Rattle.panels.proofs.Values.{length-with, set-row, other-row, by-rows}
 use Rattle.image.specs.declared.Refusal.the-variants.{Nothing}
 use Rattle.image.specs.declared.Fields.{Fields}
 use Rattle.image.specs.declared.Read.{Read}
 use Rattle.image.specs.Written.{field, fieldsOf, recordOf, recordsOf, imageOf, sizeOf, outputOf}
-use Rattle.panels.specs.Laid.{valuesWith}
 use Rattle.image.specs.Fields.{fieldsIn}
 use Rattle.image.specs.Read.{Reading, headFits, recordRefusal, panelIn, readRecords, readOf, inTable}
 use Rattle.image.specs.Entries.{Entry, entryBytes, bytesOf, entryOf, Without}
-use Rattle.image.proofs.Lengths.{each-alike, length-values, good-at, record-at, record-length, records-long}
-use Rattle.panels.proofs.Values.{length-with, set-row, other-row, by-rows}
+use Rattle.image.proofs.Lengths.{each-alike, length-values, record-at, record-length, records-long}
 use Rattle.image.proofs.Entries.{rowOf, row-is, Good, GoodEntries, stored, count-of, all-taken}
 use Rattle.image.proofs.Order.{none-seen}
 use Rattle.image.proofs.Split.{image-length, whole-sound, records-in}

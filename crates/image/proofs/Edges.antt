@@ -1,6 +1,6 @@
 -- Where the records of an image that is sound as a whole begin and end. Assumes nothing.
 use mathlib.Core.Path.{_≡_, refl}
-use mathlib.Core.Bool.{Bool, true, false, cond, _&&_, false≢true}
+use mathlib.Core.Bool.{Bool, true, false, cond, false≢true}
 use mathlib.Core.List.{List}
 use Prim.Native.Nat.{ℕ, zero, suc, _+_, _-_, _*_, _≤_, _<_}
 use mathlib.Core.Logic.{⊎-elim}
@@ -9,15 +9,11 @@ use native.Mathlib.Omega.{arith}
 use borrow.Author.Tests.{ltb-true, ltb-false, eqb-true, le-ltb}
 use lib.Dec.{ltb, eqb}
 use lib.ListN.{length}
+use Rattle.settings.proofs.Both.{both}
 use Rattle.image.specs.declared.Refusal.{Refusal}
 use Rattle.image.specs.declared.Refusal.the-variants.{Nothing, TooShort, OtherForm, TooMany, NoStarts, Starts, Record, Field, Value}
 use Rattle.image.specs.Whole.{formOf, countOf, startsAt, edge, rises, startsFit, wholeRefusal}
 use Rattle.image.specs.Read.{isSound}
-
-pub both : (a b : Bool) → (a && b) ≡ true → (a ≡ true) × (b ≡ true)
-both true true e = (refl, refl)
-both true false e = absurd (false≢true e)
-both false b e = absurd (false≢true e)
 
 pub sound-nothing : (r : Refusal) → isSound r ≡ true → r ≡ Nothing
 sound-nothing Nothing e = refl

@@ -1,8 +1,8 @@
 -- How long a record and its parts are. Assumes nothing.
 use mathlib.Core.Path.{_≡_, refl, sym, ap, _∙_}
-use mathlib.Core.List.{List, [], _∷_, flatten}
+use mathlib.Core.List.{List, [], flatten}
 use Prim.Native.Nat.{ℕ, zero, suc, _+_, _-_, _*_, _≤_, _<_}
-use native.Mathlib.Nat.{mul-zero, mul-suc, le-of-suc-le-suc, not-suc-le-zero}
+use native.Mathlib.Nat.{mul-zero, mul-suc}
 use native.Mathlib.Omega.{arith}
 use borrow.Author.Tests.{leb-true}
 use mathlib.Core.Bool.{true}
@@ -15,8 +15,9 @@ use Rattle.settings.proofs.Laws.{place-fits}
 use Rattle.settings.proofs.WrittenOut.{in-each, alike}
 use Rattle.panels.specs.declared.Panel.{Panel}
 use Rattle.panels.specs.Wall.{Wall, valuesOf, blank}
-use Rattle.panels.specs.WellFormed.{GoodPanel, GoodWall}
+use Rattle.panels.specs.WellFormed.{GoodWall}
 use Rattle.panels.proofs.Lists.{getD-inside}
+use Rattle.panels.proofs.Formed.{good-at}
 use Rattle.image.specs.Written.{field, fieldsOf, recordOf, recordsOf, highLow, startsOf}
 use Rattle.image.proofs.Laid.{flat-more}
 
@@ -92,11 +93,6 @@ unfolding recordOf
 record-length p full = omega (arith, fields-length (p .values) full)
 
 -- so that record k of a wall starts at 33k
-pub good-at : (w : Wall) → GoodWall w → (k : ℕ) → k < length w → GoodPanel (getD w k blank)
-good-at [] good k h = absurd (not-suc-le-zero h)
-good-at (p ∷ w) (g, a, good) zero h = g
-good-at (p ∷ w) (g, a, good) (suc k) h = good-at w good k (le-of-suc-le-suc h)
-
 pub record-at : (w : Wall) (k : ℕ) → k < length w → getD (recordsOf w) k [] ≡ recordOf (getD w k blank)
 record-at w k h = getD-inside (recordsOf w) k [] (recordOf blank) (rw (length-map w recordOf) h) ∙ List·getD-map recordOf w k blank
 

@@ -10,16 +10,16 @@ use lib.ListN.{length, drop, replicate, getD-replicate}
 use Rattle.settings.specs.Settings.{setCode, byteCount, freshValues}
 use Rattle.settings.proofs.Laws.{fresh-allowed, fresh-count}
 use Rattle.panels.specs.Wall.{Wall, valuesOf}
+use Rattle.panels.specs.Laid.{valuesWith}
+use Rattle.panels.proofs.Values.{length-with, set-row, other-row, by-rows}
 use Rattle.image.specs.declared.Refusal.the-variants.{Nothing as Sound, Record}
 use Rattle.image.specs.declared.Fields.{Fields}
 use Rattle.image.specs.Whole.{wholeRefusal, recordsIn}
-use Rattle.panels.specs.Laid.{valuesWith}
 use Rattle.image.specs.Fields.{fieldsIn}
 use Rattle.image.specs.Read.{isSound, headFits, recordRefusal, panelIn, wallWith, refused, readRecords, readOf}
 use Rattle.image.specs.Entries.{Entry, bytesOf, freshEntry, Permuted, same, swapped, kept, twice, Without, recordWith, Reordered, AllReordered}
 use Rattle.image.proofs.Lengths.{length-values}
 use Rattle.image.proofs.Edges.{sound-nothing}
-use Rattle.panels.proofs.Values.{length-with, set-row, other-row, by-rows}
 use Rattle.image.proofs.Entries.{rowOf, row-is, Good, GoodEntries, Unseen, stored, count-of, other-rows, all-taken, no-fault}
 
 -- What is stored does not depend on the order.

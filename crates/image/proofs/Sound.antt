@@ -10,6 +10,7 @@ use lib.ListN.{length, getD, drop, replicate, length-append}
 use lib.Seq.{drop-cons}
 use Rattle.settings.specs.Settings.{freshValues}
 use Rattle.settings.specs.Numbers.{each}
+use Rattle.settings.proofs.Both.{both}
 use Rattle.settings.proofs.WrittenOut.{in-each}
 use Rattle.packet.specs.Packet.{monitorId}
 use Rattle.panels.specs.declared.Table.{Table}
@@ -19,17 +20,17 @@ use Rattle.panels.specs.Wall.{Wall, tableOf, panelsOf, placeOf}
 use Rattle.panels.specs.Calls.{ifThere}
 use Rattle.panels.specs.WellFormed.{GoodPanel, GoodWall, WellFormed}
 use Rattle.panels.proofs.Formed.{formed, empty-formed, nowhere-absent, good-snoc}
+use Rattle.panels.specs.Laid.{valuesWith}
+use Rattle.panels.proofs.Values.{InRange, fresh-in-range, with-in-range}
 use Rattle.image.specs.declared.Refusal.the-variants.{Record}
 use Rattle.image.specs.declared.Step.{Step}
 use Rattle.image.specs.declared.Step.the-variants.{Field, NotAllowed, Broken, End}
 use Rattle.image.specs.Whole.{countOf, recordIn, recordsIn, wholeRefusal}
-use Rattle.panels.specs.Laid.{valuesWith}
 use Rattle.image.specs.Fields.{stepAt, seenWith, valuesIn, behind, afterStep, gathered, fieldsFrom, fieldsIn}
 use Rattle.image.specs.Read.{isSound, headFits, recordRefusal, panelIn, wallWith, refused, readRecords, readOf, inTable}
 use Rattle.image.proofs.Lengths.{length-each}
 use Rattle.image.proofs.Steps.{takes}
-use Rattle.panels.proofs.Values.{InRange, fresh-in-range, with-in-range}
-use Rattle.image.proofs.Edges.{both, fits}
+use Rattle.image.proofs.Edges.{fits}
 
 -- the values gathered are in range
 gathered-in-range : (n : ℕ) (seen : List Bool) (values left : List ℕ) → InRange values → InRange (gathered n seen values left .values)

@@ -7,11 +7,11 @@ use lib.ListN.{length, getD, take, drop, set, replicate}
 use Rattle.settings.specs.declared.Found.{Found}
 use Rattle.settings.specs.declared.Found.the-variants.{Set, Get, Nothing}
 use Rattle.settings.specs.Settings.{foundBy, byteCount, allowedFor, freshValues}
+use Rattle.panels.specs.Laid.{valuesWith}
 use Rattle.image.specs.declared.Refusal.the-variants.{Nothing as Sound, Field as BadField, Value as BadValue}
 use Rattle.image.specs.declared.Step.{Step}
 use Rattle.image.specs.declared.Step.the-variants.{Field, NotAllowed, Broken, End}
 use Rattle.image.specs.declared.Fields.{Fields}
-use Rattle.panels.specs.Laid.{valuesWith}
 
 -- the values of a row's field at the front of the bytes that are left: behind set code and length
 abbrev pub valuesIn : ℕ → List ℕ → List ℕ

@@ -3,10 +3,11 @@ use mathlib.Core.Path.{_≡_, refl, sym, ap, subst, _∙_}
 use mathlib.Core.Bool.{Bool, true, false, cond}
 use mathlib.Core.List.{[], _∷_, _++_, map}
 use Prim.Native.Nat.{ℕ, zero, suc, _≤_, _<_}
+use native.Mathlib.Nat.{le-of-suc-le-suc, not-suc-le-zero}
 use native.Mathlib.Omega.{arith}
 use borrow.Author.Tests.{eqb-false, leb-false}
 use lib.Dec.{eqb, leb}
-use lib.ListN.{length, length-append, length-take, length-drop}
+use lib.ListN.{length, getD, length-append, length-take, length-drop}
 use Rattle.settings.proofs.Laws.{fresh-allowed, fresh-count}
 use Rattle.packet.specs.declared.MonitorId.{MonitorId}
 use Rattle.packet.specs.declared.GroupId.{GroupId}
@@ -16,7 +17,7 @@ use Rattle.panels.specs.declared.Place.{Place}
 use Rattle.panels.specs.declared.Place.the-variants.{At, Nowhere}
 use Rattle.panels.specs.declared.Refusal.{Refusal}
 use Rattle.panels.specs.declared.Refusal.the-variants.{Nothing, Full, IdZero, IdTaken, GroupZero, NoPanel}
-use Rattle.panels.specs.Wall.{Wall, freshPanel, tableOf, panelsOf, placeFrom, placeOf}
+use Rattle.panels.specs.Wall.{Wall, blank, freshPanel, tableOf, panelsOf, placeFrom, placeOf}
 use Rattle.panels.specs.Calls.{ifThere, addRefusal, unlessRefused, added, without, removed}
 use Rattle.panels.specs.WellFormed.{GoodPanel, Absent, GoodWall, WellFormed}
 use Rattle.panels.proofs.Laws.{panels-of-table}
@@ -66,6 +67,12 @@ module _ (f : Panel → Panel) (same : (p : Panel) → f p .id ≡ p .id) (keeps
   pub good-map : (w : Wall) → GoodWall w → GoodWall (map f w)
   good-map [] good = tt
   good-map (p ∷ w) (g, a, good) = (keeps p g, absent-map (f p .id) w (subst (λ (j : MonitorId). Absent j w) (sym (same p)) a), good-map w good)
+
+-- each panel of a good wall is good
+pub good-at : (w : Wall) → GoodWall w → (k : ℕ) → k < length w → GoodPanel (getD w k blank)
+good-at [] good k h = absurd (not-suc-le-zero h)
+good-at (p ∷ w) (g, a, good) zero h = g
+good-at (p ∷ w) (g, a, good) (suc k) h = good-at w good k (le-of-suc-le-suc h)
 
 pub fresh-good : (i : MonitorId) (g : GroupId) → (i .0 ≡ 0 → ⊥) → (g .0 ≡ 0 → ⊥) → GoodPanel (freshPanel i g)
 fresh-good i g named grouped = record { named = named; grouped = grouped; full = fresh-count; inRange = λ row h. fresh-allowed h }

@@ -1,5 +1,5 @@
--- Lists that stand one behind the other in one list: where element k of list j then stands. It serves the values of the
--- rows and the ranges of the values. Assumes nothing.
+-- Lists that stand one behind the other in one list, as the values of the rows do: where element k of list j then stands.
+-- Assumes nothing.
 use mathlib.Core.Path.{_≡_}
 use mathlib.Core.List.{List, [], _∷_, flatten}
 use Prim.Native.Nat.{ℕ, zero, suc, _+_, _≤_, _<_}

@@ -1,6 +1,6 @@
 -- What callers cite of the settings. Assumes nothing.
 use mathlib.Core.Path.{_≡_, refl, sym, ap, _∙_}
-use mathlib.Core.Bool.{Bool, true, false, cond, false≢true, and-false, _&&_, _||_}
+use mathlib.Core.Bool.{Bool, true, false, cond, false≢true, and-false, _||_}
 use mathlib.Core.List.{List, [], _∷_, flatten}
 use Prim.Native.Nat.{ℕ, zero, suc, _+_, _≤_, _<_}
 use native.Mathlib.Numerals.{add-one}
@@ -12,7 +12,8 @@ use lib.Seq.{drop-cons}
 use Rattle.settings.specs.declared.Found.{Found}
 use Rattle.settings.specs.declared.Found.the-variants.{Set, Get, Nothing}
 use Rattle.settings.specs.Settings.{Range, Setting, settings, noSetting, setting, foundFrom, foundBy, setCode, getCode, byteCount, place, within, allAllowed, allowedFor, allowedByRow, allowedValues, freshValues}
-use Rattle.settings.specs.Numbers.{rangesOf, firstRange, otherRanges, othersOf}
+use Rattle.settings.specs.Numbers.{rangesOf, firstRange}
+use Rattle.settings.proofs.Both.{both}
 use Rattle.settings.proofs.WrittenOut.{alike}
 use Rattle.settings.proofs.Flat.{in-flat, flat-fits, flat-apart}
 
@@ -100,9 +101,9 @@ unfolding allowedValues
 at-place row k h = sym (in-flat allowedByRow row k [] (rw (allowed-of-row row) h) ∙ rw (allowed-of-row row))
 
 -- Every value byte has a first range.
-pub first-and-others : {p : ℕ} → p < 15 → rangesOf p ≡ firstRange p ∷ othersOf p
-unfolding settings allowedByRow allowedValues otherRanges flatten
-first-and-others h = alike rangesOf (λ p. firstRange p ∷ othersOf p) 15 refl h
+pub first-and-more : {p : ℕ} → p < 15 → rangesOf p ≡ firstRange p ∷ drop 1 (rangesOf p)
+unfolding settings allowedByRow allowedValues flatten
+first-and-more h = alike rangesOf (λ p. firstRange p ∷ drop 1 (rangesOf p)) 15 refl h
 
 -- Values are allowed only where there are as many as the row has.
 pub other-count : (rs : List (List Range)) (vs : List ℕ) → (length vs ≡ length rs → ⊥) → allAllowed rs vs ≡ false
@@ -117,8 +118,4 @@ unfolding allAllowed
 allowed-count [] [] e = refl
 allowed-count [] (v ∷ vs) e = absurd (false≢true e)
 allowed-count (r ∷ rs) [] e = absurd (false≢true e)
-allowed-count (r ∷ rs) (v ∷ vs) e = ap suc (allowed-count rs vs (and-right (within r v) _ e))
-  where
-    and-right : (a b : Bool) → (a && b) ≡ true → b ≡ true
-    and-right true b e = e
-    and-right false b e = absurd (false≢true e)
+allowed-count (r ∷ rs) (v ∷ vs) e = ap suc (allowed-count rs vs (both (within r v) _ e .1))

@@ -1,40 +1,15 @@
--- The code's const table: the paper's, with the first range of each value byte apart, since most have but that one.
+-- The code's const table: the paper's, with the first range of each value byte apart from any more, since most have but one.
 use Prim.Native.Nat.{ℕ, zero, suc}
-use mathlib.Core.List.{List, [], _∷_, map, flatten}
-use lib.ListN.{length, getD, drop}
-use Rattle.settings.specs.Settings.{Range, setCode, getCode, byteCount, place, allowedValues, freshValues, startOf}
+use mathlib.Core.Bool.{Bool, _&&_}
+use mathlib.Core.List.{List, [], _∷_, _++_, map}
+use lib.Dec.{eqb}
+use lib.ListN.{getD, drop}
+use Rattle.settings.specs.Settings.{Range, setCode, getCode, byteCount, place, allowedValues, freshValues, inRange}
 use Rattle.settings.specs.declared.Codes.{Codes}
 use Rattle.settings.specs.declared.Values.{Values}
 use Rattle.settings.specs.declared.Span.{Span}
-use Rattle.settings.specs.declared.Others.{Others}
+use Rattle.settings.specs.declared.More.{More}
 use Rattle.settings.specs.declared.Table.{Table}
-
-abbrev pub noRange : Range
-noRange = record { low = 0; high = 0 }
-
--- the ranges of the value at place p: the first, and the others
-abbrev pub rangesOf : ℕ → List Range
-rangesOf p = getD allowedValues p []
-
-abbrev pub firstRange : ℕ → Range
-firstRange p = getD (rangesOf p) 0 noRange
-
-unfoldable pub otherRanges : List (List Range)
-otherRanges = map (drop 1) allowedValues
-
-abbrev pub othersOf : ℕ → List Range
-othersOf p = getD otherRanges p []
-
--- the others of all value bytes, one behind the other: where those of place p begin, and number i
-abbrev pub othersFrom : ℕ → ℕ
-othersFrom p = startOf otherRanges p
-
-unfoldable pub allOthers : List Range
-unfolding flatten
-allOthers = flatten otherRanges
-
-abbrev pub otherRange : ℕ → Range
-otherRange i = getD allOthers i noRange
 
 abbrev pub codesAt : ℕ → Codes
 codesAt k = record { 0 = setCode k; 1 = getCode k }
@@ -42,14 +17,27 @@ codesAt k = record { 0 = setCode k; 1 = getCode k }
 abbrev pub valuesAt : ℕ → Values
 valuesAt k = record { 0 = byteCount k; 1 = place k }
 
-abbrev pub othersAt : ℕ → Others
-othersAt p = record { 0 = othersFrom p; 1 = length (othersOf p) }
+-- the ranges of the value at place p, and the first of them
+abbrev pub rangesOf : ℕ → List Range
+rangesOf p = getD allowedValues p []
+
+abbrev pub firstRange : ℕ → Range
+firstRange p = getD (rangesOf p) 0 (record { low = 0; high = 0 })
 
 abbrev pub spanOf : Range → Span
 spanOf r = record { 0 = r .low; 1 = r .high }
 
 abbrev pub rangeOf : Span → Range
 rangeOf s = record { low = s .0; high = s .1 }
+
+-- the ranges behind the first of each value byte, from place p on
+abbrev pub moreFrom : ℕ → List (List Range) → List More
+moreFrom p [] = []
+moreFrom p (rs ∷ rest) = map (λ (r : Range). record { 0 = p; 1 = r .low; 2 = r .high }) (drop 1 rs) ++ moreFrom (suc p) rest
+
+-- v is in one more range, which is of place p
+abbrev pub isMore : ℕ → ℕ → More → Bool
+isMore p v m = eqb (m .0) p && inRange (record { low = m .1; high = m .2 }) v
 
 -- f at 0, 1, .., n - 1
 abbrev pub each : {A : Type 0} → (ℕ → A) → ℕ → List A
@@ -61,7 +49,6 @@ paperTable = record {
   codes = each codesAt 8;
   values = each valuesAt 8;
   ranges = each (λ p. spanOf (firstRange p)) 15;
-  others = each othersAt 15;
-  more = each (λ i. spanOf (otherRange i)) 3;
+  more = moreFrom 0 allowedValues;
   fresh = freshValues;
 }

@@ -1,9 +1,9 @@
 // The eight settings as one fixed table of numbers, which box, host and image all read.
 ghost use mathlib.Core.Path.{_≡_};
 ghost use Prim.Native.Nat.{_<_};
-ghost use lib.ListN.{length};
+ghost use lib.ListN.{drop};
 ghost use Rattle.settings.specs.Settings.{foundBy, setCode, getCode, byteCount, place, inRange, within, allowedFor, freshValues};
-ghost use Rattle.settings.specs.Numbers.{rangeOf, rangesOf, firstRange, othersOf, othersFrom, otherRange, paperTable};
+ghost use Rattle.settings.specs.Numbers.{rangeOf, rangesOf, firstRange, isMore, paperTable};
 
 // A setting's set code and its get code.
 struct Codes(u8, u8);
@@ -14,15 +14,14 @@ struct Values(u8, u8);
 // The values from the lowest to the highest that a range allows.
 struct Span(u8, u8);
 
-// A value byte's other ranges, behind its first: where they begin among all such, and how many there are.
-struct Others(u8, u8);
+// One more range of a value byte that has several: the byte's place, the lowest value and the highest.
+struct More(u8, u8, u8);
 
 struct Table {
     codes: [Codes; 8],
     values: [Values; 8],
     ranges: [Span; 15],
-    others: [Others; 15],
-    more: [Span; 3],
+    more: [More; 3],
     fresh: [u8; 15],
 }
 
@@ -64,27 +63,10 @@ const TABLE: Table = Table {
         Span(0, 3), // APM
         Span(0, 3), // power saving
     ],
-    others: [
-        Others(0, 0), // power
-        Others(0, 0), // video: six, and gamma
-        Others(0, 0),
-        Others(0, 0),
-        Others(0, 0),
-        Others(0, 0),
-        Others(0, 0),
-        Others(0, 0),
-        Others(0, 3), // colour temperature
-        Others(3, 0), // treble, bass
-        Others(3, 0),
-        Others(3, 0), // fan
-        Others(3, 0), // cold start
-        Others(3, 0), // APM
-        Others(3, 0), // power saving
-    ],
     more: [
-        Span(3, 6), // colour temperature
-        Span(9, 10),
-        Span(13, 13),
+        More(8, 3, 6), // colour temperature
+        More(8, 9, 10),
+        More(8, 13, 13),
     ],
     fresh: [
         2, // power
@@ -133,22 +115,6 @@ fn values_at(k: usize) -> Values
 {
     let values = the_table().values;
     values[k]
-}
-
-fn others_at(p: usize) -> Others
-    requires { ⌜ p < 15 ⌝ }
-    ensures { λ r. ⌜ (r .0 ≡ othersFrom p) × (r .1 ≡ length (othersOf p)) ⌝ }
-{
-    let others = the_table().others;
-    others[p]
-}
-
-fn other_range_at(i: usize) -> Span
-    requires { ⌜ i < 3 ⌝ }
-    ensures { λ r. ⌜ rangeOf r ≡ otherRange i ⌝ }
-{
-    let ranges = the_table().more;
-    ranges[i]
 }
 
 // The setting that a code sets or gets.
@@ -207,17 +173,24 @@ fn in_range(range: Span, v: u8) -> bool
     range.0 <= v && v <= range.1
 }
 
-// Whether v is in one of the ranges of place p behind the first.
-fn in_others(p: usize, v: u8) -> bool
-    requires { ⌜ p < 15 ⌝ }
-    ensures { λ r. ⌜ r ≡ within (othersOf p) v ⌝ }
+fn is_more(more: More, p: usize, v: u8) -> bool
+    ensures { λ r. ⌜ r ≡ isMore p v more ⌝ }
 {
-    let others = others_at(p);
-    let first = others.0 as usize;
-    let count = others.1 as usize;
+    if more.0 as usize != p {
+        return false;
+    }
+    in_range(Span(more.1, more.2), v)
+}
+
+// Whether v is in a range of place p behind the first.
+fn in_more(p: usize, v: u8) -> bool
+    requires { ⌜ p < 15 ⌝ }
+    ensures { λ r. ⌜ r ≡ within (drop 1 (rangesOf p)) v ⌝ }
+{
+    let more = the_table().more;
     let mut k = 0;
-    while k < count {
-        if in_range(other_range_at(first + k), v) {
+    while k < 3 {
+        if is_more(more[k], p, v) {
             return true;
         }
         k += 1;
@@ -233,7 +206,7 @@ fn allowed_at(p: usize, range: Span, v: u8) -> bool
     if in_range(range, v) {
         return true;
     }
-    in_others(p, v)
+    in_more(p, v)
 }
 
 // Whether these bytes may be set in a row: as many as it has, and each of them allowed.

@@ -7,6 +7,7 @@ use native.Mathlib.Omega.{arith}
 use borrow.Author.Tests.{eq-eqb, ne-eqb, eqb-false, leb-true}
 use lib.Dec.{leb}
 use lib.ListN.{length, length-map}
+use Rattle.settings.proofs.Both.{both}
 use Rattle.packet.specs.declared.Verdict.{Verdict}
 use Rattle.packet.specs.declared.Verdict.the-variants.{Empty, Damaged, Intact}
 use Rattle.packet.specs.Packet.{verdictOf, dataOf}
@@ -24,7 +25,6 @@ use Rattle.image.specs.declared.Refusal.{Refusal}
 use Rattle.image.specs.declared.Read.{Read}
 use Rattle.image.specs.Written.{sizeOf}
 use Rattle.image.specs.Read.{isSound, readRefusalOf, readOf, inTable}
-use Rattle.image.proofs.Edges.{both}
 use Rattle.image.proofs.Sound.{read-formed}
 use Rattle.undivarro.specs.Calls.{refused, given, setupOf, refusalFor, afterPlay, afterRead}
 

@@ -2,12 +2,12 @@
 use mathlib.Core.Path.{refl}
 use mathlib.Core.List.{flatten}
 use Rattle.settings.specs.Settings.{settings, allowedByRow, allowedValues, freshValues}
-use Rattle.settings.specs.Numbers.{otherRanges, allOthers, paperTable}
+use Rattle.settings.specs.Numbers.{paperTable}
 use Rattle.settings.proofs.the_table.Statement.{statement}
 use Rattle.settings.proofs.the_table.Tie as tie
 
 returns : tie.Need-returns
-unfolding settings allowedByRow allowedValues freshValues otherRanges allOthers paperTable flatten
+unfolding settings allowedByRow allowedValues freshValues paperTable flatten
 returns c = refl
 
 pub the-table-spec : {M : Type 1} → statement M

@@ -7,6 +7,7 @@ use borrow.Author.Needs.{needs}
 use borrow.Author.Tests.{leb-true, not-true, not-false}
 use lib.ListN.{length, getD, drop, length-drop}
 use lib.Seq.{take-all}
+use Rattle.settings.proofs.Both.{both}
 use Rattle.packet.specs.Packet.{monitorId, groupId}
 use Rattle.panels.specs.Wall.{blank}
 use Rattle.image.specs.declared.Fields.{Fields}
@@ -14,7 +15,6 @@ use Rattle.image.specs.declared.ReadPanel.{ReadPanel}
 use Rattle.image.specs.Fields.{fieldsIn}
 use Rattle.image.specs.Read.{panelIn}
 use Rattle.image.specs.Marked.{headFitsBy, panelBy}
-use Rattle.image.proofs.Edges.{both}
 use Rattle.image.proofs.records.panel_of.Statement.{statement}
 use Rattle.image.proofs.records.panel_of.Tie as tie
 

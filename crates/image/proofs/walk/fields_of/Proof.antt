@@ -10,12 +10,12 @@ use lib.ListN.{length, drop, replicate, length-set, length-take, length-drop}
 use lib.Seq.{take-all, drop-drop}
 use Rattle.settings.specs.Settings.{byteCount}
 use Rattle.settings.proofs.Laws.{fresh-count}
+use Rattle.panels.specs.Laid.{valuesWith}
+use Rattle.panels.proofs.Values.{length-with}
 use Rattle.image.specs.declared.Step.{Step}
 use Rattle.image.specs.declared.Step.the-variants.{Field}
-use Rattle.panels.specs.Laid.{valuesWith}
 use Rattle.image.specs.Fields.{stepAt, fieldsFrom, fieldsIn, seenWith, valuesIn, behind, afterStep}
 use Rattle.image.proofs.Steps.{Takes, takes, fields-step}
-use Rattle.panels.proofs.Values.{length-with}
 use Rattle.image.proofs.walk.fields_of.Statement.{statement}
 use Rattle.image.proofs.walk.fields_of.Tie as tie
 

@@ -1,6 +1,6 @@
 -- Each test decides a case of `stepAt`. Assumes nothing.
 use mathlib.Core.Path.{_≡_, refl, sym, ap, subst, _∙_}
-use mathlib.Core.Bool.{Bool, true, false}
+use mathlib.Core.Bool.{Bool, true, false, cond}
 use mathlib.Core.Logic.{⊎-elim}
 use mathlib.Core.List.{List, [], _∷_}
 use Prim.Native.Nat.{ℕ, _+_, _-_, _≤_, _<_}
@@ -41,13 +41,10 @@ module _ (seen : List Bool) (left : List ℕ) (row : ℕ) (n : eqb (length left)
     unfolding stepAt
     when-other d = simp (n, found, s, le-ltb (length left) (2 + byteCount row) h, ne-eqb (getD left 1 0) (byteCount row) d)
 
-    when-not-allowed : getD left 1 0 ≡ byteCount row → allowedFor row (valuesIn row left) ≡ false → NotAllowed row ≡ stepAt seen left
+    when-whole : getD left 1 0 ≡ byteCount row → (t : Bool) → allowedFor row (valuesIn row left) ≡ t
+        → cond t (Field row) (NotAllowed row) ≡ stepAt seen left
     unfolding stepAt
-    when-not-allowed d a = simp (n, found, s, le-ltb (length left) (2 + byteCount row) h, eq-eqb (getD left 1 0) (byteCount row) d, a)
-
-    when-allowed : getD left 1 0 ≡ byteCount row → allowedFor row (valuesIn row left) ≡ true → Field row ≡ stepAt seen left
-    unfolding stepAt
-    when-allowed d a = simp (n, found, s, le-ltb (length left) (2 + byteCount row) h, eq-eqb (getD left 1 0) (byteCount row) d, a)
+    when-whole d t a = simp (n, found, s, le-ltb (length left) (2 + byteCount row) h, eq-eqb (getD left 1 0) (byteCount row) d, a)
 
 -- past the first two tests the bytes begin with the set code of a row
 some : (c : tie.After-find-setting) → eqb (length (c .before .before .before .before .before .args .left .now)) 0 ≡ false
@@ -126,10 +123,13 @@ part-allowed-end c = search needs
 allowed-requires : tie.Need-allowed-requires
 allowed-requires c κs = in-table (c .before .before .before .before .before .before .before)
 
-returns-6 : tie.Need-returns-6
-returns-6 c =
-    let call = c .before in
-    let else4 = call .before .before in
+-- a whole field, as its values are allowed or not
+whole : (c : tie.After-allowed) (t : Bool) → c .allowed .result ≡ t → let known = c .before .before .before .before .before .before .before .before in
+    let row = known .before .found .given .0 .0 in
+    let a = known .before .before .before .before .before .before .before .before .args in
+    cond t (Field row) (NotAllowed row) ≡ stepAt (a .seen .now) (a .left .now)
+whole c t e =
+    let else4 = c .before .before in
     let else3 = else4 .before .before in
     let else2 = else3 .before in
     let known = else2 .before .before .before in
@@ -137,22 +137,14 @@ returns-6 c =
     let row = known .before .found .given .0 .0 in
     let n = else2 .before .before .byte-count .ensures in
     let m : 2 + else2 .before .before .byte-count .result - 2 ≡ byteCount row = omega arith in
-    let answer = call .allowed .ensures ∙ ap (λ (k : ℕ). allowedFor row (take k (drop 2 left))) m in
-    when-not-allowed _ _ _ (some (known .before .before .before)) (found known) (else2 .if2 .left) (omega (arith, else3 .if3 .left)) (else4 .if4 .left ∙ n) (sym answer ∙ not-true _ (c .if5 .taken))
+    let answer = c .allowed .ensures ∙ ap (λ (k : ℕ). allowedFor row (take k (drop 2 left))) m in
+    when-whole _ _ _ (some (known .before .before .before)) (found known) (else2 .if2 .left) (omega (arith, else3 .if3 .left)) (else4 .if4 .left ∙ n) t (sym answer ∙ e)
+
+returns-6 : tie.Need-returns-6
+returns-6 c = whole (c .before) false (not-true _ (c .if5 .taken))
 
 returns-7 : tie.Need-returns-7
-returns-7 c =
-    let call = c .before in
-    let else4 = call .before .before in
-    let else3 = else4 .before .before in
-    let else2 = else3 .before in
-    let known = else2 .before .before .before in
-    let left = known .before .before .before .before .before .before .before .before .args .left .now in
-    let row = known .before .found .given .0 .0 in
-    let n = else2 .before .before .byte-count .ensures in
-    let m : 2 + else2 .before .before .byte-count .result - 2 ≡ byteCount row = omega arith in
-    let answer = call .allowed .ensures ∙ ap (λ (k : ℕ). allowedFor row (take k (drop 2 left))) m in
-    when-allowed _ _ _ (some (known .before .before .before)) (found known) (else2 .if2 .left) (omega (arith, else3 .if3 .left)) (else4 .if4 .left ∙ n) (sym answer ∙ not-false _ (c .if5 .left))
+returns-7 c = whole (c .before) true (not-false _ (c .if5 .left))
 
 pub step-at-spec : {M : Type 1} → statement M
 step-at-spec =

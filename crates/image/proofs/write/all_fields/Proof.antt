@@ -7,8 +7,8 @@ use native.Mathlib.Omega.{arith}
 use lib.ListN.{length, getD, take}
 use Rattle.settings.specs.Settings.{byteCount}
 use Rattle.panels.specs.Laid.{laidAt}
-use Rattle.image.specs.Written.{fieldsOf}
 use Rattle.panels.proofs.Laid.{length-laid}
+use Rattle.image.specs.Written.{fieldsOf}
 use Rattle.image.proofs.Laid.{laid-none, laid-more}
 use Rattle.image.proofs.Lengths.{field-at, fields-count, fieldBytes, fields-before, bytes-fit, bytes-of-all, length-values, fields-all}
 use Rattle.image.proofs.write.all_fields.Statement.{statement}

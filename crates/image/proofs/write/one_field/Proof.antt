@@ -7,8 +7,8 @@ use borrow.Author.Needs.{needs}
 use lib.ListN.{length, take, drop, set, length-set, length-take, length-drop}
 use borrow.Rule.Slice.PartMut.{midOf, putMid, same-len-mid}
 use Rattle.settings.specs.Settings.{setCode, byteCount, place}
-use Rattle.panels.specs.Wall.{valuesOf}
 use Rattle.settings.proofs.Laws.{place-fits}
+use Rattle.panels.specs.Wall.{valuesOf}
 use Rattle.panels.specs.Laid.{laidAt}
 use Rattle.image.specs.Written.{field}
 use Rattle.image.proofs.Lengths.{length-values}

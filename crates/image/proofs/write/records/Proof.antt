@@ -9,10 +9,11 @@ use Rattle.panels.specs.declared.Panel.{Panel}
 use Rattle.panels.specs.Wall.{panelsOf, blank}
 use Rattle.panels.proofs.Laws.{count-is, count-few, in-wall}
 use Rattle.panels.specs.Laid.{laidAt}
-use Rattle.image.specs.Written.{recordOf, recordsOf}
 use Rattle.panels.proofs.Laid.{length-laid}
+use Rattle.panels.proofs.Formed.{good-at}
+use Rattle.image.specs.Written.{recordOf, recordsOf}
 use Rattle.image.proofs.Laid.{laid-none, laid-more}
-use Rattle.image.proofs.Lengths.{good-at, record-at, record-length, records-before}
+use Rattle.image.proofs.Lengths.{record-at, record-length, records-before}
 use Rattle.image.proofs.write.records.Statement.{statement}
 use Rattle.image.proofs.write.records.Tie as tie
 

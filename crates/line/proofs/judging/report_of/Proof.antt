@@ -9,12 +9,12 @@ use borrow.Author.Needs.{needs}
 use lib.ListN.{length, getD, drop, set, replicate, length-take, length-drop}
 use lib.Seq.{paste, paste-zero, paste-suc, getD-take, getD-drop, take-all}
 use Rattle.settings.specs.Settings.{byteCount, place}
+use Rattle.settings.proofs.Laws.{place-fits, byte-count-few}
 use Rattle.packet.specs.Packet.{monitorId}
 use Rattle.panels.specs.Wall.{valuesOf}
 use Rattle.line.specs.declared.Answer.the-variants.{Report}
 use Rattle.line.specs.declared.Reply.{Reply}
 use Rattle.line.specs.Reply.{reportFrom}
-use Rattle.settings.proofs.Laws.{place-fits, byte-count-few}
 use Rattle.line.proofs.judging.report_of.Statement.{statement}
 use Rattle.line.proofs.judging.report_of.Tie as tie
 
