@@ -116,7 +116,7 @@ never-end : (seen : List Bool) (left : List ℕ) → 0 < length left → stepAt 
 unfolding stepAt
 never-end seen left h e = by-found (foundBy (getD left 0 0)) (rw (ne-eqb (length left) 0 (λ z. omega arith)) at e)
   where
-    by-tests : (r : ℕ) (a b : Bool) → cond a Broken (cond b (Field r) (NotAllowed r)) ≡ End → ⊥
+    by-tests : (r : ℕ) (a b : Bool) → cond a Broken (cond b (Field r) NotAllowed) ≡ End → ⊥
     by-tests r true b e = let z : _≡_ {A = ℕ} 0 1 = cc in omega arith
     by-tests r false true e = let z : _≡_ {A = ℕ} 0 1 = cc in omega arith
     by-tests r false false e = let z : _≡_ {A = ℕ} 0 1 = cc in omega arith
@@ -149,8 +149,8 @@ no-fault (e ∷ es) seen values n sound = go (stepAt seen left) refl
           (record { in-table = rw is-row (t .in-table); code = rw is-row (sym (t .code)); allowed = rw is-row (rw vs at (t .allowed)) }, without, good),
           (rw is-row (t .new), u′),
         )
-    go (NotAllowed row) st ih sound =
-        let f = ap (λ (f : Fields). f .refusal) (fields-step seen values left (NotAllowed row) st) in
+    go NotAllowed st ih sound =
+        let f = ap (λ (f : Fields). f .refusal) (fields-step seen values left NotAllowed st) in
         let z : _≡_ {A = ℕ} 0 1 = cc in absurd (omega arith)
     go Broken st ih sound =
         let f = ap (λ (f : Fields). f .refusal) (fields-step seen values left Broken st) in

@@ -44,7 +44,7 @@ gathered-in-range (suc n) seen values left i =
         → InRange (gathered n (seenWith row seen) (valuesWith row (valuesIn row left) values) (behind row left) .values))
         → InRange (afterStep s values (λ row. gathered n (seenWith row seen) (valuesWith row (valuesIn row left) values) (behind row left)) .values)
     go (Field row) e ih = ih row (with-in-range i row (valuesIn row left) (takes seen left row e .allowed))
-    go (NotAllowed row) e ih = i
+    go NotAllowed e ih = i
     go Broken e ih = i
     go End e ih = i
 

@@ -32,7 +32,7 @@ takes seen left row e = by-length (eqb (length left) 0) e
   where
     by-tests : (r : ℕ) → foundBy (getD left 0 0) ≡ Set r → (a b d g : Bool) → getD seen r false ≡ a → ltb (length left) (2 + byteCount r) ≡ b
         → eqb (getD left 1 0) (byteCount r) ≡ d → allowedFor r (valuesIn r left) ≡ g
-        → cond (a || (b || not d)) Broken (cond g (Field r) (NotAllowed r)) ≡ Field row → Takes seen left row
+        → cond (a || (b || not d)) Broken (cond g (Field r) NotAllowed) ≡ Field row → Takes seen left row
     by-tests r found true b d g ea eb ed eg e = let z : _≡_ {A = ℕ} 0 1 = cc in absurd (omega arith)
     by-tests r found false true d g ea eb ed eg e = let z : _≡_ {A = ℕ} 0 1 = cc in absurd (omega arith)
     by-tests r found false false false g ea eb ed eg e = let z : _≡_ {A = ℕ} 0 1 = cc in absurd (omega arith)
@@ -80,7 +80,7 @@ enough (suc n) (suc m) seen values left h k =
         → afterStep s values (λ row. gathered n (seenWith row seen) (valuesWith row (valuesIn row left) values) (behind row left))
         ≡ afterStep s values (λ row. gathered m (seenWith row seen) (valuesWith row (valuesIn row left) values) (behind row left))
     go (Field row) e ih = let less = shorter seen left row e in ih row (omega arith) (omega arith)
-    go (NotAllowed row) e ih = refl
+    go NotAllowed e ih = refl
     go Broken e ih = refl
     go End e ih = refl
 
@@ -92,6 +92,6 @@ unfolding fieldsFrom gathered
 fields-step seen values left (Field row) e =
     let less = shorter seen left row e in
     rw e (enough (length left) (suc (length (behind row left))) (seenWith row seen) (valuesWith row (valuesIn row left) values) (behind row left) less (omega arith))
-fields-step seen values left (NotAllowed row) e = rw e
+fields-step seen values left NotAllowed e = rw e
 fields-step seen values left Broken e = rw e
 fields-step seen values left End e = rw e

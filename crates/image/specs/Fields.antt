@@ -26,7 +26,7 @@ abbrev pub fieldBy : Found → List Bool → List ℕ → Step
 fieldBy (Set row) seen left =
     cond (getD seen row false || misfits row left)
     Broken
-    (cond (allowedFor row (valuesIn row left)) (Field row) (NotAllowed row))
+    (cond (allowedFor row (valuesIn row left)) (Field row) NotAllowed)
 fieldBy (Get row) seen left = Broken
 fieldBy Nothing seen left = Broken
 
@@ -44,7 +44,7 @@ behind row left = drop (2 + byteCount row) left
 -- what a step comes to: a field goes on, and anything else stops the walk
 abbrev pub afterStep : Step → List ℕ → (ℕ → Fields) → Fields
 afterStep (Field row) values more = more row
-afterStep (NotAllowed row) values more = record { refusal = BadValue; values = values }
+afterStep NotAllowed values more = record { refusal = BadValue; values = values }
 afterStep Broken values more = record { refusal = BadField; values = values }
 afterStep End values more = record { refusal = Sound; values = values }
 

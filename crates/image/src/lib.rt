@@ -38,23 +38,23 @@ pub struct Read {
 }
 
 // What stands at the front of a record's bytes: a field of a row, one whose values are not allowed, a broken one, or the end.
-pub enum Step {
+enum Step {
     Field(usize),
-    NotAllowed(usize),
+    NotAllowed,
     Broken,
     End,
 }
 
 // A panel's values with its record's fields taken, and why the walk over them stopped.
-pub struct Fields {
-    pub refusal: Refusal,
-    pub values: [u8; 15],
+struct Fields {
+    refusal: Refusal,
+    values: [u8; 15],
 }
 
 // A record's panel, and why it was refused, if it was.
-pub struct ReadPanel {
-    pub refusal: Refusal,
-    pub panel: Panel,
+struct ReadPanel {
+    refusal: Refusal,
+    panel: Panel,
 }
 
 // The table's image at the front of out, of which the rest stays as it was.

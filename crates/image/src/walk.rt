@@ -34,7 +34,7 @@ fn step_at(left: &[u8], seen: &[bool]) -> Step
         return Step::Broken;
     }
     if !settings::allowed(row, &left[2..2 + count]) {
-        return Step::NotAllowed(row);
+        return Step::NotAllowed;
     }
     Step::Field(row)
 }
@@ -64,7 +64,7 @@ pub fn fields_of(bytes: &[u8]) -> Fields
                 seen[row] = true;
                 at = at + 2 + settings::byte_count(row);
             }
-            Step::NotAllowed(_) => {
+            Step::NotAllowed => {
                 return Fields {
                     refusal: Refusal::Value,
                     values,

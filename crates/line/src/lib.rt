@@ -26,7 +26,7 @@ pub struct Reply {
 
 // What a packet asks of every addressed panel alike: a report of a row, its values to be stored in a row, or nothing
 // that is available.
-pub enum Order {
+enum Order {
     Report(usize),
     Store(usize),
     NotAvailable,

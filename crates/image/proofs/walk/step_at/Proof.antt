@@ -42,7 +42,7 @@ module _ (seen : List Bool) (left : List ℕ) (row : ℕ) (n : eqb (length left)
     when-other d = simp (n, found, s, le-ltb (length left) (2 + byteCount row) h, ne-eqb (getD left 1 0) (byteCount row) d)
 
     when-whole : getD left 1 0 ≡ byteCount row → (t : Bool) → allowedFor row (valuesIn row left) ≡ t
-        → cond t (Field row) (NotAllowed row) ≡ stepAt seen left
+        → cond t (Field row) NotAllowed ≡ stepAt seen left
     unfolding stepAt
     when-whole d t a = simp (n, found, s, le-ltb (length left) (2 + byteCount row) h, eq-eqb (getD left 1 0) (byteCount row) d, a)
 
@@ -127,7 +127,7 @@ allowed-requires c κs = in-table (c .before .before .before .before .before .be
 whole : (c : tie.After-allowed) (t : Bool) → c .allowed .result ≡ t → let known = c .before .before .before .before .before .before .before .before in
     let row = known .before .found .given .0 .0 in
     let a = known .before .before .before .before .before .before .before .before .args in
-    cond t (Field row) (NotAllowed row) ≡ stepAt (a .seen .now) (a .left .now)
+    cond t (Field row) NotAllowed ≡ stepAt (a .seen .now) (a .left .now)
 whole c t e =
     let else4 = c .before .before in
     let else3 = else4 .before .before in
