@@ -29,9 +29,9 @@ use Rattle.line.proofs.Formed.{stored-own, stored-others, played-formed}
 use Rattle.line.proofs.Cases.{p-cases}
 use Rattle.image.specs.declared.Read.{Read}
 use Rattle.image.proofs.Sound.{read-formed}
-use Rattle.image.proofs.Order.{read-any-order, left-out}
+use Rattle.image.proofs.Order.{read-any-order, read-by-code, left-out}
 use Rattle.image.proofs.Back.{front-is-image, table-back}
-use Rattle.demands.specs.Demand2.{SetBy, OnlyAddressed, Answer·Is, Answers, empty, add, remove, image, burst, InRange, ReadsBack, AnyOrder, LeftOut, Cases}
+use Rattle.demands.specs.Demand2.{SetBy, OnlyAddressed, Answer·Is, Answers, empty, add, remove, image, burst, InRange, ReadsBack, AnyOrder, ByCode, LeftOut, Cases}
 
 pub in-range : InRange
 in-range t empty = empty-formed
@@ -140,6 +140,9 @@ reads-back t f out room =
 
 pub any-order : AnyOrder
 any-order = read-any-order
+
+pub by-code : ByCode
+by-code = read-by-code
 
 pub fields-left-out : LeftOut
 fields-left-out = left-out

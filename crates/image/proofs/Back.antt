@@ -1,18 +1,14 @@
 -- Reading what was written gives that table. Assumes nothing.
-use mathlib.Core.Path.{_≡_, refl, sym, ap, subst, _∙_}
-use mathlib.Core.Bool.{false}
+use mathlib.Core.Path.{_≡_, refl, sym, ap, _∙_}
 use mathlib.Core.List.{List, [], _∷_, _++_, map, flatten, append-nil}
 use Prim.Native.Nat.{ℕ, zero, suc, _+_, _-_, _≤_, _<_}
 use native.Mathlib.Nat.{not-suc-le-zero, le-of-suc-le-suc}
 use native.Mathlib.Omega.{arith}
-use borrow.Author.Tests.{le-leb, ne-eqb}
-use lib.ListN.{length, getD, take, drop, replicate, length-map}
+use borrow.Author.Tests.{le-leb, eq-eqb, ne-eqb}
+use lib.ListN.{length, getD, take, drop, length-map}
 use lib.Seq.{append-snoc, take-at}
-use Rattle.settings.specs.declared.Found.the-variants.{Set}
-use Rattle.settings.specs.Settings.{foundBy, setCode, freshValues}
+use Rattle.settings.specs.Settings.{setCode}
 use Rattle.settings.specs.Numbers.{each}
-use Rattle.settings.proofs.Laws.{set-found, fresh-count}
-use Rattle.settings.proofs.WrittenOut.{in-each}
 use Rattle.packet.specs.declared.MonitorId.{MonitorId}
 use Rattle.packet.specs.Packet.{laidOver}
 use Rattle.panels.specs.declared.Panel.{Panel}
@@ -21,18 +17,17 @@ use Rattle.panels.specs.declared.Place.the-variants.{Nowhere}
 use Rattle.panels.specs.Wall.{Wall, valuesOf, blank, panelsOf, placeFrom}
 use Rattle.panels.specs.WellFormed.{GoodPanel, Absent, GoodWall, WellFormed}
 use Rattle.panels.proofs.Formed.{absent-snoc, good-at}
-use Rattle.panels.specs.Laid.{valuesWith}
-use Rattle.panels.proofs.Values.{length-with, set-row, other-row, by-rows}
 use Rattle.image.specs.declared.Refusal.the-variants.{Nothing}
 use Rattle.image.specs.declared.Fields.{Fields}
 use Rattle.image.specs.declared.Read.{Read}
 use Rattle.image.specs.Written.{field, fieldsOf, recordOf, recordsOf, imageOf, sizeOf, outputOf}
 use Rattle.image.specs.Fields.{fieldsIn}
 use Rattle.image.specs.Read.{Reading, headFits, recordRefusal, panelIn, readRecords, readOf, inTable}
-use Rattle.image.specs.Entries.{Entry, entryBytes, bytesOf, entryOf, Without}
+use Rattle.image.specs.Entries.{Entry, entryBytes, bytesOf, entryOf, Without, givenOr, given}
 use Rattle.image.proofs.Lengths.{each-alike, length-values, record-at, record-length, records-long}
-use Rattle.image.proofs.Entries.{rowOf, row-is, Good, GoodEntries, stored, count-of, all-taken}
-use Rattle.image.proofs.Order.{none-seen}
+use Rattle.image.proofs.Entries.{rowOf, row-is, Good, GoodEntries}
+use Rattle.image.proofs.ByCode.{stored-is}
+use Rattle.image.proofs.Order.{codes-apart, good-read}
 use Rattle.image.proofs.Split.{image-length, whole-sound, records-in}
 
 -- the entries of a panel's fields
@@ -51,10 +46,6 @@ written-entries values full =
     ∙ each-alike (λ row. entryBytes (entryOf row values)) (λ row. field row (valuesOf row values)) 8
     (λ row h. ap (λ (n : ℕ). setCode row ∷ n ∷ valuesOf row values) (length-values row values full))))
 
--- set codes are distinct
-codes-apart : {j k : ℕ} → j < 8 → k < 8 → setCode j ≡ setCode k → j ≡ k
-codes-apart hj hk e = let s : Set _ ≡ Set _ = sym (set-found hj) ∙ ap foundBy e ∙ set-found hk in cc
-
 without-each : (c : ℕ) (f : ℕ → Entry) (n : ℕ) → ((k : ℕ) → k < n → f k .code ≡ c → ⊥) → Without c (each f n)
 without-each c f zero ne = tt
 without-each c f (suc n) ne = (ne 0 (omega arith), without-each c (λ k. f (suc k)) n (λ k h. ne (suc k) (omega arith)))
@@ -67,29 +58,13 @@ good-each f (suc n) good ne = (
   good-each (λ k. f (suc k)) n (λ k h. good (suc k) (omega arith)) (λ j k l h. ne (suc j) (suc k) (omega arith) (omega arith)),
 )
 
--- each entry's values are stored in its row
-kept-by : (row : ℕ) (es : List Entry) (values : List ℕ) → GoodEntries es → Without (setCode row) es → length values ≡ 15
-    → valuesOf row (stored es values) ≡ valuesOf row values
-kept-by row [] values good w full = refl
-kept-by row (e ∷ es) values (g, v, good) (ne, w) full =
-    let n = count-of g in
-    kept-by row es (valuesWith (rowOf e) (e .values) values) good w (length-with (rowOf e) (e .values) values n full)
-    ∙ other-row (rowOf e) (e .values) values n full row (λ s. ne (sym (g .code) ∙ ap setCode (sym s)))
-
-stored-at : (es : List Entry) (values : List ℕ) → GoodEntries es → length values ≡ 15 → (k : ℕ) (d : Entry) → k < length es
-    → valuesOf (rowOf (getD es k d)) (stored es values) ≡ getD es k d .values
-stored-at [] values good full k d h = absurd (not-suc-le-zero h)
-stored-at (e ∷ es) values (g, w, good) full zero d h =
-    let n = count-of g in
-    kept-by (rowOf e) es (valuesWith (rowOf e) (e .values) values) good (subst (λ (c : ℕ). Without c es) (sym (g .code)) w) (length-with (rowOf e) (e .values) values n full)
-    ∙ set-row (rowOf e) (e .values) values n full
-stored-at (e ∷ es) values (g, w, good) full (suc k) d h =
-    stored-at es (valuesWith (rowOf e) (e .values) values) good (length-with (rowOf e) (e .values) values (count-of g) full) k d (le-of-suc-le-suc h)
-
-stored-full : (es : List Entry) (values : List ℕ) → GoodEntries es → length values ≡ 15 → length (stored es values) ≡ 15
-stored-full [] values good full = full
-stored-full (e ∷ es) values (g, w, good) full =
-    stored-full es (valuesWith (rowOf e) (e .values) values) good (length-with (rowOf e) (e .values) values (count-of g) full)
+-- a row is given what the first entry with its code has
+each-gives : (fresh : List ℕ) (row : ℕ) (f : ℕ → Entry) (n k : ℕ) → k < n → f k .code ≡ setCode row → ((j : ℕ) → j < k → f j .code ≡ setCode row → ⊥)
+    → givenOr fresh row (each f n) ≡ f k .values
+each-gives fresh row f zero k h e ne = absurd (not-suc-le-zero h)
+each-gives fresh row f (suc n) zero h e ne = rw (eq-eqb _ _ e)
+each-gives fresh row f (suc n) (suc k) h e ne =
+    rw (ne-eqb _ _ (ne 0 (omega arith))) (each-gives fresh row (λ k. f (suc k)) n k (le-of-suc-le-suc h) e (λ j l. ne (suc j) (omega arith)))
 
 -- where an ID is absent nothing is found
 absent-nowhere : (i : MonitorId) (k : ℕ) (w : Wall) → Absent i w → placeFrom i k w ≡ Nowhere
@@ -97,7 +72,7 @@ unfolding placeFrom
 absent-nowhere i k [] a = refl
 absent-nowhere i k (p ∷ w) (n, a) = rw (ne-eqb (p .id .0) (i .0) n) (absent-nowhere i (suc k) w a)
 
--- a panel's own entries are good, and stored they are its values
+-- a panel's own entries are good, and give each row its values
 module _ (p : Panel) (good : GoodPanel p) where
   own-row : {row : ℕ} → row < 8 → rowOf (entryOf row (p .values)) ≡ row
   own-row {row} h = row-is (entryOf row (p .values)) h refl
@@ -108,20 +83,15 @@ module _ (p : Panel) (good : GoodPanel p) where
       (λ row h. let e = own-row h in record { in-table = rw e h; code = ap setCode e; allowed = rw e (good .inRange row h) })
       (λ j k l h e. let s = codes-apart h (omega arith) e in omega arith)
 
-  own-stored : stored (entriesOf (p .values)) freshValues ≡ p .values
-  own-stored =
-      by-rows (stored (entriesOf (p .values)) freshValues) (p .values) (stored-full (entriesOf (p .values)) freshValues own-good fresh-count) (good .full)
-      (λ row h. let d = entryOf row (p .values) in
-      let at = in-each (λ row. entryOf row (p .values)) 8 {k = row} d h in
-      let s = stored-at (entriesOf (p .values)) freshValues own-good fresh-count row d h in
-      ap (λ (r : ℕ). valuesOf r (stored (entriesOf (p .values)) freshValues)) (sym (own-row h) ∙ ap rowOf (sym at)) ∙ s ∙ ap (λ (e : Entry). e .values) at)
+  own-given : (row : ℕ) → row < 8 → given row (entriesOf (p .values)) ≡ valuesOf row (p .values)
+  own-given row h = each-gives _ row (λ row. entryOf row (p .values)) 8 row h refl (λ j l e. let s = codes-apart (omega arith) h e in omega arith)
 
   fields-back : fieldsIn (drop 2 (recordOf p)) ≡ record { refusal = Nothing; values = p .values }
   unfolding recordOf
   fields-back =
       ap fieldsIn (written-entries (p .values) (good .full))
-      ∙ all-taken (entriesOf (p .values)) (replicate 8 false) freshValues own-good (none-seen (entriesOf (p .values)) own-good)
-      ∙ ap {B = Fields} (λ (v : List ℕ). record { refusal = Nothing; values = v }) own-stored
+      ∙ good-read (entriesOf (p .values)) own-good
+      ∙ ap {B = Fields} (λ (v : List ℕ). record { refusal = Nothing; values = v }) (stored-is (entriesOf (p .values)) (p .values) own-good (good .full) own-given)
 
   panel-back : panelIn (recordOf p) ≡ p
   unfolding panelIn recordOf

@@ -1,11 +1,15 @@
 -- The fields of a record as they were meant, whatever their order: for the statements that fields go by code and not by
 -- place. 01, "Setup image, form 1": reading takes fields in any order; a code not there means its fresh value.
-use Prim.Native.Nat.{ℕ}
+use Prim.Native.Nat.{ℕ, _<_}
 use mathlib.Core.Path.{_≡_}
+use mathlib.Core.Bool.{cond}
 use mathlib.Core.List.{List, [], _∷_, map, flatten}
+use lib.Dec.{eqb}
 use lib.ListN.{length}
 use Rattle.settings.specs.Settings.{setCode, freshValues}
 use Rattle.panels.specs.Wall.{valuesOf}
+use Rattle.image.specs.declared.Refusal.the-variants.{Nothing as Sound}
+use Rattle.image.specs.Fields.{fieldsIn}
 
 -- a code, and the values behind it
 pub record Entry : Type 0 where
@@ -42,6 +46,14 @@ Without c (e ∷ es) = (e .code ≡ c → ⊥) × Without c es
 abbrev pub recordWith : ℕ → ℕ → List Entry → List ℕ
 recordWith id group es = id ∷ group ∷ bytesOf es
 
+-- what fields give a row: the values of the one with its set code, or the row's fresh values where there is none
+abbrev pub givenOr : List ℕ → ℕ → List Entry → List ℕ
+givenOr fresh row [] = fresh
+givenOr fresh row (e ∷ es) = cond (eqb (e .code) (setCode row)) (e .values) (givenOr fresh row es)
+
+abbrev pub given : ℕ → List Entry → List ℕ
+given row es = givenOr (valuesOf row freshValues) row es
+
 -- two records hold the same fields, in whatever order
 pub record Reordered (a b : List ℕ) : Type 0 where
   pub id : ℕ
@@ -52,8 +64,20 @@ pub record Reordered (a b : List ℕ) : Type 0 where
   pub second : b ≡ recordWith id group those
   pub order : Permuted these those
 
-abbrev pub AllReordered : List (List ℕ) → List (List ℕ) → Type 0
-AllReordered [] [] = Unit {0}
-AllReordered [] (b ∷ bs) = ⊥
-AllReordered (a ∷ rest) [] = ⊥
-AllReordered (a ∷ rest) (b ∷ bs) = Reordered a b × AllReordered rest bs
+-- the second record has no fault in its fields, and they give each row what those of the first give it
+pub record Alike (a b : List ℕ) : Type 0 where
+  pub id : ℕ
+  pub group : ℕ
+  pub these : List Entry
+  pub those : List Entry
+  pub first : a ≡ recordWith id group these
+  pub second : b ≡ recordWith id group those
+  pub sound : fieldsIn (bytesOf those) .refusal ≡ Sound
+  pub rows : (row : ℕ) → row < 8 → given row those ≡ given row these
+
+-- record by record
+abbrev pub Each : (List ℕ → List ℕ → Type 0) → List (List ℕ) → List (List ℕ) → Type 0
+Each P [] [] = Unit {0}
+Each P [] (b ∷ bs) = ⊥
+Each P (a ∷ rest) [] = ⊥
+Each P (a ∷ rest) (b ∷ bs) = P a b × Each P rest bs
