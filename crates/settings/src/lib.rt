@@ -17,6 +17,8 @@ struct Span(u8, u8);
 // One more range of a value byte that has several: the byte's place, the lowest value and the highest.
 struct More(u8, u8, u8);
 
+// For each setting its codes and its value bytes; for each value byte its first range, more where it has several, and its
+// fresh value.
 struct Table {
     codes: [Codes; 8],
     values: [Values; 8],
