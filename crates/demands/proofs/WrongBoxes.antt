@@ -7,11 +7,11 @@ use mathlib.Core.List.{List, [], _∷_, _++_, map, flatten}
 use native.Mathlib.Omega.{arith}
 use lib.ListN.{length, getD, length-append}
 use Rattle.settings.specs.Settings.{settings, foundFrom, allowedByRow, freshValues, within, allAllowed}
+use Rattle.settings.specs.Laid.{laidAt}
 use Rattle.packet.specs.declared.Verdict.the-variants.{Damaged}
 use Rattle.packet.specs.Xor.{_⊕_, xorAll}
 use Rattle.packet.specs.Packet.{isIntact, verdictOf, dataOf, packetOf}
 use Rattle.panels.specs.Wall.{Wall, placeFrom}
-use Rattle.panels.specs.Laid.{laidAt}
 use Rattle.panels.specs.Addressed.{reaches, isHeard}
 use Rattle.line.specs.declared.Answer.{Answer}
 use Rattle.line.specs.declared.Answer.the-variants.{Silence, Word, Report}

@@ -28,7 +28,7 @@ use Rattle.image.specs.Written.{sizeOf, outputOf}
 use Rattle.image.specs.Whole.{wholeRefusal, recordsIn}
 use Rattle.image.specs.Fields.{fieldsIn}
 use Rattle.image.specs.Read.{isSound, readOf, inTable}
-use Rattle.image.specs.Entries.{Entry, bytesOf, freshEntry, Without, Reordered, Alike, Each}
+use Rattle.image.specs.Entries.{Entry, bytesOf, freshEntry, Permuted, Without, GiveAlike, EachRecord}
 
 -- a panel that a set changed: it was addressed, and only the row that the set code names is another, with allowed values
 pub record SetBy (b : List ℕ) (p q : Panel) : Type 0 where
@@ -85,13 +85,13 @@ ReadsBack =
 -- field reads as with that field at its fresh value.
 abbrev pub AnyOrder : Type 0
 AnyOrder =
-    (image other : List ℕ) → isSound (wholeRefusal other) ≡ true → Each Reordered (recordsIn image) (recordsIn other)
+    (image other : List ℕ) → isSound (wholeRefusal other) ≡ true → EachRecord Permuted (recordsIn image) (recordsIn other)
     → readOf image .refusal ≡ Sound → readOf other ≡ readOf image
 
 -- the same for images whose records give each setting the same values, where a code that is not there gives its fresh ones
 abbrev pub ByCode : Type 0
 ByCode =
-    (image other : List ℕ) → isSound (wholeRefusal other) ≡ true → Each Alike (recordsIn image) (recordsIn other)
+    (image other : List ℕ) → isSound (wholeRefusal other) ≡ true → EachRecord GiveAlike (recordsIn image) (recordsIn other)
     → readOf image .refusal ≡ Sound → readOf other ≡ readOf image
 
 abbrev pub LeftOut : Type 0

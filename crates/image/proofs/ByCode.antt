@@ -8,8 +8,8 @@ use lib.Dec.{eqb}
 use lib.ListN.{length}
 use Rattle.settings.specs.Settings.{setCode, freshValues}
 use Rattle.settings.proofs.Laws.{fresh-count}
+use Rattle.settings.specs.Laid.{valuesWith}
 use Rattle.panels.specs.Wall.{valuesOf}
-use Rattle.panels.specs.Laid.{valuesWith}
 use Rattle.panels.proofs.Values.{length-with, set-row, other-row, by-rows}
 use Rattle.image.specs.Entries.{Entry, Without, givenOr, given}
 use Rattle.image.proofs.Entries.{rowOf, row-is, GoodEntries, stored, count-of}

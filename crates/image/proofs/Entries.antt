@@ -11,7 +11,7 @@ use Rattle.settings.specs.declared.Found.{Found}
 use Rattle.settings.specs.declared.Found.the-variants.{Set, Get, Nothing}
 use Rattle.settings.specs.Settings.{foundBy, setCode, byteCount, allowedFor}
 use Rattle.settings.proofs.Laws.{set-found, allowed-count}
-use Rattle.panels.specs.Laid.{valuesWith}
+use Rattle.settings.specs.Laid.{valuesWith}
 use Rattle.image.specs.declared.Refusal.the-variants.{Nothing as Sound}
 use Rattle.image.specs.declared.Step.{Step}
 use Rattle.image.specs.declared.Step.the-variants.{Field, NotAllowed, Broken, End}

@@ -5,12 +5,11 @@ use Prim.Native.Nat.{ℕ, zero, suc, _+_, _-_, _≤_, _<_}
 use native.Mathlib.Nat.{add-assoc, zero-add, add-zero, not-suc-le-zero, le-of-suc-le-suc}
 use native.Mathlib.Numerals.{add-one}
 use native.Mathlib.Omega.{arith}
-use borrow.Rule.Slice.PartMut.{midOf, putMid}
-use lib.ListN.{length, getD, take, drop, set, length-append, length-drop, take-append-drop}
-use lib.Seq.{take-length, take-at, drop-drop, set-split, drop-append-add, take-all}
+use lib.ListN.{length, getD, take, drop, set, length-append, take-append-drop}
+use lib.Seq.{take-at, drop-drop, set-split, drop-append-add}
+use Rattle.settings.specs.Laid.{laidAt}
+use Rattle.settings.proofs.Laid.{front, length-laid}
 use Rattle.packet.specs.Packet.{laidOver}
-use Rattle.panels.specs.Laid.{laidAt}
-use Rattle.panels.proofs.Laid.{front, length-laid}
 
 pub laid-none : (at : ℕ) (l : List ℕ) → laidAt at [] l ≡ l
 unfolding laidAt
@@ -42,21 +41,6 @@ laid-two at a b l h =
     let first = laid-set at a l (omega arith) in
     let n = length-laid at (a ∷ []) l (omega arith) in
     rw first (laid-set (at + 1) b (laidAt at (a ∷ []) l) (rw n h) ∙ laid-then at (at + 1) (a ∷ []) (b ∷ []) l refl (omega arith))
-
--- a slice copied into the rest of the list from `at` on
-pub laid-copy : (at : ℕ) (s l : List ℕ) → at + length s ≤ length l
-    → putMid at (length l - at) l (take (length s) s ++ drop (length s) (midOf at (length l - at) l)) ≡ laidAt at s l
-unfolding laidAt
-laid-copy at s l h =
-    let d = drop at l in
-    let short : length d ≤ length l - at = rw length-drop (omega arith) in
-    let all : midOf at (length l - at) l ≡ d = take-all (length l - at) d short in
-    let none : drop (length l - at) d ≡ [] = rw (drop-drop (length l - at) at l) (let e : at + (length l - at) ≡ length l = omega arith in rw e (drop-length l)) in
-    rw (all, none, take-length, append-nil, drop-drop (length s) at l) (sym (append-assoc (take at l) s _))
-  where
-    drop-length : (l : List ℕ) → drop (length l) l ≡ []
-    drop-length [] = refl
-    drop-length (x ∷ l) = drop-length l
 
 -- lists laid one behind the other: one more of them
 pub flat-more : {A : Type 0} (ls : List (List A)) (k : ℕ) → k < length ls → flatten (take (suc k) ls) ≡ flatten (take k ls) ++ getD ls k []

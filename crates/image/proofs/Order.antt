@@ -16,7 +16,7 @@ use Rattle.image.specs.declared.Fields.{Fields}
 use Rattle.image.specs.Whole.{wholeRefusal, recordsIn}
 use Rattle.image.specs.Fields.{fieldsIn}
 use Rattle.image.specs.Read.{isSound, headFits, recordRefusal, panelIn, wallWith, refused, readRecords, readOf}
-use Rattle.image.specs.Entries.{Entry, bytesOf, freshEntry, Permuted, same, swapped, kept, twice, Without, recordWith, givenOr, given, Reordered, Alike, Each}
+use Rattle.image.specs.Entries.{Entry, bytesOf, freshEntry, Permuted, same, swapped, kept, twice, Without, recordWith, givenOr, given, GiveAlike, SameHead, EachRecord}
 use Rattle.image.proofs.Edges.{sound-nothing}
 use Rattle.image.proofs.Entries.{rowOf, row-is, Good, GoodEntries, Unseen, stored, all-taken, no-fault}
 use Rattle.image.proofs.ByCode.{stored-alike}
@@ -108,21 +108,16 @@ fields-sound w bytes e = go (headFits w bytes) e
     go true e = sound-nothing _ e
     go false e = absurd (false≢true e)
 
-reordered : (w : Wall) (a b : List ℕ) → Reordered a b → isSound (recordRefusal w a) ≡ true → (recordRefusal w b ≡ recordRefusal w a) × (panelIn b ≡ panelIn a)
-reordered w a b r e =
-    let sound = fields-sound w (recordWith (r .id) (r .group) (r .these)) (rw (← r .first) e) in
-    rw (r .first, r .second) (record-alike w (r .id) (r .group) (bytesOf (r .those)) (bytesOf (r .these)) (any-order (r .these) (r .those) (r .order) sound))
+-- Images, sound as a whole, whose records have the same heads and fields that read alike read as the same wall, where there
+-- is no fault.
+module _ (P : List Entry → List Entry → Type 0)
+    (read-alike : (es fs : List Entry) → P es fs → fieldsIn (bytesOf es) .refusal ≡ Sound → fieldsIn (bytesOf fs) ≡ fieldsIn (bytesOf es)) where
+  record-same : (w : Wall) (a b : List ℕ) → SameHead P a b → isSound (recordRefusal w a) ≡ true → (recordRefusal w b ≡ recordRefusal w a) × (panelIn b ≡ panelIn a)
+  record-same w a b r e =
+      let sound = fields-sound w (recordWith (r .id) (r .group) (r .these)) (rw (← r .first) e) in
+      rw (r .first, r .second) (record-alike w (r .id) (r .group) (bytesOf (r .those)) (bytesOf (r .these)) (read-alike (r .these) (r .those) (r .fields) sound))
 
-alike : (w : Wall) (a b : List ℕ) → Alike a b → isSound (recordRefusal w a) ≡ true → (recordRefusal w b ≡ recordRefusal w a) × (panelIn b ≡ panelIn a)
-alike w a b r e =
-    let sound = fields-sound w (recordWith (r .id) (r .group) (r .these)) (rw (← r .first) e) in
-    let fields = given-alike (r .those) (r .these) (read-good (r .those) (r .sound)) (read-good (r .these) sound) (r .rows) in
-    rw (r .first, r .second) (record-alike w (r .id) (r .group) (bytesOf (r .those)) (bytesOf (r .these)) fields)
-
--- Images, sound as a whole, whose records come to the same one by one read as the same wall, where there is no fault.
-module _ (P : List ℕ → List ℕ → Type 0)
-    (decides : (w : Wall) (a b : List ℕ) → P a b → isSound (recordRefusal w a) ≡ true → (recordRefusal w b ≡ recordRefusal w a) × (panelIn b ≡ panelIn a)) where
-  records-same : (w : Wall) (xs ys : List (List ℕ)) → Each P xs ys → readRecords w xs .refusal ≡ Sound → readRecords w ys ≡ readRecords w xs
+  records-same : (w : Wall) (xs ys : List (List ℕ)) → EachRecord P xs ys → readRecords w xs .refusal ≡ Sound → readRecords w ys ≡ readRecords w xs
   unfolding readRecords
   records-same w [] [] r sound = refl
   records-same w (x ∷ xs) (y ∷ ys) (r, rest) sound = go (isSound (recordRefusal w x)) refl sound (records-same (wallWith w x) xs ys rest)
@@ -131,10 +126,10 @@ module _ (P : List ℕ → List ℕ → Type 0)
           → (readRecords (wallWith w x) xs .refusal ≡ Sound → readRecords (wallWith w x) ys ≡ readRecords (wallWith w x) xs)
           → cond (isSound (recordRefusal w y)) (readRecords (wallWith w y) ys) (refused (recordRefusal w y))
           ≡ cond t (readRecords (wallWith w x) xs) (refused (recordRefusal w x))
-      go true e sound ih = let (refusal, panel) = decides w x y r e in rw (refusal, e, panel) (ih sound)
+      go true e sound ih = let (refusal, panel) = record-same w x y r e in rw (refusal, e, panel) (ih sound)
       go false e sound ih = absurd (false≢true (sym e ∙ ap isSound sound))
 
-  read-same : (image other : List ℕ) → isSound (wholeRefusal other) ≡ true → Each P (recordsIn image) (recordsIn other)
+  read-same : (image other : List ℕ) → isSound (wholeRefusal other) ≡ true → EachRecord P (recordsIn image) (recordsIn other)
       → readOf image .refusal ≡ Sound → readOf other ≡ readOf image
   unfolding readOf
   read-same image other fit r sound = go (isSound (wholeRefusal image)) refl sound
@@ -145,10 +140,10 @@ module _ (P : List ℕ → List ℕ → Type 0)
       go true e sound = rw fit (records-same [] (recordsIn image) (recordsIn other) r sound)
       go false e sound = absurd (false≢true (sym e ∙ ap isSound sound))
 
-pub read-any-order : (image other : List ℕ) → isSound (wholeRefusal other) ≡ true → Each Reordered (recordsIn image) (recordsIn other)
+pub read-any-order : (image other : List ℕ) → isSound (wholeRefusal other) ≡ true → EachRecord Permuted (recordsIn image) (recordsIn other)
     → readOf image .refusal ≡ Sound → readOf other ≡ readOf image
-read-any-order = read-same Reordered reordered
+read-any-order = read-same Permuted any-order
 
-pub read-by-code : (image other : List ℕ) → isSound (wholeRefusal other) ≡ true → Each Alike (recordsIn image) (recordsIn other)
+pub read-by-code : (image other : List ℕ) → isSound (wholeRefusal other) ≡ true → EachRecord GiveAlike (recordsIn image) (recordsIn other)
     → readOf image .refusal ≡ Sound → readOf other ≡ readOf image
-read-by-code = read-same Alike alike
+read-by-code = read-same GiveAlike (λ es fs a sound. given-alike fs es (read-good fs (a .sound)) (read-good es sound) (a .rows))

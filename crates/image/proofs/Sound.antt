@@ -12,6 +12,7 @@ use Rattle.settings.specs.Settings.{freshValues}
 use Rattle.settings.specs.Numbers.{each}
 use Rattle.settings.proofs.Both.{both}
 use Rattle.settings.proofs.WrittenOut.{in-each}
+use Rattle.settings.specs.Laid.{valuesWith}
 use Rattle.packet.specs.Packet.{monitorId}
 use Rattle.panels.specs.declared.Table.{Table}
 use Rattle.panels.specs.declared.Place.{Place}
@@ -20,7 +21,6 @@ use Rattle.panels.specs.Wall.{Wall, tableOf, panelsOf, placeOf}
 use Rattle.panels.specs.Calls.{ifThere}
 use Rattle.panels.specs.WellFormed.{GoodPanel, GoodWall, WellFormed}
 use Rattle.panels.proofs.Formed.{formed, empty-formed, nowhere-absent, good-snoc}
-use Rattle.panels.specs.Laid.{valuesWith}
 use Rattle.panels.proofs.Values.{InRange, fresh-in-range, with-in-range}
 use Rattle.image.specs.declared.Refusal.the-variants.{Record}
 use Rattle.image.specs.declared.Step.{Step}

@@ -12,7 +12,7 @@ use Rattle.settings.specs.declared.Found.{Found}
 use Rattle.settings.specs.declared.Found.the-variants.{Set, Get, Nothing}
 use Rattle.settings.specs.Settings.{foundBy, setCode, byteCount, allowedFor}
 use Rattle.settings.proofs.Laws.{IsFound, found-right, set-found}
-use Rattle.panels.specs.Laid.{valuesWith}
+use Rattle.settings.specs.Laid.{valuesWith}
 use Rattle.image.specs.declared.Step.{Step}
 use Rattle.image.specs.declared.Step.the-variants.{Field, NotAllowed, Broken, End}
 use Rattle.image.specs.Fields.{valuesIn, fieldBy, stepAt, seenWith, behind, afterStep, gathered, fieldsFrom}

@@ -54,30 +54,24 @@ givenOr fresh row (e ∷ es) = cond (eqb (e .code) (setCode row)) (e .values) (g
 abbrev pub given : ℕ → List Entry → List ℕ
 given row es = givenOr (valuesOf row freshValues) row es
 
--- two records hold the same fields, in whatever order
-pub record Reordered (a b : List ℕ) : Type 0 where
-  pub id : ℕ
-  pub group : ℕ
-  pub these : List Entry
-  pub those : List Entry
-  pub first : a ≡ recordWith id group these
-  pub second : b ≡ recordWith id group those
-  pub order : Permuted these those
-
--- the second record has no fault in its fields, and they give each row what those of the first give it
-pub record Alike (a b : List ℕ) : Type 0 where
-  pub id : ℕ
-  pub group : ℕ
-  pub these : List Entry
-  pub those : List Entry
-  pub first : a ≡ recordWith id group these
-  pub second : b ≡ recordWith id group those
+-- the second fields have no fault, and give each row what the first give it
+pub record GiveAlike (these those : List Entry) : Type 0 where
   pub sound : fieldsIn (bytesOf those) .refusal ≡ Sound
   pub rows : (row : ℕ) → row < 8 → given row those ≡ given row these
 
+-- two records with the same ID and group, and fields that stand in a relation
+pub record SameHead (P : List Entry → List Entry → Type 0) (a b : List ℕ) : Type 0 where
+  pub id : ℕ
+  pub group : ℕ
+  pub these : List Entry
+  pub those : List Entry
+  pub first : a ≡ recordWith id group these
+  pub second : b ≡ recordWith id group those
+  pub fields : P these those
+
 -- record by record
-abbrev pub Each : (List ℕ → List ℕ → Type 0) → List (List ℕ) → List (List ℕ) → Type 0
-Each P [] [] = Unit {0}
-Each P [] (b ∷ bs) = ⊥
-Each P (a ∷ rest) [] = ⊥
-Each P (a ∷ rest) (b ∷ bs) = P a b × Each P rest bs
+abbrev pub EachRecord : (List Entry → List Entry → Type 0) → List (List ℕ) → List (List ℕ) → Type 0
+EachRecord P [] [] = Unit {0}
+EachRecord P [] (b ∷ bs) = ⊥
+EachRecord P (a ∷ rest) [] = ⊥
+EachRecord P (a ∷ rest) (b ∷ bs) = SameHead P a b × EachRecord P rest bs

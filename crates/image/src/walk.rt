@@ -1,10 +1,8 @@
 // The walk over a record's fields: what stands at the front of the bytes that are left, and a field's values taken.
 ghost use mathlib.Core.Path.{_≡_};
-ghost use Prim.Native.Nat.{_+_, _≤_, _<_};
+ghost use Prim.Native.Nat.{_+_, _<_};
 ghost use lib.ListN.{length};
-ghost use Rattle.settings.specs.Settings.{byteCount};
-ghost use Rattle.panels.specs.Laid.{valuesWith};
-ghost use Rattle.image.specs.Fields.{stepAt, valuesIn, fieldsIn};
+ghost use Rattle.image.specs.Fields.{stepAt, fieldsIn};
 use crate::Fields;
 use crate::Refusal;
 use crate::Step;
@@ -39,16 +37,6 @@ fn step_at(left: &[u8], seen: &[bool]) -> Step
     Step::Field(row)
 }
 
-// The values of a row's field, which stands at the front of the bytes that are left, laid at the row's place.
-fn take_values(left: &[u8], row: usize, values: &mut [u8])
-    requires { ⌜ (row < 8) × (length (now values) ≡ 15) × (2 + byteCount row ≤ length (now left)) ⌝ }
-    ensures { λ _. ⌜ now (values .exit) ≡ valuesWith row (valuesIn row (now (left .entry))) (now (values .entry)) ⌝ }
-{
-    let count = settings::byte_count(row);
-    let first = settings::place_of(row);
-    bytes::copy(&left[2..2 + count], &mut values[first..]);
-}
-
 // The values of a panel whose record goes on with these bytes.
 pub fn fields_of(bytes: &[u8]) -> Fields
     ensures { λ r. ⌜ r ≡ fieldsIn (now (bytes .entry)) ⌝ }
@@ -60,9 +48,11 @@ pub fn fields_of(bytes: &[u8]) -> Fields
         let step = step_at(&bytes[at..], &seen);
         match step {
             Step::Field(row) => {
-                take_values(&bytes[at..], row, &mut values);
+                let from = at + 2;
+                let end = from + settings::byte_count(row);
+                settings::store(row, &bytes[from..end], &mut values);
                 seen[row] = true;
-                at = at + 2 + settings::byte_count(row);
+                at = end;
             }
             Step::NotAllowed => {
                 return Fields {

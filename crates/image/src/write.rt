@@ -7,7 +7,7 @@ ghost use Rattle.settings.specs.Settings.{byteCount};
 ghost use Rattle.settings.specs.Numbers.{each};
 ghost use Rattle.panels.specs.Wall.{valuesOf, panelsOf};
 ghost use Rattle.panels.specs.WellFormed.{WellFormed};
-ghost use Rattle.panels.specs.Laid.{laidAt};
+ghost use Rattle.settings.specs.Laid.{laidAt};
 ghost use Rattle.image.specs.Written.{field, fieldsOf, recordOf, recordsOf, highLow};
 use panels::Panel;
 use panels::Table;

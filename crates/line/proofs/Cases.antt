@@ -2,10 +2,10 @@
 use mathlib.Core.Path.{_≡_, refl}
 use mathlib.Core.List.{map, flatten}
 use Rattle.settings.specs.Settings.{settings, foundFrom, allowedByRow, freshValues, within, allAllowed}
+use Rattle.settings.specs.Laid.{laidAt}
 use Rattle.packet.specs.Xor.{_⊕_, xorAll}
 use Rattle.packet.specs.Packet.{isIntact, verdictOf, dataOf, packetOf}
 use Rattle.panels.specs.Wall.{placeFrom}
-use Rattle.panels.specs.Laid.{laidAt}
 use Rattle.panels.specs.Addressed.{reaches, isHeard}
 use Rattle.line.specs.Reply.{sentBytes}
 use Rattle.line.specs.Judged.{command, stored, judge}

@@ -50,16 +50,10 @@ pub fn with_values(p: Panel, row: usize, d: &[u8]) -> Panel
     requires { ⌜ (row < 8) × (length (now d) ≡ byteCount row + 1) ⌝ }
     ensures { λ r. ⌜ r ≡ stored row (drop 1 (now (d .entry))) p ⌝ }
 {
-    let first = settings::place_of(row);
-    let count = settings::byte_count(row);
     let id = p.id;
     let group = p.group;
     let mut values = p.values;
-    let mut k = 0;
-    while k < count {
-        values[first + k] = d[k + 1];
-        k += 1;
-    }
+    settings::store(row, &d[1..], &mut values);
     Panel { id, group, values }
 }
 

@@ -1,7 +1,6 @@
 -- `Laws` has what callers cite of walls and tables, `Values` of a panel's values, `Formed` that every call keeps tables
--- well-formed; `Lists` and `Laid` are laws on lists behind them.
+-- well-formed; `Lists` are laws on lists behind them.
 pub mod Lists
-pub mod Laid
 pub mod Values
 pub mod Laws
 pub mod Formed

@@ -13,9 +13,9 @@ use lib.Seq.{take-add, take-all}
 use Rattle.settings.specs.Settings.{settings, allowedByRow, byteCount, place, allowedFor, freshValues}
 use Rattle.settings.proofs.Laws.{place-fits, places-apart, allowed-count, fresh-allowed, fresh-count}
 use Rattle.settings.proofs.WrittenOut.{alike}
+use Rattle.settings.specs.Laid.{laidAt, valuesWith}
+use Rattle.settings.proofs.Laid.{length-laid, before-laid, laid-itself, behind-laid, ahead-of-laid}
 use Rattle.panels.specs.Wall.{valuesOf}
-use Rattle.panels.specs.Laid.{laidAt, valuesWith}
-use Rattle.panels.proofs.Laid.{length-laid, before-laid, laid-itself, behind-laid, ahead-of-laid}
 
 pub length-with : (row : ℕ) (vs values : List ℕ) → length vs ≡ byteCount row → length values ≡ 15 → length (valuesWith row vs values) ≡ 15
 length-with row vs values n full = length-laid (place row) vs values (omega (arith, place-fits row)) ∙ full

@@ -1,7 +1,6 @@
--- What is right of the panels. `Wall` is a wall of panels and the table that holds it, `Laid` a row's values stored,
--- `Addressed` who is addressed, `Calls` the table calls, `WellFormed` what holds of every table that the box comes to.
+-- What is right of the panels. `Wall` is a wall of panels and the table that holds it, `Addressed` who is addressed, `Calls`
+-- the table calls, `WellFormed` what holds of every table that the box comes to.
 pub mod Wall
-pub mod Laid
 pub mod Addressed
 pub mod Calls
 pub mod WellFormed

@@ -1,8 +1,9 @@
 // The eight settings as one fixed table of numbers, which box, host and image all read.
 ghost use mathlib.Core.Path.{_≡_};
 ghost use Prim.Native.Nat.{_<_};
-ghost use lib.ListN.{drop};
+ghost use lib.ListN.{length, drop};
 ghost use Rattle.settings.specs.Settings.{foundBy, setCode, getCode, byteCount, place, inRange, within, allowedFor, freshValues};
+ghost use Rattle.settings.specs.Laid.{valuesWith};
 ghost use Rattle.settings.specs.Numbers.{rangeOf, rangesOf, firstRange, isMore, paperTable};
 
 // A setting's set code and its get code.
@@ -231,6 +232,15 @@ pub fn allowed(row: usize, values: &[u8]) -> bool
         k += 1;
     }
     true
+}
+
+// A row's values stored at their place among a panel's 15.
+pub fn store(row: usize, vs: &[u8], values: &mut [u8])
+    requires { ⌜ (row < 8) × (length (now vs) ≡ byteCount row) × (length (now values) ≡ 15) ⌝ }
+    ensures { λ _. ⌜ now (values .exit) ≡ valuesWith row (now (vs .entry)) (now (values .entry)) ⌝ }
+{
+    let at = place_of(row);
+    bytes::copy(vs, &mut values[at..]);
 }
 
 // A panel's values before anything is set.

@@ -11,9 +11,9 @@ use Rattle.panels.specs.Wall.{Wall, panelsOf}
 use Rattle.panels.specs.WellFormed.{GoodWall}
 use Rattle.panels.proofs.Laws.{count-is, count-few}
 use Rattle.image.specs.declared.Written.the-variants.{Bytes}
-use Rattle.panels.specs.Laid.{laidAt}
+use Rattle.settings.specs.Laid.{laidAt}
 use Rattle.image.specs.Written.{highLow, recordsOf, imageOf, recordOf, sizeOf, writtenOf, outputOf}
-use Rattle.panels.proofs.Laid.{length-laid}
+use Rattle.settings.proofs.Laid.{length-laid}
 use Rattle.image.proofs.Laid.{laid-over, laid-two, laid-then}
 use Rattle.image.proofs.Lengths.{records-long, starts-are}
 use Rattle.image.proofs.Split.{starts-count}

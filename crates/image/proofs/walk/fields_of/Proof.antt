@@ -6,11 +6,11 @@ use Prim.Native.Nat.{ℕ, _+_, _-_, _≤_}
 use native.Mathlib.Nat.{add-assoc}
 use native.Mathlib.Omega.{arith}
 use borrow.Author.Needs.{needs}
-use lib.ListN.{length, drop, replicate, length-set, length-take, length-drop}
+use lib.ListN.{length, take, drop, replicate, length-set, length-take, length-drop}
 use lib.Seq.{take-all, drop-drop}
 use Rattle.settings.specs.Settings.{byteCount}
 use Rattle.settings.proofs.Laws.{fresh-count}
-use Rattle.panels.specs.Laid.{valuesWith}
+use Rattle.settings.specs.Laid.{valuesWith}
 use Rattle.panels.proofs.Values.{length-with}
 use Rattle.image.specs.declared.Step.{Step}
 use Rattle.image.specs.declared.Step.the-variants.{Field}
@@ -58,6 +58,21 @@ room c =
     let loop = c .before .before .before .before .before .before in
     omega (arith, length-drop (loop .loop .at) (loop .before .before .before .args .bytes .now), found c .whole, loop .loop .inv .0)
 
+-- the part of the bytes that holds its values
+part : (c : tie.After-byte-count Inv-loop μ-loop) → let loop = c .before .before .before .before .before .before .before in
+    let bytes = loop .before .before .before .args .bytes .now in
+    let from = loop .loop .at + 2 in
+    take (from + c .byte-count .result - from) (drop from bytes) ≡ valuesIn (c .before .before .step .given .0 .0) (drop (loop .loop .at) bytes)
+part c =
+    let loop = c .before .before .before .before .before .before .before in
+    let n : loop .loop .at + 2 + c .byte-count .result - (loop .loop .at + 2) ≡ byteCount (c .before .before .step .given .0 .0) = omega (arith, c .byte-count .ensures) in
+    rw (n, drop-drop 2 (loop .loop .at) (loop .before .before .before .args .bytes .now))
+
+as-many : (c : tie.After-byte-count Inv-loop μ-loop) → let loop = c .before .before .before .before .before .before .before in
+    let row = c .before .before .step .given .0 .0 in
+    length (valuesIn row (drop (loop .loop .at) (loop .before .before .before .args .bytes .now))) ≡ byteCount row
+as-many c = simp (length-take, length-drop) (omega (arith, room (c .before)))
+
 fresh-requires : tie.Need-fresh-requires Inv-loop μ-loop
 fresh-requires c κs = tt
 
@@ -82,42 +97,45 @@ step-at-requires c κs = c .before .before .loop .inv .2
 enum-known-step : tie.Need-enum-known-step Inv-loop μ-loop
 enum-known-step c = search needs
 
-sub-take-values : tie.Need-sub-take-values Inv-loop μ-loop
-sub-take-values c = omega (arith, c .before .before .before .before .before .before .loop .inv)
-
-part-take-values-start : tie.Need-part-take-values-start Inv-loop μ-loop
-part-take-values-start c = omega (arith, c .before .before .before .before .before .before .loop .inv)
-
-part-take-values-end : tie.Need-part-take-values-end Inv-loop μ-loop
-part-take-values-end c = omega (arith, c .before .before .before .before .before .before .loop .inv)
-
-slice-aggregate-take-values : tie.Need-slice-aggregate-take-values Inv-loop μ-loop
-slice-aggregate-take-values c = sym (c .before .before .before .before .before .before .before .before .loop .inv .1)
-
-take-values-requires : tie.Need-take-values-requires Inv-loop μ-loop
-take-values-requires c κs =
-    let known = c .before .before in
-    let loop = known .before .before .before .before .before .before in
-    (found known .in-table, loop .loop .inv .1, simp (length-take, length-drop) (omega (arith, room known)))
-
-array-write-seen : tie.Need-array-write-seen Inv-loop μ-loop
-array-write-seen c = found (c .before .before .before .before) .in-table
-
-add-at : tie.Need-add-at Inv-loop μ-loop
-add-at c = omega (arith, room (c .before .before .before .before))
+add-from : tie.Need-add-from Inv-loop μ-loop
+add-from c = omega (arith, room c)
 
 byte-count-requires : tie.Need-byte-count-requires Inv-loop μ-loop
-byte-count-requires c κs = found (c .before .before .before .before) .in-table
+byte-count-requires c κs = found c .in-table
 
-add-at-2 : tie.Need-add-at-2 Inv-loop μ-loop
-add-at-2 c = omega (arith, room (c .before .before .before .before .before))
+add-end : tie.Need-add-end Inv-loop μ-loop
+add-end c = omega (arith, c .byte-count .ensures, room (c .before))
+
+sub-store : tie.Need-sub-store Inv-loop μ-loop
+sub-store c = omega arith
+
+part-store-start : tie.Need-part-store-start Inv-loop μ-loop
+part-store-start c = omega arith
+
+part-store-end : tie.Need-part-store-end Inv-loop μ-loop
+part-store-end c = omega (arith, c .byte-count .ensures, room (c .before))
+
+slice-aggregate-store : tie.Need-slice-aggregate-store Inv-loop μ-loop
+slice-aggregate-store c = sym (c .before .before .before .before .before .before .before .before .before .loop .inv .1)
+
+store-requires : tie.Need-store-requires Inv-loop μ-loop
+store-requires c κs =
+    let counted = c .before .before in
+    let loop = counted .before .before .before .before .before .before .before in
+    (found (counted .before) .in-table, ap length (part counted) ∙ as-many counted, loop .loop .inv .1)
+
+array-write-seen : tie.Need-array-write-seen Inv-loop μ-loop
+array-write-seen c = found (c .before .before .before .before .before) .in-table
 
 loop-less : tie.Need-loop-less Inv-loop μ-loop
-loop-less c = omega (arith, c .byte-count .ensures, room (c .before .before .before .before .before))
+loop-less c =
+    let counted = c .before .before .before .before in
+    omega (arith, counted .byte-count .ensures, room (counted .before))
 
 loop-again : tie.Need-loop-again Inv-loop μ-loop
 loop-again c =
-    let known = c .before .before .before .before .before in
+    let counted = c .before .before .before .before in
+    let known = counted .before in
     let call = known .before .before .before in
     let loop = call .before .before .before in
     let bytes = loop .before .before .before .args .bytes .now in
@@ -125,13 +143,11 @@ loop-again c =
     let row = known .before .step .given .0 .0 in
     let left = drop at bytes in
     let values = loop .loop .values in
-    let n = c .byte-count .ensures in
-    let as-many : length (valuesIn row left) ≡ byteCount row = simp (length-take, length-drop) (omega (arith, room known)) in
-    let all = take-all (length bytes - at) left (rw length-drop (omega arith)) in
-    let taken = c .before .before .take-values .ensures ∙ ap (λ (l : List ℕ). valuesWith row (valuesIn row l) values) all in
+    let n = counted .byte-count .ensures in
+    let taken = c .before .store .ensures ∙ ap (λ (vs : List ℕ). valuesWith row vs values) (part counted) in
     let rest : behind row left ≡ drop (at + 2 + byteCount row) bytes = drop-drop (2 + byteCount row) at bytes ∙ ap (λ (k : ℕ). drop k bytes) (sym (add-assoc at 2 (byteCount row))) in (
-      omega (arith, room known),
-      ap length taken ∙ length-with row (valuesIn row left) values as-many (loop .loop .inv .1),
+      omega (arith, n, room known),
+      ap length taken ∙ length-with row (valuesIn row left) values (as-many counted) (loop .loop .inv .1),
       length-set (loop .loop .seen) row true ∙ loop .loop .inv .2,
       goes-on call (Field row) (known .before .step .given .1) ∙ rw (rest, n, taken),
     )
@@ -168,15 +184,15 @@ fields-of-spec =
     slice-aggregate-step-at
     step-at-requires
     enum-known-step
-    sub-take-values
-    part-take-values-start
-    part-take-values-end
-    slice-aggregate-take-values
-    take-values-requires
-    array-write-seen
-    add-at
+    add-from
     byte-count-requires
-    add-at-2
+    add-end
+    sub-store
+    part-store-start
+    part-store-end
+    slice-aggregate-store
+    store-requires
+    array-write-seen
     loop-less
     loop-again
     enum-told

@@ -6,8 +6,8 @@ use native.Mathlib.Numerals.{add-one}
 use native.Mathlib.Omega.{arith}
 use lib.ListN.{length, getD, take}
 use Rattle.settings.specs.Settings.{byteCount}
-use Rattle.panels.specs.Laid.{laidAt}
-use Rattle.panels.proofs.Laid.{length-laid}
+use Rattle.settings.specs.Laid.{laidAt}
+use Rattle.settings.proofs.Laid.{length-laid}
 use Rattle.image.specs.Written.{fieldsOf}
 use Rattle.image.proofs.Laid.{laid-none, laid-more}
 use Rattle.image.proofs.Lengths.{field-at, fields-count, fieldBytes, fields-before, bytes-fit, bytes-of-all, length-values, fields-all}

@@ -8,11 +8,12 @@ use lib.ListN.{length, take, drop, set, length-set, length-take, length-drop}
 use borrow.Rule.Slice.PartMut.{midOf, putMid, same-len-mid}
 use Rattle.settings.specs.Settings.{setCode, byteCount, place}
 use Rattle.settings.proofs.Laws.{place-fits}
+use Rattle.settings.specs.Laid.{laidAt}
+use Rattle.settings.proofs.Laid.{laid-copy}
 use Rattle.panels.specs.Wall.{valuesOf}
-use Rattle.panels.specs.Laid.{laidAt}
 use Rattle.image.specs.Written.{field}
 use Rattle.image.proofs.Lengths.{length-values}
-use Rattle.image.proofs.Laid.{laid-then, laid-two, laid-copy}
+use Rattle.image.proofs.Laid.{laid-then, laid-two}
 use Rattle.image.proofs.write.one_field.Statement.{statement}
 use Rattle.image.proofs.write.one_field.Tie as tie
 

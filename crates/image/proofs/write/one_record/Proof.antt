@@ -4,9 +4,9 @@ use mathlib.Core.List.{[], _∷_, flatten}
 use Prim.Native.Nat.{_+_, _-_}
 use native.Mathlib.Omega.{arith}
 use lib.ListN.{length, length-set}
-use Rattle.panels.specs.Laid.{laidAt}
+use Rattle.settings.specs.Laid.{laidAt}
 use Rattle.image.specs.Written.{fieldsOf, recordOf}
-use Rattle.panels.proofs.Laid.{length-laid}
+use Rattle.settings.proofs.Laid.{length-laid}
 use Rattle.image.proofs.Laid.{laid-two, laid-then}
 use Rattle.image.proofs.Lengths.{fields-length, record-length}
 use borrow.Author.Needs.{needs}

@@ -5,11 +5,11 @@ use Prim.Native.Nat.{_-_, _*_, _≤_, _<_}
 use native.Mathlib.Omega.{arith}
 use lib.ListN.{length, getD, take, length-map}
 use lib.Seq.{take-all}
+use Rattle.settings.specs.Laid.{laidAt}
+use Rattle.settings.proofs.Laid.{length-laid}
 use Rattle.panels.specs.declared.Panel.{Panel}
 use Rattle.panels.specs.Wall.{panelsOf, blank}
 use Rattle.panels.proofs.Laws.{count-is, count-few, in-wall}
-use Rattle.panels.specs.Laid.{laidAt}
-use Rattle.panels.proofs.Laid.{length-laid}
 use Rattle.panels.proofs.Formed.{good-at}
 use Rattle.image.specs.Written.{recordOf, recordsOf}
 use Rattle.image.proofs.Laid.{laid-none, laid-more}

@@ -1,11 +1,12 @@
 -- Bytes laid over others: what stands before them, they themselves, and what stands behind them. Assumes nothing.
 use mathlib.Core.Path.{_≡_, refl, sym, ap, _∙_}
-use mathlib.Core.List.{List, _++_, append-assoc}
+use mathlib.Core.List.{List, [], _∷_, _++_, append-assoc, append-nil}
 use Prim.Native.Nat.{ℕ, _+_, _-_, _≤_}
 use native.Mathlib.Omega.{arith}
+use borrow.Rule.Slice.PartMut.{midOf, putMid}
 use lib.ListN.{length, take, drop, length-append, length-drop}
-use lib.Seq.{length-take-le, take-at, drop-at, take-take, take-add, drop-drop}
-use Rattle.panels.specs.Laid.{laidAt}
+use lib.Seq.{length-take-le, take-all, take-length, take-at, drop-at, take-take, take-add, drop-drop}
+use Rattle.settings.specs.Laid.{laidAt}
 
 -- the part before the seam
 pub front : (at : ℕ) (b l : List ℕ) → at ≤ length l → length (take at l ++ b) ≡ at + length b
@@ -47,3 +48,18 @@ ahead-of-laid at a n b l h g =
     part-is a n x (omega arith)
     ∙ ap (drop a) (sym (take-take (a + n) at x g) ∙ ap (take (a + n)) (before-laid at b l h) ∙ take-take (a + n) at l g)
     ∙ sym (part-is a n l (omega arith))
+
+-- a slice copied into the rest of the list from `at` on
+pub laid-copy : (at : ℕ) (s l : List ℕ) → at + length s ≤ length l
+    → putMid at (length l - at) l (take (length s) s ++ drop (length s) (midOf at (length l - at) l)) ≡ laidAt at s l
+unfolding laidAt
+laid-copy at s l h =
+    let d = drop at l in
+    let short : length d ≤ length l - at = rw length-drop (omega arith) in
+    let all : midOf at (length l - at) l ≡ d = take-all (length l - at) d short in
+    let none : drop (length l - at) d ≡ [] = rw (drop-drop (length l - at) at l) (let e : at + (length l - at) ≡ length l = omega arith in rw e (drop-length l)) in
+    rw (all, none, take-length, append-nil, drop-drop (length s) at l) (sym (append-assoc (take at l) s _))
+  where
+    drop-length : (l : List ℕ) → drop (length l) l ≡ []
+    drop-length [] = refl
+    drop-length (x ∷ l) = drop-length l

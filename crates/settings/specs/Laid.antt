@@ -1,8 +1,8 @@
--- Bytes in the place of others: parts of an image, and a row's values among a panel's 15.
+-- Bytes in the place of others: a row's values among a panel's 15, and parts of a setup image.
 use Prim.Native.Nat.{ℕ, _+_}
 use mathlib.Core.List.{List, _++_}
 use lib.ListN.{length, take, drop}
 use Rattle.settings.specs.Settings.{place}
 
 -- a list with some bytes laid over it from place `at` on
 unfoldable pub laidAt : ℕ → List ℕ → List ℕ → List ℕ
