@@ -7,6 +7,7 @@ use mathlib.Core.List.{List, [], _∷_, flatten}
 use lib.Seq.{drop-at}
 use lib.Dec.{leb, ltb}
 use lib.ListN.{length, getD, drop}
+use Rattle.packet.specs.Answered.{isHeard}
 use Rattle.packet.specs.declared.MonitorId.{MonitorId}
 use Rattle.packet.specs.declared.GroupId.{GroupId}
 use Rattle.packet.specs.declared.Verdict.{Verdict}
@@ -38,9 +39,10 @@ use Rattle.host.specs.declared.Outcome.{Outcome}
 use Rattle.host.specs.declared.Outcome.the-variants.{Idle, Waiting, Unheard, Ack as Acked, Nav as NotAvailable, Report as Reported, GivenUp, Refused}
 use Rattle.host.specs.declared.Said.{Said}
 use Rattle.host.specs.declared.Said.the-variants.{Ack, Nack, Nav, Report, Nothing as Silent}
-use Rattle.host.specs.Request.{isDue, isRequest}
+use Rattle.host.specs.Request.{isRequest}
 use Rattle.host.specs.Machine.{Happening, start, burst, mark, State, Move, sendings, waits, quiet, begun, again, ending, heard, step}
-use Rattle.host.specs.Calls.{call}
+use Rattle.host.specs.Calls.{hostOf, stateOf, stepOf, call}
+use Rattle.host.proofs.Answers.{host-back}
 use Rattle.demands.specs.Demand1.{AddRefused, RemoveRefused, ReadRefused, CallRefused, Bad, BadBurst, bytesSent, bytesWritten, AnswerAlone, ImageAlone}
 
 pub add-refused : AddRefused
@@ -161,7 +163,7 @@ ending-stays s d Silent = taken _ refl
 
 begun-stays : (s : State) (r : Request) → Stays s (begun r)
 unfolding begun
-begun-stays s r = one-of s (isDue (r .id) (r .group)) _ _ (taken _ refl) (taken _ refl)
+begun-stays s r = one-of s (isHeard (r .id) (r .group)) _ _ (taken _ refl) (taken _ refl)
 
 step-stays : (s : State) (h : Happening) → Stays s (step s h)
 unfolding step heard
@@ -171,7 +173,8 @@ step-stays s (burst b) = one-of s (waits s) _ _ (ending-stays s _ _) (quiet-stay
 step-stays s mark = one-of s (waits s) _ _ (again-stays s) (quiet-stays s _)
 
 pub call-refused : CallRefused
-unfolding call laidOver flatten
-call-refused out s h r e =
+unfolding call stepOf laidOver flatten
+call-refused out host h r e =
+    let s = stateOf host in
     let (next, none) = one-of s (leb 40 (length out)) _ _ (step-stays s h) (quiet-stays s _) r e in
-    (next, rw none)
+    (ap hostOf next ∙ host-back host, rw none)

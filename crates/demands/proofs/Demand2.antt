@@ -17,7 +17,8 @@ use Rattle.panels.specs.declared.Panel.{Panel}
 use Rattle.panels.specs.declared.Place.{Place}
 use Rattle.panels.specs.declared.Place.the-variants.{At, Nowhere}
 use Rattle.panels.specs.Wall.{Wall, blank, panelsOf, placeOf}
-use Rattle.panels.specs.Addressed.{reaches, isHeard}
+use Rattle.packet.specs.Answered.{isHeard}
+use Rattle.panels.specs.Addressed.{reaches}
 use Rattle.panels.specs.WellFormed.{GoodPanel, GoodWall}
 use Rattle.panels.proofs.Laws.{place-there}
 use Rattle.panels.proofs.Lists.{getD-inside}

@@ -17,10 +17,9 @@ use Rattle.panels.specs.Wall.{Wall, placeOf}
 use Rattle.line.specs.declared.Reply.{Reply}
 use Rattle.line.specs.Reply.{silence}
 use Rattle.line.specs.Played.{Outcome, nackTo, damagedReply, played}
-use Rattle.line.specs.Session.{Ended, session, Event, byte, quiet, burstsAfter, receiverOf, streamed}
+use Rattle.line.specs.Session.{byBurst, Ended, session, Event, byte, quiet, burstsAfter, receiverOf, streamed}
 use Rattle.line.proofs.Bursts.{played-damaged}
 use Rattle.line.proofs.Streams.{stream-after}
-use Rattle.demands.specs.WrongBoxes.{byBurst}
 use Rattle.demands.specs.Demand3.{whole, spoilt, sent, kept, SilenceOrNack, AsIfNeverSent, Withstands, Demand3, onLine, Demand3·line}
 
 nack-or-silent : (i : MonitorId) (q : Place) → SilenceOrNack (nackTo i q)
@@ -60,15 +59,8 @@ damaged-still w b d = ap (λ (o : Outcome). o .wall) (played-damaged w b d)
 pub damaged-may : (w : Wall) (b : List ℕ) → verdictOf b ≡ Damaged → SilenceOrNack (played w b .reply)
 damaged-may w b d = rw (played-damaged w b d) (damaged-answer w b)
 
-session-is : (w : Wall) (bs : List (List ℕ)) → byBurst played w bs ≡ session w bs
-unfolding byBurst session
-session-is w [] = refl
-session-is w (b ∷ bs) =
-    ap {B = Ended} (λ (e : Ended). record { wall = e .wall; replies = played w b .reply ∷ e .replies }) (session-is (played w b .wall) bs)
-
 pub demand3 : Demand3
-demand3 w items =
-    rw (← session-is w (sent items), ← session-is w (kept items)) (withstands SilenceOrNack played damaged-still damaged-may w items)
+demand3 = withstands SilenceOrNack played damaged-still damaged-may
 
 -- what is put on the line burst by burst is heard burst by burst
 heard : (l b : List ℕ) (es : List Event) → burstsAfter l (map byte b ++ quiet ∷ es) ≡ (l ++ b) ∷ burstsAfter [] es

@@ -1,6 +1,6 @@
 -- Host and box on one line. Assumes nothing.
 use Prim.Native.Nat.{ℕ, zero, suc, _≤_}
-use mathlib.Core.Bool.{Bool, true, false, not, _&&_, false≢true}
+use mathlib.Core.Bool.{Bool, true, false, not, false≢true}
 use mathlib.Core.Path.{_≡_, refl, sym, ap, ap₂, subst, _∙_}
 use mathlib.Core.List.{List, [], _∷_, map}
 use native.Mathlib.Omega.{arith}
@@ -25,19 +25,20 @@ use Rattle.packet.proofs.Packets.{packet-verdict, packet-data}
 use Rattle.panels.specs.declared.Panel.{Panel}
 use Rattle.panels.specs.declared.Place.the-variants.{At}
 use Rattle.panels.specs.Wall.{Wall, valuesOf, blank, placeOf, panelsOf}
-use Rattle.panels.specs.Addressed.{reaches, isHeard}
+use Rattle.packet.specs.Answered.{isHeard}
+use Rattle.panels.specs.Addressed.{reaches}
 use Rattle.panels.specs.WellFormed.{GoodPanel, GoodWall}
 use Rattle.panels.proofs.Laws.{place-there}
 use Rattle.panels.proofs.Formed.{good-at}
 use Rattle.line.specs.Judged.{Command, getOf, setOf, unavailable, command, judge, stored, replyBy}
 use Rattle.line.specs.Played.{turned, playedBy, played}
-use Rattle.line.specs.Session.{session}
+use Rattle.line.specs.Session.{byBurst, session}
 use Rattle.line.proofs.Formed.{stored-twice, played-good}
 use Rattle.line.proofs.Turns.{stays}
 use Rattle.line.specs.Reply.{wordFrom, reportFrom, sentBytes}
 use Rattle.host.specs.declared.Request.{Request}
 use Rattle.host.specs.declared.Said.the-variants.{Report}
-use Rattle.host.specs.Request.{requestData, requestPacket, isDue, isTaken, isRequest}
+use Rattle.host.specs.Request.{requestData, requestPacket, isTaken, isRequest}
 use Rattle.host.specs.Heard.{same, isControl, isReport, endedBy, wordIn, saidBy, saidTo}
 use Rattle.host.specs.Machine.{start, burst, State, idle, begun, ending, heard, step}
 use Rattle.host.proofs.Lasting.{packet-reads}
@@ -84,7 +85,7 @@ played-again w b good = go (verdictOf b)
     go (Intact i g n) = wall-again i g (command (dataOf b (Intact i g n))) w good
 
 sent-often : (w : Wall) (b : List ℕ) (n : ℕ) → GoodWall w → session w (replicate (suc n) b) .wall ≡ played w b .wall
-unfolding session
+unfolding byBurst
 sent-often w b zero good = refl
 sent-often w b (suc n) good = sent-often (played w b .wall) b n (played-good w b good) ∙ played-again w b good
 
@@ -92,26 +93,21 @@ pub sent-again : SentAgain
 sent-again t f b n = sent-often (panelsOf t) b n (f .good)
 
 -- The box answers a request to a panel that is there as that panel judges it.
-swap : (a b : Bool) → (a && b) ≡ true → (b && a) ≡ true
-swap true true e = refl
-swap true false e = e
-swap false b e = absurd (false≢true e)
-
 word-report : (code row : ℕ) (values : List ℕ) → foundBy code ≡ Get row → eqb (getCode row) 0 ≡ false → allowedFor row values ≡ true
     → wordIn code (getCode row ∷ values) ≡ Report
 unfolding wordIn isControl same endedBy isReport
 word-report code row values found notZero allowed = rw (notZero, found, eq-eqb (getCode row) _ refl, allowed)
 
-module _ (w : Wall) (r : Request) (k : ℕ) (asked : isRequest r ≡ true) (due : isDue (r .id) (r .group) ≡ true) (there : placeOf (r .id) w ≡ At k) where
+module _ (w : Wall) (r : Request) (k : ℕ) (asked : isRequest r ≡ true) (due : isHeard (r .id) (r .group) ≡ true) (there : placeOf (r .id) w ≡ At k) where
   abbrev panel : Panel
   panel = getD w k blank
 
   box-answers : played w (requestPacket r) .reply ≡ replyBy (r .id) (judge (command (requestData r)) panel)
-  unfolding played isDue isHeard
+  unfolding played
   box-answers =
       let (verdict, part) = packet-reads r asked in
       let d = ap (dataOf (requestPacket r)) (sym verdict) ∙ part in
-      rw (verdict, d, swap (not (eqb (r .id .0) 0)) _ due, there)
+      rw (verdict, d, due, there)
 
   -- and the host, which waits, hears a packet from that panel
   abbrev waiting : State

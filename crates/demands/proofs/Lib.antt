@@ -1,3 +1,4 @@
+pub mod Numbers
 pub mod Demand1
 pub mod Demand2
 pub mod Demand3

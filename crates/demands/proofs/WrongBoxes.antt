@@ -12,18 +12,19 @@ use Rattle.packet.specs.declared.Verdict.the-variants.{Damaged}
 use Rattle.packet.specs.Xor.{_⊕_, xorAll}
 use Rattle.packet.specs.Packet.{isIntact, verdictOf, dataOf, packetOf}
 use Rattle.panels.specs.Wall.{Wall, placeFrom}
-use Rattle.panels.specs.Addressed.{reaches, isHeard}
+use Rattle.packet.specs.Answered.{isHeard}
+use Rattle.panels.specs.Addressed.{reaches}
 use Rattle.line.specs.declared.Answer.{Answer}
 use Rattle.line.specs.declared.Answer.the-variants.{Silence, Word, Report}
 use Rattle.line.specs.declared.Reply.{Reply}
 use Rattle.line.specs.Reply.{silence, sentBytes}
 use Rattle.line.specs.Judged.{command, stored, judge}
 use Rattle.line.specs.Played.{turned, damagedReply, played}
-use Rattle.line.specs.Session.{Ended, session}
+use Rattle.line.specs.Session.{byBurst, Ended, session}
 use Rattle.line.specs.Cases.{twoPanels}
 use Rattle.host.specs.Heard.{same}
 use Rattle.demands.specs.Demand3.{Box, SilenceOrNack}
-use Rattle.demands.specs.WrongBoxes.{byBurst, always, everyNav, neverStores, firstAlone, ifSilent, storesAnswered, oneLate, written, Differs, AllDiffer, SomeWithstand}
+use Rattle.demands.specs.WrongBoxes.{always, everyNav, neverStores, firstAlone, ifSilent, storesAnswered, oneLate, written, Differs, AllDiffer, SomeWithstand}
 use Rattle.demands.proofs.Demand3.{withstands, damaged-still, damaged-may}
 
 -- the bytes that a box sends in that session
@@ -39,7 +40,7 @@ others = byBurst everyNav ∷ byBurst neverStores ∷ firstAlone ∷ byBurst sto
 
 -- one computed test
 tested : (sentBy session ≡ ours) × (map (λ (box : Box). same (sentBy box) ours) others ≡ false ∷ false ∷ false ∷ false ∷ false ∷ [])
-unfolding settings foundFrom allowedByRow freshValues within allAllowed flatten _⊕_ xorAll isIntact verdictOf dataOf packetOf placeFrom reaches isHeard sentBytes command stored laidAt judge turned damagedReply played session twoPanels byBurst written same
+unfolding settings foundFrom allowedByRow freshValues within allAllowed flatten _⊕_ xorAll isIntact verdictOf dataOf packetOf placeFrom reaches isHeard sentBytes command stored laidAt judge turned damagedReply played twoPanels byBurst written same
 tested = (refl, refl)
 
 same-bytes : (box : Box) → box twoPanels written ≡ session twoPanels written → sentBy box ≡ ours

@@ -29,10 +29,11 @@ use Rattle.image.specs.declared.Written.{Written}
 use Rattle.image.specs.declared.Written.the-variants.{Bytes as WrittenBytes, NoRoom as NotWritten}
 use Rattle.image.specs.Written.{writtenOf, outputOf as imageOutput}
 use Rattle.image.specs.Read.{readOf}
+use Rattle.host.specs.declared.Host.{Host}
 use Rattle.host.specs.declared.Refusal.{Refusal as HostRefusal}
 use Rattle.host.specs.declared.Outcome.the-variants.{Refused}
-use Rattle.host.specs.Machine.{State, Happening}
-use Rattle.host.specs.Calls.{call, bytesOf}
+use Rattle.host.specs.Machine.{Happening}
+use Rattle.host.specs.Calls.{stateOf, stepOf, call, bytesOf}
 
 -- a refusal of add or remove leaves the wall as it was
 abbrev pub AddRefused : Type 0
@@ -48,8 +49,9 @@ ReadRefused = (image : List ℕ) → (readOf image .refusal ≡ Sound → ⊥) �
 -- a refused call of the host leaves the host and the output as they were
 abbrev pub CallRefused : Type 0
 CallRefused =
-    (out : List ℕ) (s : State) (h : Happening) (r : HostRefusal) → call out s h .outcome ≡ Refused r
-    → (call out s h .next ≡ s) × (laidOver (bytesOf (call out s h)) out ≡ out)
+    (out : List ℕ) (host : Host) (h : Happening) (r : HostRefusal)
+    → let m = call out (stateOf host) h in
+    m .outcome ≡ Refused r → (stepOf m .host ≡ host) × (laidOver (bytesOf m) out ≡ out)
 
 -- a burst is bad for a panel: empty or damaged, not to this panel, or not available
 abbrev pub Bad : Verdict → List ℕ → Panel → Type 0

@@ -81,19 +81,19 @@ ReadsBack =
     → let image = take (sizeOf (panelsOf t)) (outputOf (panelsOf t) out) in
     (inTable (readOf image) .refusal ≡ Sound) × (inTable (readOf image) .table ≡ t)
 
--- Fields go by code: in whatever order they stand, two images that are sound read as the same table; and a record without a
--- field reads as with that field at its fresh value.
+-- Fields go by code: an image without fault, and another whose records hold the same fields in any order, read as the same wall
 abbrev pub AnyOrder : Type 0
 AnyOrder =
     (image other : List ℕ) → isSound (wholeRefusal other) ≡ true → EachRecord Permuted (recordsIn image) (recordsIn other)
     → readOf image .refusal ≡ Sound → readOf other ≡ readOf image
 
--- the same for images whose records give each setting the same values, where a code that is not there gives its fresh ones
+-- or whose records give each setting the same values, where a code that is not there gives its fresh ones;
 abbrev pub ByCode : Type 0
 ByCode =
     (image other : List ℕ) → isSound (wholeRefusal other) ≡ true → EachRecord GiveAlike (recordsIn image) (recordsIn other)
     → readOf image .refusal ≡ Sound → readOf other ≡ readOf image
 
+-- and fields without a code read as with that field at its fresh value.
 abbrev pub LeftOut : Type 0
 LeftOut =
     (row : ℕ) (es : List Entry) → row < 8 → Without (setCode row) es → fieldsIn (bytesOf es) .refusal ≡ Sound

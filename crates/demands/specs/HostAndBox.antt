@@ -15,9 +15,10 @@ use Rattle.panels.specs.WellFormed.{WellFormed}
 use Rattle.line.specs.Reply.{sentBytes}
 use Rattle.line.specs.Played.{played}
 use Rattle.line.specs.Session.{session}
+use Rattle.packet.specs.Answered.{isHeard}
 use Rattle.host.specs.declared.Request.{Request}
 use Rattle.host.specs.declared.Outcome.the-variants.{Ack, Report}
-use Rattle.host.specs.Request.{requestPacket, isDue, isRequest}
+use Rattle.host.specs.Request.{requestPacket, isRequest}
 use Rattle.host.specs.Machine.{start, burst, Move, idle, over, step}
 
 -- A burst, and so a set, leaves the same table however often it is sent.
@@ -35,7 +36,7 @@ EndsWith Nothing p m = ⊥
 -- On a line that loses nothing, a request to a panel that is there ends so.
 abbrev pub Lossless : Type 0
 Lossless =
-    (t : Table) → WellFormed t → (r : Request) (k : ℕ) → isRequest r ≡ true → isDue (r .id) (r .group) ≡ true
+    (t : Table) → WellFormed t → (r : Request) (k : ℕ) → isRequest r ≡ true → isHeard (r .id) (r .group) ≡ true
     → placeOf (r .id) (panelsOf t) ≡ At k
     → let answer = sentBytes (played (panelsOf t) (requestPacket r) .reply) in
     EndsWith (foundBy (r .code)) (getD (panelsOf t) k blank) (step (step idle (start r) .next) (burst answer))

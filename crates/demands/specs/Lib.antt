@@ -1,4 +1,5 @@
 -- The three demands, over the definitions that the code is proved equal to.
+pub mod Numbers
 pub mod Demand1
 pub mod Demand2
 pub mod Demand3

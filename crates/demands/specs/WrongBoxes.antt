@@ -12,17 +12,9 @@ use Rattle.line.specs.declared.Answer.the-variants.{Silence, Word, Report}
 use Rattle.line.specs.declared.Reply.{Reply}
 use Rattle.line.specs.Reply.{silence, wordFrom}
 use Rattle.line.specs.Played.{Outcome, played}
-use Rattle.line.specs.Session.{session}
+use Rattle.line.specs.Session.{byBurst, session}
 use Rattle.line.specs.Cases.{twoPanels}
 use Rattle.demands.specs.Demand3.{Box, Withstands, SilenceOrNack}
-
--- a box that takes each burst by itself
-unfoldable pub byBurst : (Wall → List ℕ → Outcome) → Box
-byBurst rule w [] = record { wall = w; replies = [] }
-byBurst rule w (b ∷ bs) =
-    let o = rule w b in
-    let e = byBurst rule (o .wall) bs in
-    record { wall = e .wall; replies = o .reply ∷ e .replies }
 
 -- always the same: silent, or one stored report
 abbrev pub always : Reply → Wall → List ℕ → Outcome

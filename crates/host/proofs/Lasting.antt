@@ -12,13 +12,14 @@ use borrow.Author.Tests.{ltb-true, leb-true, lt-ltb}
 use lib.Dec.{ltb}
 use lib.ListN.{length, replicate, length-replicate, length-take, length-append, replicate-append-replicate}
 use Rattle.settings.proofs.Both.{both}
+use Rattle.packet.specs.Answered.{isHeard}
 use Rattle.packet.specs.Packet.{verdictOf}
 use Rattle.packet.specs.declared.Verdict.the-variants.{Intact}
 use Rattle.packet.proofs.Packets.{packet-verdict, packet-data}
 use Rattle.host.specs.declared.Request.{Request}
 use Rattle.host.specs.declared.Said.{Said}
 use Rattle.host.specs.declared.Said.the-variants.{Ack, Nack, Nav, Report, Nothing}
-use Rattle.host.specs.Request.{requestData, requestPacket, isDue, isRequest}
+use Rattle.host.specs.Request.{requestData, requestPacket, isRequest}
 use Rattle.host.specs.Heard.{saidTo, dataIn}
 use Rattle.host.specs.Machine.{Happening, start, burst, mark, State, Move, idle, sendings, mostSendings, waits, begun, again, ending, heard, step, run}
 use Rattle.host.specs.Lasting.{after, lasts, isNack, pushes, pushed, packets, countIn}
@@ -118,9 +119,9 @@ asking r = record { request = r; given = requestPacket r ∷ [] }
 
 begun-asking : (r : Request) → waits (begun r .next) ≡ true → (begun r .next ≡ asking r) × (begun r .sent ≡ requestPacket r ∷ [])
 unfolding begun
-begun-asking r w = go (isDue (r .id) (r .group)) refl
+begun-asking r w = go (isHeard (r .id) (r .group)) refl
   where
-    go : (t : Bool) → isDue (r .id) (r .group) ≡ t → (begun r .next ≡ asking r) × (begun r .sent ≡ requestPacket r ∷ [])
+    go : (t : Bool) → isHeard (r .id) (r .group) ≡ t → (begun r .next ≡ asking r) × (begun r .sent ≡ requestPacket r ∷ [])
     go true e = rw e (refl, refl)
     go false e = absurd (false≢true (rw e at w))
 

@@ -5,9 +5,10 @@ use mathlib.Core.List.{List, [], _∷_, map}
 use Prim.Native.Nat.{ℕ}
 use lib.Dec.{ltb}
 use lib.ListN.{replicate}
+use Rattle.packet.specs.Answered.{isHeard}
 use Rattle.host.specs.declared.Said.{Said}
 use Rattle.host.specs.declared.Said.the-variants.{Ack, Nack, Nav, Report, Nothing}
-use Rattle.host.specs.Request.{requestPacket, isDue, isRequest}
+use Rattle.host.specs.Request.{requestPacket, isRequest}
 use Rattle.host.specs.Heard.{saidTo, dataIn}
 use Rattle.host.specs.Machine.{Happening, start, burst, mark, State, Move, idle, sendings, mostSendings, waits, begun, again, ending, heard, step, run}
 use Rattle.host.specs.Calls.{nothingWaits, hostOf, stateOf, stepOf}
@@ -40,7 +41,7 @@ step-alike : (s : State) (h : Happening) → Alike s → Next (step s h)
 unfolding step heard begun
 step-alike s (start r) a =
     either (waits s) (record { alike = a })
-    (either (isRequest r) (either (isDue (r .id) (r .group)) (record { alike = refl }) (record { alike = refl })) (record { alike = a }))
+    (either (isRequest r) (either (isHeard (r .id) (r .group)) (record { alike = refl }) (record { alike = refl })) (record { alike = a }))
 step-alike s (burst b) a = either (waits s) (told-alike s (dataIn b) (saidTo (s .request) b) a) (record { alike = a })
 step-alike s mark a = either (waits s) (again-alike s a) (record { alike = a })
 

@@ -4,6 +4,7 @@ use mathlib.Core.Bool.{Bool, cond}
 use mathlib.Core.List.{List, [], _∷_}
 use lib.ListN.{length, drop, replicate}
 use lib.Dec.{ltb}
+use Rattle.packet.specs.Answered.{isHeard}
 use Rattle.packet.specs.Packet.{monitorId, groupId}
 use Rattle.host.specs.declared.Request.{Request}
 use Rattle.host.specs.declared.Refusal.the-variants.{Busy, NotARequest}
@@ -11,7 +12,7 @@ use Rattle.host.specs.declared.Outcome.{Outcome}
 use Rattle.host.specs.declared.Outcome.the-variants.{Idle, Waiting, Unheard, Ack as Acked, Nav as NotAvailable, Report as Reported, GivenUp, Refused}
 use Rattle.host.specs.declared.Said.{Said}
 use Rattle.host.specs.declared.Said.the-variants.{Ack, Nack, Nav, Report, Nothing}
-use Rattle.host.specs.Request.{isRequest, isDue, requestPacket}
+use Rattle.host.specs.Request.{isRequest, requestPacket}
 use Rattle.host.specs.Heard.{saidTo, dataIn}
 
 -- A request is started, a burst is heard, or the mark says that 500 ms have passed.
@@ -62,7 +63,7 @@ over o vs = record { next = idle; sent = []; outcome = o; values = vs }
 unfoldable pub begun : Request → Move
 begun r =
     let p = requestPacket r ∷ [] in
-    cond (isDue (r .id) (r .group))
+    cond (isHeard (r .id) (r .group))
     (record { next = record { request = r; given = p }; sent = p; outcome = Waiting; values = [] })
     (record { next = idle; sent = p; outcome = Unheard (length p); values = [] })
 

@@ -8,8 +8,7 @@ use Rattle.settings.specs.Settings.{foundBy, allowedFor}
 use Rattle.settings.specs.declared.Found.{Found}
 use Rattle.settings.specs.declared.Found.the-variants.{Set, Get, Nothing}
 use Rattle.packet.specs.Packet.{packetOf}
-use Rattle.packet.specs.declared.MonitorId.{MonitorId}
-use Rattle.packet.specs.declared.GroupId.{GroupId}
+use Rattle.packet.specs.Answered.{isHeard}
 use Rattle.host.specs.declared.Request.{Request}
 
 -- the values that count; the others of the seven mean nothing
@@ -22,14 +21,10 @@ requestData r = r .code ∷ valuesOf r
 unfoldable pub requestPacket : Request → List ℕ
 requestPacket r = packetOf (r .id) (r .group) (requestData r)
 
--- an answer is due: not from ID 0, and not from a group
-unfoldable pub isDue : MonitorId → GroupId → Bool
-isDue id group = not (eqb (id .0) 0) && eqb (group .0) 0
-
 -- a set to a group 0 to 254 with allowed values; a get, which has no values, where an answer is due
 unfoldable pub isTaken : Request → Found → Bool
 isTaken r (Set row) = not (eqb (r .group .0) 255) && allowedFor row (valuesOf r)
-isTaken r (Get row) = eqb (r .count) 0 && isDue (r .id) (r .group)
+isTaken r (Get row) = eqb (r .count) 0 && isHeard (r .id) (r .group)
 isTaken r Nothing = false
 
 -- a request from the table: at most seven values, and one of these two

@@ -96,7 +96,7 @@ fn begin(request: Request, out: &mut [u8]) -> Step
     ensures { λ r. ⌜ Answers (begun request) (now (out .entry)) r (now (out .exit)) ⌝ }
 {
     let length = sending::send(request, out);
-    if sending::is_due(request.id, request.group) {
+    if packet::is_answered(request.id, request.group) {
         plain(
             Host {
                 request,

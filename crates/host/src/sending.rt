@@ -5,18 +5,9 @@ ghost use mathlib.Core.List.{_∷_};
 ghost use lib.ListN.{length, take};
 ghost use Rattle.settings.specs.Settings.{allowedFor};
 ghost use Rattle.packet.specs.Packet.{laidOver};
-ghost use Rattle.host.specs.Request.{isRequest, isDue, requestPacket};
+ghost use Rattle.host.specs.Request.{isRequest, requestPacket};
 use crate::Request;
-use packet::GroupId;
-use packet::MonitorId;
 use settings::Found;
-
-// Whether a panel answers: not to ID 0, and not to a group.
-pub(crate) fn is_due(id: MonitorId, group: GroupId) -> bool
-    ensures { λ r. ⌜ r ≡ isDue id group ⌝ }
-{
-    id.0 != 0 && group.0 == 0
-}
 
 // Whether the first count of these values may be set in a row.
 fn may_set(row: usize, v: [u8; 7], count: usize) -> bool
@@ -48,7 +39,7 @@ pub(crate) fn is_request(request: Request) -> bool
             if count != 0 {
                 return false;
             }
-            is_due(request.id, group)
+            packet::is_answered(request.id, group)
         }
         Found::Nothing => false,
     }

@@ -1,6 +1,6 @@
 -- A setup image read. 01, "Setup image, form 1", refusals 11 to 18: 11 to 15 on the whole, then records in order, each its
 -- 16 and then field after field its 17 and then 18; the first fault counts.
-use Prim.Native.Nat.{ℕ, _+_}
+use Prim.Native.Nat.{ℕ}
 use mathlib.Core.Bool.{Bool, true, false, cond, not, _&&_}
 use mathlib.Core.List.{List, [], _∷_, _++_}
 use lib.Dec.{leb, eqb}

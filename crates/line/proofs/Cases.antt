@@ -6,7 +6,8 @@ use Rattle.settings.specs.Laid.{laidAt}
 use Rattle.packet.specs.Xor.{_⊕_, xorAll}
 use Rattle.packet.specs.Packet.{isIntact, verdictOf, dataOf, packetOf}
 use Rattle.panels.specs.Wall.{placeFrom}
-use Rattle.panels.specs.Addressed.{reaches, isHeard}
+use Rattle.packet.specs.Answered.{isHeard}
+use Rattle.panels.specs.Addressed.{reaches}
 use Rattle.line.specs.Reply.{sentBytes}
 use Rattle.line.specs.Judged.{command, stored, judge}
 use Rattle.line.specs.Played.{turned, damagedReply, played}

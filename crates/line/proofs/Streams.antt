@@ -12,7 +12,7 @@ use Rattle.panels.specs.Wall.{Wall}
 use Rattle.line.specs.declared.Receiver.{Receiver}
 use Rattle.line.specs.declared.Reply.{Reply}
 use Rattle.line.specs.Played.{Outcome, damagedReply, played}
-use Rattle.line.specs.Session.{session, Event, byte, quiet, burstsAfter, receiverOf, withByte, burstOf, streamed}
+use Rattle.line.specs.Session.{byBurst, session, Event, byte, quiet, burstsAfter, receiverOf, withByte, burstOf, streamed}
 use Rattle.line.proofs.Bursts.{played-long, damaged-alike}
 
 abbrev receiver : List ℕ → ℕ → Receiver
@@ -84,7 +84,7 @@ burst-alike w l = by-size _ (length l) 41 (λ h. ap (played w) (kept l h)) (long
 
 -- from what was heard since the last mark on
 pub stream-after : (l : List ℕ) (w : Wall) (es : List Event) → streamed (receiverOf l) w es ≡ session w (burstsAfter l es)
-unfolding streamed session burstsAfter
+unfolding streamed byBurst burstsAfter
 stream-after l w [] = refl
 stream-after l w (byte b ∷ es) = ap (λ (r : Receiver). streamed r w es) (with-byte l b) ∙ stream-after (l ++ b ∷ []) w es
 stream-after l w (quiet ∷ es) =

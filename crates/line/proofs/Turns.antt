@@ -14,7 +14,8 @@ use Rattle.packet.specs.Packet.{groupId}
 use Rattle.panels.specs.declared.Panel.{Panel}
 use Rattle.panels.specs.declared.Place.the-variants.{At, Nowhere}
 use Rattle.panels.specs.Wall.{Wall, blank, tableOf, placeOf}
-use Rattle.panels.specs.Addressed.{reaches, isHeard}
+use Rattle.packet.specs.Answered.{isHeard}
+use Rattle.panels.specs.Addressed.{reaches}
 use Rattle.panels.specs.WellFormed.{Absent, GoodWall}
 use Rattle.panels.proofs.Lists.{getD-inside, store}
 use Rattle.panels.proofs.Laws.{place-there, place-nowhere}

@@ -14,7 +14,8 @@ use Rattle.panels.specs.declared.Panel.{Panel}
 use Rattle.panels.specs.declared.Place.{Place}
 use Rattle.panels.specs.declared.Place.the-variants.{At, Nowhere}
 use Rattle.panels.specs.Wall.{Wall, blank, tableOf, placeOf}
-use Rattle.panels.specs.Addressed.{reaches, isHeard}
+use Rattle.packet.specs.Answered.{isHeard}
+use Rattle.panels.specs.Addressed.{reaches}
 use Rattle.line.specs.declared.Reply.{Reply}
 use Rattle.line.specs.declared.Played.{Played}
 use Rattle.line.specs.Reply.{silence, wordFrom}
@@ -58,7 +59,7 @@ played w burst = playedBy (verdictOf burst) w burst
 abbrev pub inTable : Outcome → Played
 inTable o = record { table = tableOf (o .wall); reply = o .reply }
 
--- Steps of the pass over the table: one panel asked, and one place turned.
+-- one panel asked, and the table with it as it then is
 abbrev pub asked : Wall → ℕ → Command → Played
 asked w k c =
     let p = getD w k blank in

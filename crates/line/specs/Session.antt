@@ -9,19 +9,23 @@ use Rattle.panels.specs.Wall.{Wall, panelsOf, tableOf}
 use Rattle.line.specs.declared.Reply.{Reply}
 use Rattle.line.specs.declared.Receiver.{Receiver}
 use Rattle.line.specs.declared.Heard.{Heard}
-use Rattle.line.specs.Played.{played}
+use Rattle.line.specs.Played.{Outcome, played}
 
 pub record Ended : Type 0 where
   pub wall : Wall
   pub replies : List Reply
 
--- bursts played one after the other
-unfoldable pub session : Wall → List (List ℕ) → Ended
-session w [] = record { wall = w; replies = [] }
-session w (b ∷ bs) =
-    let o = played w b in
-    let e = session (o .wall) bs in
+-- bursts taken one after the other, each by the same rule
+unfoldable pub byBurst : (Wall → List ℕ → Outcome) → Wall → List (List ℕ) → Ended
+byBurst rule w [] = record { wall = w; replies = [] }
+byBurst rule w (b ∷ bs) =
+    let o = rule w b in
+    let e = byBurst rule (o .wall) bs in
     record { wall = e .wall; replies = o .reply ∷ e .replies }
+
+-- and played
+abbrev pub session : Wall → List (List ℕ) → Ended
+session = byBurst played
 
 -- what the line driver reports
 pub data Event : Type 0 where

@@ -7,7 +7,7 @@ ghost use lib.ListN.{length, drop};
 ghost use Rattle.settings.specs.Settings.{byteCount, allowedFor};
 ghost use Rattle.packet.specs.Packet.{groupId};
 ghost use Rattle.panels.specs.Wall.{tableOf, panelsOf};
-ghost use Rattle.panels.specs.Addressed.{isHeard};
+ghost use Rattle.packet.specs.Answered.{isHeard};
 ghost use Rattle.panels.specs.WellFormed.{WellFormed};
 ghost use Rattle.line.specs.Judged.{setOf, command, orderOf};
 ghost use Rattle.line.specs.Played.{turned, playedPacket, damagedReply, played, inTable, asked};
@@ -151,7 +151,7 @@ pub fn play(t: Table, burst: &[u8]) -> Played
             count: _,
         } => {
             let d = packet::data_part(burst, verdict);
-            if panels::is_answered(id, group) {
+            if packet::is_answered(id, group) {
                 return play_heard(t, id, d);
             }
             play_unheard(t, id, group, d)

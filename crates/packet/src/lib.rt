@@ -2,6 +2,7 @@
 ghost use mathlib.Core.Path.{_≡_};
 ghost use Rattle.packet.specs.Xor.{xorAll};
 ghost use Rattle.packet.specs.Control.{controlByte};
+ghost use Rattle.packet.specs.Answered.{isHeard};
 ghost use Rattle.packet.specs.Packet.{isIntact, verdictOf, dataOf, writtenOf, outputOf};
 
 pub struct MonitorId(pub u8);
@@ -31,6 +32,13 @@ pub enum Control {
     Ack,
     Nack,
     Nav,
+}
+
+// Whether a packet with this ID and group is answered.
+pub fn is_answered(id: MonitorId, group: GroupId) -> bool
+    ensures { λ r. ⌜ r ≡ isHeard id group ⌝ }
+{
+    group.0 == 0 && id.0 != 0
 }
 
 // The byte behind 0x00 in a control word's data.

@@ -11,7 +11,3 @@ reaches i g p =
     cond (eqb (g .0) 0)
     (eqb (i .0) 0 || eqb (p .id .0) (i .0))
     (not (eqb (g .0) 255) && eqb (p .group .0) (g .0))
-
--- an answer is due: group 0 and an ID from 1 to 255
-unfoldable pub isHeard : MonitorId → GroupId → Bool
-isHeard i g = eqb (g .0) 0 && not (eqb (i .0) 0)

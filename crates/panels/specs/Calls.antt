@@ -14,7 +14,7 @@ use Rattle.panels.specs.declared.Changed.{Changed}
 use Rattle.panels.specs.Wall.{Wall, freshPanel, tableOf, placeOf}
 
 -- 01's number, 0 where nothing was refused
-unfoldable pub refusalOf : Refusal → ℕ
+abbrev pub refusalOf : Refusal → ℕ
 refusalOf Nothing = 0
 refusalOf Full = 1
 refusalOf IdZero = 2

@@ -3,8 +3,8 @@ ghost use mathlib.Core.Path.{_≡_};
 ghost use mathlib.Core.List.{[]};
 ghost use Prim.Native.Nat.{_<_};
 ghost use Rattle.panels.specs.Wall.{freshPanel, blank, tableOf, panelsOf, placeOf};
-ghost use Rattle.panels.specs.Addressed.{reaches, isHeard};
-ghost use Rattle.panels.specs.Calls.{addedTo, without, removedFrom};
+ghost use Rattle.panels.specs.Addressed.{reaches};
+ghost use Rattle.panels.specs.Calls.{refusalOf, addedTo, without, removedFrom};
 ghost use Rattle.panels.specs.WellFormed.{WellFormed};
 use packet::GroupId;
 use packet::MonitorId;
@@ -86,13 +86,6 @@ pub fn addresses(id: MonitorId, group: GroupId, p: Panel) -> bool
     group.0 != 255 && p.group.0 == group.0
 }
 
-// Whether a packet with this ID and group is answered.
-pub fn is_answered(id: MonitorId, group: GroupId) -> bool
-    ensures { λ r. ⌜ r ≡ isHeard id group ⌝ }
-{
-    group.0 == 0 && id.0 != 0
-}
-
 fn fresh_panel(id: MonitorId, group: GroupId) -> Panel
     ensures { λ r. ⌜ r ≡ freshPanel id group ⌝ }
 {
@@ -138,6 +131,20 @@ pub fn add(t: Table, id: MonitorId, group: GroupId) -> Changed
     Changed {
         refusal: Refusal::Nothing,
         table: next,
+    }
+}
+
+// 01's number for a refusal, 0 where there was none.
+pub fn refusal_number(r: Refusal) -> u8
+    ensures { λ n. ⌜ n ≡ refusalOf r ⌝ }
+{
+    match r {
+        Refusal::Nothing => 0,
+        Refusal::Full => 1,
+        Refusal::IdZero => 2,
+        Refusal::IdTaken => 3,
+        Refusal::GroupZero => 4,
+        Refusal::NoPanel => 6,
     }
 }
 

@@ -11,8 +11,8 @@ use Rattle.host.proofs.begin.Tie as tie
 send-requires : tie.Need-send-requires
 send-requires c κs = search needs
 
-is-due-requires : tie.Need-is-due-requires
-is-due-requires c κs = search needs
+is-answered-requires : tie.Need-is-answered-requires
+is-answered-requires c κs = search needs
 
 plain-requires : tie.Need-plain-requires
 plain-requires c κs = search needs
@@ -31,7 +31,7 @@ unfolding begun
 returns c = let sent = c .before .before .before .before .before in
     let r = sent .before .before .before .args .request in
     gives (record { request = r; given = requestPacket r ∷ [] }) _ _ _ _ _ _ refl (sent .send .ensures .0) (sent .send .ensures .1)
-    (simp (sym (c .before .before .is-due .ensures) ∙ c .before .if1 .taken)) (c .plain .ensures)
+    (simp (sym (c .before .before .is-answered .ensures) ∙ c .before .if1 .taken)) (c .plain .ensures)
 
 same-length-2 : tie.Need-same-length-2
 same-length-2 c = search needs
@@ -41,14 +41,14 @@ unfolding begun
 returns-2 c =
     let sent = c .before .before .before .before .before .before in
     gives idle _ _ _ _ _ _ (c .before .idle .ensures) (sent .send .ensures .0) (sent .send .ensures .1)
-    (simp (sym (c .before .before .before .is-due .ensures) ∙ c .before .before .if1 .left)) (c .plain2 .ensures)
+    (simp (sym (c .before .before .before .is-answered .ensures) ∙ c .before .before .if1 .left)) (c .plain2 .ensures)
 
 pub begin-spec : {M : Type 1} → statement M
 begin-spec =
     tie.close
     (tie.spec
     send-requires
-    is-due-requires
+    is-answered-requires
     plain-requires
     idle-requires
     plain-requires-2

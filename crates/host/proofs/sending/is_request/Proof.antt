@@ -48,8 +48,8 @@ returns-3 : tie.Need-returns-3
 unfolding isTaken
 returns-3 c = sym (past (c .before .before .before) _ (c .before .enum-told .given .1) ∙ simp (ne-eqb _ _ (c .if3 .taken)))
 
-is-due-requires : tie.Need-is-due-requires
-is-due-requires c κs = search needs
+is-answered-requires : tie.Need-is-answered-requires
+is-answered-requires c κs = search needs
 
 enum-told-2 : tie.Need-enum-told-2
 enum-told-2 c = search needs
@@ -64,7 +64,7 @@ returns-5 : tie.Need-returns-5
 unfolding isTaken
 returns-5 c =
     let found = c .before .before in
-    sym (past (found .before .before) _ (found .enum-told .given .1) ∙ simp (eq-eqb _ _ (c .before .if3 .left), sym (c .is-due .ensures)))
+    sym (past (found .before .before) _ (found .enum-told .given .1) ∙ simp (eq-eqb _ _ (c .before .if3 .left), sym (c .is-answered .ensures)))
 
 returns-6 : tie.Need-returns-6
 unfolding isTaken
@@ -81,7 +81,7 @@ is-request-spec =
     may-set-requires
     enum-told
     returns-3
-    is-due-requires
+    is-answered-requires
     enum-told-2
     returns-4
     returns-5

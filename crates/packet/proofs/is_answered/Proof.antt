@@ -1,8 +1,8 @@
 -- Each test decides a case of `isHeard`. Assumes nothing.
 use borrow.Author.Tests.{eq-eqb, ne-eqb}
-use Rattle.panels.specs.Addressed.{isHeard}
-use Rattle.panels.proofs.is_answered.Statement.{statement}
-use Rattle.panels.proofs.is_answered.Tie as tie
+use Rattle.packet.specs.Answered.{isHeard}
+use Rattle.packet.proofs.is_answered.Statement.{statement}
+use Rattle.packet.proofs.is_answered.Tie as tie
 
 returns : tie.Need-returns
 unfolding isHeard

@@ -1,0 +1,62 @@
+-- The numbers that calls refuse by. Assumes nothing.
+use Prim.Native.Nat.{_+_}
+use mathlib.Core.Path.{_≡_, refl}
+use mathlib.Core.Bool.{Bool, true, false, cond, _&&_}
+use lib.Dec.{leb, eqb}
+use lib.ListN.{length}
+use Rattle.packet.specs.declared.Written.the-variants.{Bytes as PacketBytes, TooLong, NoRoom as NoPacket}
+use Rattle.packet.specs.Packet.{writtenOf as packetWritten, refusalOf as packetNumber}
+use Rattle.panels.specs.declared.Place.{Place}
+use Rattle.panels.specs.declared.Place.the-variants.{At, Nowhere}
+use Rattle.panels.specs.declared.Refusal.the-variants.{Nothing, Full, IdZero, IdTaken, GroupZero, NoPanel}
+use Rattle.panels.specs.Wall.{placeOf}
+use Rattle.panels.specs.Calls.{refusalOf as tableNumber, ifThere, addRefusal}
+use Rattle.line.specs.declared.Sent.the-variants.{Bytes as AnswerBytes, NoRoom as NoAnswer}
+use Rattle.line.specs.Reply.{sentBytes, sentOf, refusalOf as answerNumber}
+use Rattle.image.specs.declared.Written.the-variants.{Bytes as ImageBytes, NoRoom as NoImage}
+use Rattle.image.specs.Written.{sizeOf, writtenOf as imageWritten, writeRefusalOf as imageNumber}
+use Rattle.demands.specs.Numbers.{Add, Remove, Image, Answer, Packet}
+
+pub add-number : Add
+unfolding addRefusal
+add-number w i g = go (leb 32 (length w)) (eqb (i .0) 0) (placeOf i w) (eqb (g .0) 0)
+  where
+    go : (a b : Bool) (q : Place) (c : Bool)
+        → tableNumber (cond a Full (cond b IdZero (ifThere q IdTaken (cond c GroupZero Nothing)))) ≡ cond a 1 (cond b 2 (ifThere q 3 (cond c 4 0)))
+    go true b q c = refl
+    go false true q c = refl
+    go false false (At k) c = refl
+    go false false Nowhere true = refl
+    go false false Nowhere false = refl
+
+pub remove-number : Remove
+remove-number w i = go (placeOf i w)
+  where
+    go : (q : Place) → tableNumber (ifThere q Nothing NoPanel) ≡ ifThere q 0 6
+    go (At k) = refl
+    go Nowhere = refl
+
+pub image-number : Image
+unfolding imageWritten imageNumber
+image-number w out = go (leb (sizeOf w) (length out))
+  where
+    go : (t : Bool) → imageNumber (cond t (ImageBytes (sizeOf w)) NoImage) ≡ cond t 0 19
+    go true = refl
+    go false = refl
+
+pub answer-number : Answer
+unfolding sentOf answerNumber
+answer-number out r = go (leb 40 (length out))
+  where
+    go : (t : Bool) → answerNumber (cond t (AnswerBytes (length (sentBytes r))) NoAnswer) ≡ cond t 0 19
+    go true = refl
+    go false = refl
+
+pub packet-number : Packet
+unfolding packetWritten packetNumber
+packet-number out d = go (leb 40 (length out)) (leb (length d) 36)
+  where
+    go : (a b : Bool) → packetNumber (cond a (cond b (PacketBytes (length d + 4)) TooLong) NoPacket) ≡ cond (a && b) 0 19
+    go true true = refl
+    go true false = refl
+    go false b = refl

@@ -1,0 +1,37 @@
+-- The numbers that calls refuse by, 0 where nothing is refused. 01, "Table calls and numbers": each is given exactly when its
+-- row says, lower numbers first. 11 to 18 go with the order of reading, in `image`; 21 and 22 with the machine, in `host`.
+use Prim.Native.Nat.{ℕ, _+_, _*_}
+use mathlib.Core.Bool.{cond, _&&_}
+use mathlib.Core.Path.{_≡_}
+use mathlib.Core.List.{List}
+use lib.Dec.{leb, eqb}
+use lib.ListN.{length}
+use Rattle.packet.specs.declared.MonitorId.{MonitorId}
+use Rattle.packet.specs.declared.GroupId.{GroupId}
+use Rattle.packet.specs.Packet.{writtenOf as packetWritten, refusalOf as packetNumber}
+use Rattle.panels.specs.Wall.{Wall, placeOf}
+use Rattle.panels.specs.Calls.{refusalOf as tableNumber, ifThere, addRefusal, removedFrom}
+use Rattle.line.specs.declared.Reply.{Reply}
+use Rattle.line.specs.Reply.{sentOf, refusalOf as answerNumber}
+use Rattle.image.specs.Written.{writtenOf as imageWritten, writeRefusalOf as imageNumber}
+
+-- 32 panels are there, ID 0, ID in the table, group 0
+abbrev pub Add : Type 0
+Add =
+    (w : Wall) (i : MonitorId) (g : GroupId)
+    → tableNumber (addRefusal w i g)
+    ≡ cond (leb 32 (length w)) 1 (cond (eqb (i .0) 0) 2 (ifThere (placeOf i w) 3 (cond (eqb (g .0) 0) 4 0)))
+
+-- no panel has that ID
+abbrev pub Remove : Type 0
+Remove = (w : Wall) (i : MonitorId) → tableNumber (removedFrom w i .refusal) ≡ ifThere (placeOf i w) 0 6
+
+-- lent output too short: image under 35n + 2 bytes, answer or packet under 40; data that fits no packet is refused so too
+abbrev pub Image : Type 0
+Image = (w : Wall) (out : List ℕ) → imageNumber (imageWritten w out) ≡ cond (leb (35 * length w + 2) (length out)) 0 19
+
+abbrev pub Answer : Type 0
+Answer = (out : List ℕ) (r : Reply) → answerNumber (sentOf out r) ≡ cond (leb 40 (length out)) 0 19
+
+abbrev pub Packet : Type 0
+Packet = (out d : List ℕ) → packetNumber (packetWritten out d) ≡ cond (leb 40 (length out) && leb (length d) 36) 0 19
