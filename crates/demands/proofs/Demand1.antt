@@ -22,12 +22,12 @@ use Rattle.panels.specs.Wall.{Wall, blank, placeOf, panelsOf}
 use Rattle.panels.specs.Addressed.{reaches}
 use Rattle.panels.specs.Calls.{ifThere, addRefusal, unlessRefused, added, without, removed}
 use Rattle.line.specs.declared.Sent.the-variants.{Bytes, NoRoom}
-use Rattle.line.specs.Reply.{sentBytes, sentOf, outputOf as answerOutput}
+use Rattle.line.specs.Reply.{sentBytes, sentOf, bytesSent, outputOf as answerOutput}
 use Rattle.line.specs.Judged.{command}
 use Rattle.line.specs.Played.{turned, playedBy, played}
 use Rattle.line.proofs.Turns.{map-same, stays}
 use Rattle.image.specs.declared.Written.the-variants.{Bytes as WrittenBytes, NoRoom as NotWritten}
-use Rattle.image.specs.Written.{imageOf, recordsOf, sizeOf, writtenOf, outputOf as imageOutput}
+use Rattle.image.specs.Written.{imageOf, recordsOf, sizeOf, writtenOf, bytesWritten, outputOf as imageOutput}
 use Rattle.image.specs.declared.Refusal.{Refusal as ImageRefusal}
 use Rattle.image.specs.declared.Refusal.the-variants.{Nothing as Sound}
 use Rattle.image.specs.Whole.{wholeRefusal, recordsIn}
@@ -43,7 +43,7 @@ use Rattle.host.specs.Request.{isRequest}
 use Rattle.host.specs.Machine.{Happening, start, burst, mark, State, Move, sendings, waits, quiet, begun, again, ending, heard, step}
 use Rattle.host.specs.Calls.{hostOf, stateOf, stepOf, call}
 use Rattle.host.proofs.Answers.{host-back}
-use Rattle.demands.specs.Demand1.{AddRefused, RemoveRefused, ReadRefused, CallRefused, Bad, BadBurst, bytesSent, bytesWritten, AnswerAlone, ImageAlone}
+use Rattle.demands.specs.Demand1.{AddRefused, RemoveRefused, ReadRefused, CallRefused, Bad, BadBurst, AnswerAlone, ImageAlone}
 
 pub add-refused : AddRefused
 unfolding added

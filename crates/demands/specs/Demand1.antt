@@ -19,15 +19,11 @@ use Rattle.panels.specs.Addressed.{reaches}
 use Rattle.panels.specs.Calls.{addRefusal, added, removedFrom, removed}
 use Rattle.panels.specs.WellFormed.{WellFormed}
 use Rattle.line.specs.declared.Reply.{Reply}
-use Rattle.line.specs.declared.Sent.{Sent}
-use Rattle.line.specs.declared.Sent.the-variants.{Bytes as SentBytes, NoRoom as NotSent}
-use Rattle.line.specs.Reply.{sentOf, outputOf as answerOutput}
+use Rattle.line.specs.Reply.{sentOf, bytesSent, outputOf as answerOutput}
 use Rattle.line.specs.Judged.{command, judge, notAvailable}
 use Rattle.line.specs.Played.{played}
 use Rattle.image.specs.declared.Refusal.the-variants.{Nothing as Sound}
-use Rattle.image.specs.declared.Written.{Written}
-use Rattle.image.specs.declared.Written.the-variants.{Bytes as WrittenBytes, NoRoom as NotWritten}
-use Rattle.image.specs.Written.{writtenOf, outputOf as imageOutput}
+use Rattle.image.specs.Written.{writtenOf, bytesWritten, outputOf as imageOutput}
 use Rattle.image.specs.Read.{readOf}
 use Rattle.host.specs.declared.Host.{Host}
 use Rattle.host.specs.declared.Refusal.{Refusal as HostRefusal}
@@ -62,16 +58,7 @@ Bad (Intact i g n) b p = (reaches i g p ≡ false) ⊎ (judge (command (dataOf b
 abbrev pub BadBurst : Type 0
 BadBurst = (w : Wall) (b : List ℕ) → ((k : ℕ) → k < length w → Bad (verdictOf b) b (getD w k blank)) → played w b .wall ≡ w
 
--- how many bytes were written, none on a refusal
-abbrev pub bytesSent : Sent → ℕ
-bytesSent (SentBytes n) = n
-bytesSent NotSent = 0
-
-abbrev pub bytesWritten : Written → ℕ
-bytesWritten (WrittenBytes n) = n
-bytesWritten NotWritten = 0
-
--- behind those the output is as before
+-- behind the bytes that were written the output is as before
 abbrev pub AnswerAlone : Type 0
 AnswerAlone = (out : List ℕ) (r : Reply) → let n = bytesSent (sentOf out r) in drop n (answerOutput out r) ≡ drop n out
 

@@ -54,6 +54,11 @@ unfoldable pub writeRefusalOf : Written → ℕ
 writeRefusalOf (Bytes n) = 0
 writeRefusalOf NoRoom = 19
 
+-- how many bytes were written, none on a refusal
+abbrev pub bytesWritten : Written → ℕ
+bytesWritten (Bytes n) = n
+bytesWritten NoRoom = 0
+
 -- the output after it: past the image it is untouched, and on a refusal it is as before
 unfoldable pub outputOf : Wall → List ℕ → List ℕ
 outputOf w out = cond (leb (sizeOf w) (length out)) (laidOver (imageOf (recordsOf w)) out) out

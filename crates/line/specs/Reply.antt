@@ -42,5 +42,10 @@ unfoldable pub refusalOf : Sent → ℕ
 refusalOf (Bytes n) = 0
 refusalOf NoRoom = 19
 
+-- how many bytes went out, none on a refusal
+abbrev pub bytesSent : Sent → ℕ
+bytesSent (Bytes n) = n
+bytesSent NoRoom = 0
+
 unfoldable pub outputOf : List ℕ → Reply → List ℕ
 outputOf out r = cond (leb 40 (length out)) (laidOver (sentBytes r) out) out

@@ -8,17 +8,12 @@ use lib.ListN.{length}
 use Rattle.packet.specs.Packet.{laidOver}
 use Rattle.line.specs.declared.Reply.{Reply}
 use Rattle.line.specs.declared.Sent.{Sent}
-use Rattle.line.specs.declared.Sent.the-variants.{Bytes, NoRoom}
-use Rattle.line.specs.Reply.{sentBytes, sentOf, outputOf}
+use Rattle.line.specs.declared.Sent.the-variants.{Bytes}
+use Rattle.line.specs.Reply.{sentBytes, sentOf, bytesSent, outputOf}
 use Rattle.undivarro.proofs.Lengths.{sent-few}
 use borrow.Author.Needs.{needs}
 use Rattle.undivarro.proofs.put_answer.Statement.{statement}
 use Rattle.undivarro.proofs.put_answer.Tie as tie
-
--- the number that the match makes of it
-abbrev number-of : Sent → ℕ
-number-of (Bytes n) = n
-number-of NoRoom = 0
 
 fits : (out : List ℕ) (r : Reply) → 40 ≤ length out → (sentOf out r ≡ Bytes (length (sentBytes r))) × (outputOf out r ≡ laidOver (sentBytes r) out)
 unfolding sentOf outputOf
@@ -27,11 +22,11 @@ fits out r h = (simp (le-leb _ _ h), simp (le-leb _ _ h))
 -- what was sent, whatever the match told
 sent : (c : tie.After-write-answer) (s : Sent) → c .write-answer .result ≡ s
     → let a = c .before .before .before .args in
-    (number-of s ≡ length (sentBytes (a .reply))) × (c .write-answer .last .1 .0 ≡ laidOver (sentBytes (a .reply)) (a .out .now))
+    (bytesSent s ≡ length (sentBytes (a .reply))) × (c .write-answer .last .1 .0 ≡ laidOver (sentBytes (a .reply)) (a .out .now))
 sent c s e =
     let start = c .before .before .before in
     let f = fits _ (start .args .reply) (start .pre) in
-    (ap number-of (sym e ∙ c .write-answer .ensures .0 ∙ f .0), c .write-answer .ensures .1 ∙ f .1)
+    (ap bytesSent (sym e ∙ c .write-answer .ensures .0 ∙ f .0), c .write-answer .ensures .1 ∙ f .1)
 
 write-answer-requires : tie.Need-write-answer-requires
 write-answer-requires c κs = search needs

@@ -8,18 +8,13 @@ use lib.ListN.{length}
 use Rattle.packet.specs.Packet.{laidOver}
 use Rattle.panels.specs.Wall.{Wall, panelsOf}
 use Rattle.image.specs.declared.Written.{Written}
-use Rattle.image.specs.declared.Written.the-variants.{Bytes, NoRoom}
-use Rattle.image.specs.Written.{sizeOf, writtenOf, outputOf}
+use Rattle.image.specs.declared.Written.the-variants.{Bytes}
+use Rattle.image.specs.Written.{sizeOf, writtenOf, bytesWritten, outputOf}
 use Rattle.image.proofs.Back.{image-size}
 use Rattle.undivarro.specs.Calls.{setupOf}
 use borrow.Author.Needs.{needs}
 use Rattle.undivarro.proofs.put_setup.Statement.{statement}
 use Rattle.undivarro.proofs.put_setup.Tie as tie
-
--- the number that the match makes of it
-abbrev number-of : Written → ℕ
-number-of (Bytes n) = n
-number-of NoRoom = 0
 
 fits : (w : Wall) (out : List ℕ) → sizeOf w ≤ length out → (writtenOf w out ≡ Bytes (sizeOf w)) × (outputOf w out ≡ laidOver (setupOf w) out)
 unfolding writtenOf outputOf
@@ -28,12 +23,12 @@ fits w out h = (simp (le-leb _ _ h), simp (le-leb _ _ h))
 -- what was written, whatever the match told
 laid : (c : tie.After-write-image) (s : Written) → c .write-image .result ≡ s
     → let a = c .before .before .before .args in
-    (number-of s ≡ length (setupOf (panelsOf (a .t)))) × (c .write-image .last .1 .0 ≡ laidOver (setupOf (panelsOf (a .t))) (a .out .now))
+    (bytesWritten s ≡ length (setupOf (panelsOf (a .t)))) × (c .write-image .last .1 .0 ≡ laidOver (setupOf (panelsOf (a .t))) (a .out .now))
 laid c s e =
     let start = c .before .before .before in
     let w = panelsOf (start .args .t) in
     let f = fits w _ (start .pre .1) in
-    (ap number-of (sym e ∙ c .write-image .ensures .0 ∙ f .0) ∙ sym (image-size w (start .pre .0 .good)), c .write-image .ensures .1 ∙ f .1)
+    (ap bytesWritten (sym e ∙ c .write-image .ensures .0 ∙ f .0) ∙ sym (image-size w (start .pre .0 .good)), c .write-image .ensures .1 ∙ f .1)
 
 write-image-requires : tie.Need-write-image-requires
 write-image-requires c κs = search needs
