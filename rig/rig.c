@@ -61,16 +61,20 @@ struct setup {
 /* The setup in the file, with all fields of all panels by rising code. */
 static int load(const char *path, struct setup *setup)
 {
+    uint8_t image[SETUP_FILE_LIMIT + 1];
     size_t len;
-    uint8_t *image = load_setup(path, &len);
-    if (!image && errno == ENOENT) {
+    if (!load_setup(path, image, &len)) {
+        if (errno != ENOENT)
+            return not_done("read", path);
         fprintf(stderr, "rig: there is no %s; make it with: rig new %s ID:GROUP ...\n", path, path);
         return BAD;
     }
-    if (!image)
-        return not_done("read", path);
+    if (len > SETUP_FILE_LIMIT) {
+        fprintf(stderr, "rig: %s: over %d bytes; a setup image has at most %d, so this is not one\n", path,
+                SETUP_FILE_LIMIT, UNDIVARRO_IMAGE_CAP);
+        return REFUSED;
+    }
     struct undivarro_result r = undivarro_read(image, len, setup->bytes, sizeof setup->bytes);
-    free(image);
     setup->len = r.image_len;
     return r.refusal ? refused(path, r.refusal) : DONE;
 }
@@ -170,6 +174,28 @@ static bool small_number(const char **text, char end, uint8_t *number)
     return true;
 }
 
+/* The library gave 16, which is about one record: names its panel and the fault, the first in 01's words for 16. */
+static int refused_panel(const char *path, const uint8_t *records, size_t count, char **panels)
+{
+    for (size_t k = 0; k < count; k++) {
+        size_t first = 0;
+        while (records[2 * first] != records[2 * k])
+            first++;
+        if (records[2 * k] == 0)
+            fprintf(stderr, "rig: %s: refusal 16: %s has ID 0; IDs are 1 to 255\n", path, panels[k]);
+        else if (records[2 * k + 1] == 0)
+            fprintf(stderr, "rig: %s: refusal 16: %s has group 0; groups are 1 to 255, and 255 is group off\n", path,
+                    panels[k]);
+        else if (first < k)
+            fprintf(stderr, "rig: %s: refusal 16: %s has the ID of %s; each panel has an ID of its own\n", path, panels[k],
+                    panels[first]);
+        else
+            continue;
+        return REFUSED;
+    }
+    return refused(path, 16);
+}
+
 static int make_new(const char *path, size_t count, char **panels)
 {
     /* Records without fields are fresh panels. */
@@ -192,6 +218,8 @@ static int make_new(const char *path, size_t count, char **panels)
 
     struct setup setup;
     struct undivarro_result r = undivarro_read(image, 4 * count + 2, setup.bytes, sizeof setup.bytes);
+    if (r.refusal == 16)
+        return refused_panel(path, image, count, panels);
     if (r.refusal)
         return refused(path, r.refusal);
 

@@ -11,24 +11,14 @@
 #include <sys/stat.h>
 #include <unistd.h>
 
-uint8_t *load_setup(const char *path, size_t *len)
+bool load_setup(const char *path, uint8_t bytes[SETUP_FILE_LIMIT + 1], size_t *len)
 {
     int fd = open(path, O_RDONLY | O_CLOEXEC);
     if (fd < 0)
-        return NULL;
-    size_t cap = 4096;
-    uint8_t *bytes = malloc(cap);
+        return false;
     ssize_t got = 1;
-    for (*len = 0; bytes && got > 0;) {
-        if (*len == cap) {
-            uint8_t *more = realloc(bytes, cap *= 2);
-            if (!more) {
-                got = -1;
-                break;
-            }
-            bytes = more;
-        }
-        got = read(fd, bytes + *len, cap - *len);
+    for (*len = 0; got > 0 && *len <= SETUP_FILE_LIMIT;) {
+        got = read(fd, bytes + *len, SETUP_FILE_LIMIT + 1 - *len);
         if (got > 0)
             *len += (size_t)got;
         else if (got < 0 && errno == EINTR)
@@ -36,12 +26,8 @@ uint8_t *load_setup(const char *path, size_t *len)
     }
     int error = errno;
     close(fd);
-    if (got < 0) {
-        free(bytes);
-        bytes = NULL;
-    }
     errno = error;
-    return bytes;
+    return got >= 0;
 }
 
 static bool write_all(int fd, const uint8_t *bytes, size_t len)

@@ -6,8 +6,10 @@
 #include <stddef.h>
 #include <stdint.h>
 
-/* All bytes of the file, to be freed, or NULL with errno. */
-uint8_t *load_setup(const char *path, size_t *len);
+enum { SETUP_FILE_LIMIT = 65536 };      /* a file over this is no setup image */
+
+/* The bytes of the file, at most one over the limit: *len is over it exactly where the file is. False with errno. */
+bool load_setup(const char *path, uint8_t bytes[SETUP_FILE_LIMIT + 1], size_t *len);
 
 enum kept {
     KEPT,

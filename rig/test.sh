@@ -186,9 +186,40 @@ refusals_by_number() {
 17;field: not a set code of the table (a get code isn't one), or seen before in this record, length wrong, or cut off;01 09 61 00 00 01 01
 18;field: value not allowed;01 09 61 01 05 00 00 01 01
 END
-    ends 1 'refusal 16: record' rig new n 0:9 && ends 1 'refusal 16: record' rig new n 1:0 &&
-        ends 1 'refusal 16: record' rig new n 1:9 1:8 && [ ! -e n ]
 }
+
+new_names_the_bad_panel() {
+    local panels words
+    rm -f n
+    while IFS=';' read -r panels words; do
+        ends 1 "rig: n: refusal 16: $words" rig new n $panels || return
+        same "lines about $panels" "$(wc -l <message)" 1 || return
+        [ ! -e n ] || { echo "$panels made a file"; return 1; }
+    done <<'END'
+0:9;0:9 has ID 0; IDs are 1 to 255
+1:0;1:0 has group 0; groups are 1 to 255, and 255 is group off
+1:9 1:8;1:8 has the ID of 1:9; each panel has an ID of its own
+0:0;0:0 has ID 0
+1:9 0:8 1:7;0:8 has ID 0
+1:9 2:0 0:8;2:0 has group 0
+3:9 1:8 2:9 1:7 0:9;1:7 has the ID of 1:8
+1:9 1:0;1:0 has group 0
+1:9 2:9 01:9;01:9 has the ID of 1:9
+END
+}
+
+# In a shell of its own with a bound on memory, so that a program that reads on fails at once.
+files_that_are_too_big() (
+    local command words='over 65536 bytes; a setup image has at most 1122'
+    head -c 65537 /dev/zero >over
+    head -c 65536 /dev/zero >within
+    ulimit -v 1000000
+    for command in show play; do
+        ends 1 "rig: /dev/zero: $words" rig $command /dev/zero && ends 1 "rig: over: $words" rig $command over &&
+            ends 1 'rig: within: refusal 12: image: last byte is not 1' rig $command within || return
+    done
+    same 'left of 200,000 bytes' "$(head -c 200000 /dev/zero | { rig show /dev/stdin 2>message; wc -c; })" $((200000 - 65537))
+)
 
 output_that_is_full() {
     wall w
@@ -294,6 +325,8 @@ test_that 'a line that is not hex' not_hex
 test_that 'bad arguments' bad_arguments
 test_that 'unreadable files' unreadable_files
 test_that 'refusals by number' refusals_by_number
+test_that 'new names the panel that is refused' new_names_the_bad_panel
+test_that 'files over 65,536 bytes' files_that_are_too_big
 test_that 'an output that is full' output_that_is_full
 test_that 'a link to the image is followed' a_link_is_followed
 test_that 'the permissions of the image stay' permissions_stay

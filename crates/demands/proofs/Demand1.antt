@@ -12,7 +12,8 @@ use Rattle.packet.specs.declared.MonitorId.{MonitorId}
 use Rattle.packet.specs.declared.GroupId.{GroupId}
 use Rattle.packet.specs.declared.Verdict.{Verdict}
 use Rattle.packet.specs.declared.Verdict.the-variants.{Empty, Damaged, Intact}
-use Rattle.packet.specs.Packet.{verdictOf, dataOf, laidOver}
+use Rattle.packet.specs.Packet.{verdictOf, dataOf, longest}
+use Rattle.lists.specs.Lists.{laidOver}
 use Rattle.panels.specs.declared.Panel.{Panel}
 use Rattle.panels.specs.declared.Place.{Place}
 use Rattle.panels.specs.declared.Place.the-variants.{At, Nowhere}
@@ -21,17 +22,18 @@ use Rattle.panels.specs.declared.Refusal.the-variants.{Nothing, Full, IdZero, I
 use Rattle.panels.specs.Wall.{Wall, blank, placeOf, panelsOf}
 use Rattle.panels.specs.Addressed.{reaches}
 use Rattle.panels.specs.Calls.{ifThere, addRefusal, unlessRefused, added, without, removed}
-use Rattle.line.specs.declared.Sent.the-variants.{Bytes, NoRoom}
-use Rattle.line.specs.Reply.{sentBytes, sentOf, bytesSent, outputOf as answerOutput}
-use Rattle.line.specs.Judged.{command}
-use Rattle.line.specs.Played.{turned, playedBy, played}
-use Rattle.line.proofs.Turns.{map-same, stays}
-use Rattle.image.specs.declared.Written.the-variants.{Bytes as WrittenBytes, NoRoom as NotWritten}
-use Rattle.image.specs.Written.{imageOf, recordsOf, sizeOf, writtenOf, bytesWritten, outputOf as imageOutput}
-use Rattle.image.specs.declared.Refusal.{Refusal as ImageRefusal}
-use Rattle.image.specs.declared.Refusal.the-variants.{Nothing as Sound}
-use Rattle.image.specs.Whole.{wholeRefusal, recordsIn}
-use Rattle.image.specs.Read.{Reading, isSound, refused, recordRefusal, wallWith, readRecords, readOf}
+use Rattle.answers.specs.declared.Sent.the-variants.{Bytes, NoRoom}
+use Rattle.answers.specs.Reply.{sentBytes, sentOf, bytesSent, outputOf as answerOutput}
+use Rattle.answers.specs.Judged.{command}
+use Rattle.answers.specs.Played.{turned, playedBy, played}
+use Rattle.lists.proofs.Mapped.{map-same}
+use Rattle.answers.proofs.Turns.{stays}
+use Rattle.image_write.specs.declared.Written.the-variants.{Bytes as WrittenBytes, NoRoom as NotWritten}
+use Rattle.image_write.specs.Written.{imageOf, recordsOf, sizeOf, writtenOf, bytesWritten, outputOf as imageOutput}
+use Rattle.image_read.specs.declared.Refusal.{Refusal as ImageRefusal}
+use Rattle.image_read.specs.declared.Refusal.the-variants.{Nothing as Sound}
+use Rattle.image_read.specs.Whole.{wholeRefusal, recordsIn}
+use Rattle.image_read.specs.Read.{Reading, isSound, refused, recordRefusal, wallWith, readRecords, readOf}
 use Rattle.image.proofs.Back.{image-size}
 use Rattle.host.specs.declared.Refusal.{Refusal as HostRefusal}
 use Rattle.host.specs.declared.Request.{Request}
@@ -89,7 +91,7 @@ behind-laid bytes out = drop-at bytes _ _ refl
 
 pub answer-alone : AnswerAlone
 unfolding sentOf answerOutput
-answer-alone out r = go (leb 40 (length out))
+answer-alone out r = go (leb longest (length out))
   where
     go : (t : Bool)
         → let n = bytesSent (cond t (Bytes (length (sentBytes r))) NoRoom) in drop n (cond t (laidOver (sentBytes r) out) out) ≡ drop n out
@@ -176,5 +178,5 @@ pub call-refused : CallRefused
 unfolding call stepOf laidOver flatten
 call-refused out host h r e =
     let s = stateOf host in
-    let (next, none) = one-of s (leb 40 (length out)) _ _ (step-stays s h) (quiet-stays s _) r e in
+    let (next, none) = one-of s (leb longest (length out)) _ _ (step-stays s h) (quiet-stays s _) r e in
     (ap hostOf next ∙ host-back host, rw none)

@@ -3,7 +3,7 @@ use Prim.Native.Nat.{ℕ, _<_}
 use mathlib.Core.Bool.{Bool, true, false, cond, _&&_}
 use mathlib.Core.Logic.{_⊎_, inl, inr}
 use mathlib.Core.Path.{_≡_, refl, ap, _∙_}
-use mathlib.Core.List.{List, map}
+use mathlib.Core.List.{List, [], map}
 use lib.Dec.{leb, eqb}
 use lib.ListN.{length, getD, length-map, List·getD-map}
 use Rattle.settings.specs.Settings.{allowedFor}
@@ -21,18 +21,19 @@ use Rattle.packet.specs.Answered.{isHeard}
 use Rattle.panels.specs.Addressed.{reaches}
 use Rattle.panels.specs.WellFormed.{GoodPanel, GoodWall}
 use Rattle.panels.proofs.Laws.{place-there}
-use Rattle.panels.proofs.Lists.{getD-inside}
+use Rattle.lists.proofs.Places.{getD-inside}
 use Rattle.panels.proofs.Formed.{empty-formed, added-formed, removed-formed, good-at}
-use Rattle.line.specs.Reply.{silence}
-use Rattle.line.specs.Judged.{Command, getOf, setOf, unavailable, command, judge, panelAfter, stored, taken, notAvailable, replyBy}
-use Rattle.line.specs.Played.{turned, replyFrom, nackTo, damagedReply, playedBy, played}
-use Rattle.line.proofs.Formed.{stored-own, stored-others, played-formed}
-use Rattle.line.proofs.Cases.{p-cases}
-use Rattle.image.specs.declared.Read.{Read}
-use Rattle.image.proofs.Sound.{read-formed}
-use Rattle.image.proofs.Order.{read-any-order, read-by-code, left-out}
+use Rattle.answers.specs.Reply.{silence}
+use Rattle.answers.specs.Judged.{Command, getOf, setOf, unavailable, command, judge, panelAfter, stored, taken, notAvailable, replyBy}
+use Rattle.answers.specs.Played.{turned, replyFrom, nackTo, damagedReply, playedBy, played}
+use Rattle.answers.proofs.Formed.{stored-own, stored-others, played-formed}
+use Rattle.demands.proofs.Cases.{p-cases}
+use Rattle.image_read.specs.declared.Read.{Read}
+use Rattle.image_read.proofs.Sound.{read-formed}
+use Rattle.image_read.proofs.Order.{read-any-order, read-by-code, left-out}
 use Rattle.image.proofs.Back.{front-is-image, table-back}
-use Rattle.demands.specs.Demand2.{SetBy, OnlyAddressed, Answer·Is, Answers, empty, add, remove, image, burst, InRange, ReadsBack, AnyOrder, ByCode, LeftOut, Cases}
+use Rattle.line.proofs.Streams.{stream-after}
+use Rattle.demands.specs.Demand2.{SetBy, OnlyAddressed, Answer·Is, Answers, Received, empty, add, remove, image, burst, InRange, ReadsBack, AnyOrder, ByCode, LeftOut, Cases}
 
 pub in-range : InRange
 in-range t empty = empty-formed
@@ -132,6 +133,10 @@ answers w b = go (verdictOf b)
     go Empty = inl refl
     go Damaged = damaged-burst w b
     go (Intact i g n) = packet-answer w i _ (isHeard i g)
+
+-- The line.
+pub received : Received
+received w events = stream-after [] w events
 
 -- The image.
 pub reads-back : ReadsBack

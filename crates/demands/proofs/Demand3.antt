@@ -14,11 +14,11 @@ use Rattle.packet.proofs.Spoiled.{spoiled-damaged}
 use Rattle.panels.specs.declared.Place.{Place}
 use Rattle.panels.specs.declared.Place.the-variants.{At, Nowhere}
 use Rattle.panels.specs.Wall.{Wall, placeOf}
-use Rattle.line.specs.declared.Reply.{Reply}
-use Rattle.line.specs.Reply.{silence}
-use Rattle.line.specs.Played.{Outcome, nackTo, damagedReply, played}
+use Rattle.answers.specs.declared.Reply.{Reply}
+use Rattle.answers.specs.Reply.{silence}
+use Rattle.answers.specs.Played.{Outcome, nackTo, damagedReply, played}
 use Rattle.line.specs.Session.{byBurst, Ended, session, Event, byte, quiet, burstsAfter, receiverOf, streamed}
-use Rattle.line.proofs.Bursts.{played-damaged}
+use Rattle.answers.proofs.Bursts.{played-damaged}
 use Rattle.line.proofs.Streams.{stream-after}
 use Rattle.demands.specs.Demand3.{whole, spoilt, sent, kept, SilenceOrNack, AsIfNeverSent, Withstands, Demand3, onLine, Demand3·line}
 

@@ -10,16 +10,16 @@ use lib.ListN.{length, getD, replicate, length-take}
 use lib.Seq.{take-append-seam}
 use Rattle.settings.specs.declared.Found.{Found}
 use Rattle.settings.specs.declared.Found.the-variants.{Set, Get, Nothing}
-use Rattle.settings.specs.Settings.{settings, foundBy, getCode, allowedFor}
-use Rattle.settings.proofs.Both.{both}
+use Rattle.settings.specs.Settings.{settings, foundBy, getCode, allowedFor, rowCount, mostValues}
+use Rattle.lists.proofs.Both.{both}
 use Rattle.settings.proofs.Laws.{IsFound, found-right, byte-count-few}
-use Rattle.settings.proofs.WrittenOut.{alike}
+use Rattle.lists.proofs.Each.{alike}
 use Rattle.packet.specs.declared.MonitorId.{MonitorId}
 use Rattle.packet.specs.declared.GroupId.{GroupId}
 use Rattle.packet.specs.declared.Control.the-variants.{Ack as AckWord}
 use Rattle.packet.specs.declared.Verdict.{Verdict}
 use Rattle.packet.specs.declared.Verdict.the-variants.{Empty, Damaged, Intact}
-use Rattle.packet.specs.Packet.{groupId, verdictOf, dataOf, packetOf}
+use Rattle.packet.specs.Packet.{groupId, verdictOf, dataOf, packetOf, mostData}
 use Rattle.packet.specs.Control.{controlData}
 use Rattle.packet.proofs.Packets.{packet-verdict, packet-data}
 use Rattle.panels.specs.declared.Panel.{Panel}
@@ -30,16 +30,17 @@ use Rattle.panels.specs.Addressed.{reaches}
 use Rattle.panels.specs.WellFormed.{GoodPanel, GoodWall}
 use Rattle.panels.proofs.Laws.{place-there}
 use Rattle.panels.proofs.Formed.{good-at}
-use Rattle.line.specs.Judged.{Command, getOf, setOf, unavailable, command, judge, stored, replyBy}
-use Rattle.line.specs.Played.{turned, playedBy, played}
+use Rattle.answers.specs.Judged.{Command, getOf, setOf, unavailable, command, judge, stored, replyBy}
+use Rattle.answers.specs.Played.{turned, playedBy, played}
 use Rattle.line.specs.Session.{byBurst, session}
-use Rattle.line.proofs.Formed.{stored-twice, played-good}
-use Rattle.line.proofs.Turns.{stays}
-use Rattle.line.specs.Reply.{wordFrom, reportFrom, sentBytes}
+use Rattle.answers.proofs.Formed.{stored-twice, played-good}
+use Rattle.answers.proofs.Turns.{stays}
+use Rattle.answers.specs.Reply.{wordFrom, reportFrom, sentBytes}
 use Rattle.host.specs.declared.Request.{Request}
 use Rattle.host.specs.declared.Said.the-variants.{Report}
 use Rattle.host.specs.Request.{requestData, requestPacket, isTaken, isRequest}
-use Rattle.host.specs.Heard.{same, isControl, isReport, endedBy, wordIn, saidBy, saidTo}
+use Rattle.lists.specs.Lists.{same}
+use Rattle.host.specs.Heard.{isControl, isReport, endedBy, wordIn, saidBy, saidTo}
 use Rattle.host.specs.Machine.{start, burst, State, idle, begun, ending, heard, step}
 use Rattle.host.proofs.Lasting.{packet-reads}
 use Rattle.demands.specs.HostAndBox.{SentAgain, EndsWith, Lossless}
@@ -113,7 +114,7 @@ module _ (w : Wall) (r : Request) (k : ℕ) (asked : isRequest r ≡ true) (due 
   abbrev waiting : State
   waiting = record { request = r; given = requestPacket r ∷ [] }
 
-  hears : (d : List ℕ) → length d ≤ 36
+  hears : (d : List ℕ) → length d ≤ mostData
       → step (step idle (start r) .next) (burst (packetOf (r .id) (groupId 0) d)) ≡ ending waiting d (wordIn (r .code) d)
   unfolding step begun heard saidTo saidBy
   hears d short =
@@ -131,10 +132,10 @@ module _ (w : Wall) (r : Request) (k : ℕ) (asked : isRequest r ≡ true) (due 
       let none = eqb-true (r .count) 0 (both (eqb (r .count) 0) _ t .0) in
       let inTable = subst (IsFound (r .code)) found (found-right (r .code)) .0 in
       let d = getCode row ∷ valuesOf row (panel .values) in
-      let short : length d ≤ 36 = simp length-take (omega (arith, byte-count-few inTable)) in
+      let short : length d ≤ mostData = simp length-take (omega (arith, byte-count-few inTable)) in
       let reply : played w (requestPacket r) .reply ≡ reportFrom (r .id) d = box-answers ∙ rw (found, none) in
       let sent : sentBytes (reportFrom (r .id) d) ≡ packetOf (r .id) (groupId 0) d = ap (packetOf (r .id) (groupId 0)) (take-append-seam d _) in
-      let notZero = alike (λ j. eqb (getCode j) 0) (λ j. false) 8 (unfold settings in refl) inTable in
+      let notZero = alike (λ j. eqb (getCode j) 0) (λ j. false) rowCount (unfold settings in refl) inTable in
       rw (reply, sent)
       (hears d short ∙ ap (ending waiting d) (word-report (r .code) row (valuesOf row (panel .values)) found notZero (good .inRange row inTable)))
 
@@ -142,4 +143,4 @@ pub lossless : Lossless
 unfolding isRequest
 lossless t f r k asked due there =
     let h = place-there (r .id) (panelsOf t) k there .0 in
-    ends (panelsOf t) r k asked due there (good-at (panelsOf t) (f .good) k h) (foundBy (r .code)) refl (both (leb (r .count) 7) _ asked .1)
+    ends (panelsOf t) r k asked due there (good-at (panelsOf t) (f .good) k h) (foundBy (r .code)) refl (both (leb (r .count) mostValues) _ asked .1)

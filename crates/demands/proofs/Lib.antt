@@ -1,4 +1,5 @@
 pub mod Numbers
+pub mod Cases
 pub mod Demand1
 pub mod Demand2
 pub mod Demand3

@@ -11,10 +11,10 @@ use Rattle.panels.specs.declared.Place.the-variants.{At, Nowhere}
 use Rattle.panels.specs.declared.Refusal.the-variants.{Nothing, Full, IdZero, IdTaken, GroupZero, NoPanel}
 use Rattle.panels.specs.Wall.{placeOf}
 use Rattle.panels.specs.Calls.{refusalOf as tableNumber, ifThere, addRefusal}
-use Rattle.line.specs.declared.Sent.the-variants.{Bytes as AnswerBytes, NoRoom as NoAnswer}
-use Rattle.line.specs.Reply.{sentBytes, sentOf, refusalOf as answerNumber}
-use Rattle.image.specs.declared.Written.the-variants.{Bytes as ImageBytes, NoRoom as NoImage}
-use Rattle.image.specs.Written.{sizeOf, writtenOf as imageWritten, writeRefusalOf as imageNumber}
+use Rattle.answers.specs.declared.Sent.the-variants.{Bytes as AnswerBytes, NoRoom as NoAnswer}
+use Rattle.answers.specs.Reply.{sentBytes, sentOf, refusalOf as answerNumber}
+use Rattle.image_write.specs.declared.Written.the-variants.{Bytes as ImageBytes, NoRoom as NoImage}
+use Rattle.image_write.specs.Written.{sizeOf, writtenOf as imageWritten, writeRefusalOf as imageNumber}
 use Rattle.demands.specs.Numbers.{Add, Remove, Image, Answer, Packet}
 
 pub add-number : Add

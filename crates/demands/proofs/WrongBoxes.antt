@@ -7,22 +7,21 @@ use mathlib.Core.List.{List, [], _∷_, _++_, map, flatten}
 use native.Mathlib.Omega.{arith}
 use lib.ListN.{length, getD, length-append}
 use Rattle.settings.specs.Settings.{settings, foundFrom, allowedByRow, freshValues, within, allAllowed}
-use Rattle.settings.specs.Laid.{laidAt}
+use Rattle.lists.specs.Lists.{laidAt, same}
 use Rattle.packet.specs.declared.Verdict.the-variants.{Damaged}
 use Rattle.packet.specs.Xor.{_⊕_, xorAll}
 use Rattle.packet.specs.Packet.{isIntact, verdictOf, dataOf, packetOf}
 use Rattle.panels.specs.Wall.{Wall, placeFrom}
 use Rattle.packet.specs.Answered.{isHeard}
 use Rattle.panels.specs.Addressed.{reaches}
-use Rattle.line.specs.declared.Answer.{Answer}
-use Rattle.line.specs.declared.Answer.the-variants.{Silence, Word, Report}
-use Rattle.line.specs.declared.Reply.{Reply}
-use Rattle.line.specs.Reply.{silence, sentBytes}
-use Rattle.line.specs.Judged.{command, stored, judge}
-use Rattle.line.specs.Played.{turned, damagedReply, played}
+use Rattle.answers.specs.declared.Answer.{Answer}
+use Rattle.answers.specs.declared.Answer.the-variants.{Silence, Word, Report}
+use Rattle.answers.specs.declared.Reply.{Reply}
+use Rattle.answers.specs.Reply.{silence, sentBytes}
+use Rattle.answers.specs.Judged.{command, stored, judge}
+use Rattle.answers.specs.Played.{turned, damagedReply, played}
 use Rattle.line.specs.Session.{byBurst, Ended, session}
-use Rattle.line.specs.Cases.{twoPanels}
-use Rattle.host.specs.Heard.{same}
+use Rattle.answers.specs.Sample.{twoPanels}
 use Rattle.demands.specs.Demand3.{Box, SilenceOrNack}
 use Rattle.demands.specs.WrongBoxes.{always, everyNav, neverStores, firstAlone, ifSilent, storesAnswered, oneLate, written, Differs, AllDiffer, SomeWithstand}
 use Rattle.demands.proofs.Demand3.{withstands, damaged-still, damaged-may}

@@ -10,7 +10,8 @@ use Rattle.packet.specs.declared.MonitorId.{MonitorId}
 use Rattle.packet.specs.declared.GroupId.{GroupId}
 use Rattle.packet.specs.declared.Verdict.{Verdict}
 use Rattle.packet.specs.declared.Verdict.the-variants.{Empty, Damaged, Intact}
-use Rattle.packet.specs.Packet.{verdictOf, dataOf, laidOver}
+use Rattle.packet.specs.Packet.{verdictOf, dataOf}
+use Rattle.lists.specs.Lists.{laidOver}
 use Rattle.panels.specs.declared.Panel.{Panel}
 use Rattle.panels.specs.declared.Table.{Table}
 use Rattle.panels.specs.declared.Refusal.the-variants.{Nothing}
@@ -18,13 +19,13 @@ use Rattle.panels.specs.Wall.{Wall, blank, panelsOf}
 use Rattle.panels.specs.Addressed.{reaches}
 use Rattle.panels.specs.Calls.{addRefusal, added, removedFrom, removed}
 use Rattle.panels.specs.WellFormed.{WellFormed}
-use Rattle.line.specs.declared.Reply.{Reply}
-use Rattle.line.specs.Reply.{sentOf, bytesSent, outputOf as answerOutput}
-use Rattle.line.specs.Judged.{command, judge, notAvailable}
-use Rattle.line.specs.Played.{played}
-use Rattle.image.specs.declared.Refusal.the-variants.{Nothing as Sound}
-use Rattle.image.specs.Written.{writtenOf, bytesWritten, outputOf as imageOutput}
-use Rattle.image.specs.Read.{readOf}
+use Rattle.answers.specs.declared.Reply.{Reply}
+use Rattle.answers.specs.Reply.{sentOf, bytesSent, outputOf as answerOutput}
+use Rattle.answers.specs.Judged.{command, judge, notAvailable}
+use Rattle.answers.specs.Played.{played}
+use Rattle.image_read.specs.declared.Refusal.the-variants.{Nothing as Sound}
+use Rattle.image_write.specs.Written.{writtenOf, bytesWritten, outputOf as imageOutput}
+use Rattle.image_read.specs.Read.{readOf}
 use Rattle.host.specs.declared.Host.{Host}
 use Rattle.host.specs.declared.Refusal.{Refusal as HostRefusal}
 use Rattle.host.specs.declared.Outcome.the-variants.{Refused}

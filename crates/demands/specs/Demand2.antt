@@ -4,9 +4,9 @@ use Prim.Native.Nat.{ℕ, _<_, _≤_}
 use mathlib.Core.Bool.{true}
 use mathlib.Core.Logic.{_⊎_}
 use mathlib.Core.Path.{_≡_}
-use mathlib.Core.List.{List, [], _∷_, map}
+use mathlib.Core.List.{List, [], _∷_, map, Forall₂}
 use lib.ListN.{length, getD, take}
-use Rattle.settings.specs.Settings.{setCode, getCode, allowedFor}
+use Rattle.settings.specs.Settings.{setCode, getCode, allowedFor, rowCount}
 use Rattle.packet.specs.declared.MonitorId.{MonitorId}
 use Rattle.packet.specs.declared.GroupId.{GroupId}
 use Rattle.packet.specs.declared.Control.{Control}
@@ -18,17 +18,18 @@ use Rattle.panels.specs.Wall.{Wall, valuesOf, blank, tableOf, panelsOf}
 use Rattle.panels.specs.Addressed.{reaches}
 use Rattle.panels.specs.Calls.{added, removed}
 use Rattle.panels.specs.WellFormed.{WellFormed}
-use Rattle.line.specs.Reply.{silence, wordFrom, reportFrom}
-use Rattle.line.specs.declared.Reply.{Reply}
-use Rattle.line.specs.Judged.{command, setOf}
-use Rattle.line.specs.Played.{played}
-use Rattle.line.specs.Cases.{Case, tried, cases}
-use Rattle.image.specs.declared.Refusal.the-variants.{Nothing as Sound}
-use Rattle.image.specs.Written.{sizeOf, outputOf}
-use Rattle.image.specs.Whole.{wholeRefusal, recordsIn}
-use Rattle.image.specs.Fields.{fieldsIn}
-use Rattle.image.specs.Read.{isSound, readOf, inTable}
-use Rattle.image.specs.Entries.{Entry, bytesOf, freshEntry, Permuted, Without, GiveAlike, EachRecord}
+use Rattle.answers.specs.Reply.{silence, wordFrom, reportFrom}
+use Rattle.answers.specs.declared.Reply.{Reply}
+use Rattle.answers.specs.Judged.{command, setOf}
+use Rattle.answers.specs.Played.{played}
+use Rattle.demands.specs.Cases.{Case, tried, cases}
+use Rattle.line.specs.Session.{Event, session, burstsAfter, receiverOf, streamed}
+use Rattle.image_read.specs.declared.Refusal.the-variants.{Nothing as Sound}
+use Rattle.image_write.specs.Written.{sizeOf, outputOf}
+use Rattle.image_read.specs.Whole.{wholeRefusal, recordsIn}
+use Rattle.image_read.specs.Fields.{fieldsIn}
+use Rattle.image_read.specs.Read.{isSound, readOf, inTable}
+use Rattle.image_read.specs.Entries.{Entry, bytesOf, freshEntry, Permuted, Without, GiveAlike, SameHead}
 
 -- a panel that a set changed: it was addressed, and only the row that the set code names is another, with allowed values
 pub record SetBy (b : List ℕ) (p q : Panel) : Type 0 where
@@ -63,6 +64,10 @@ Answer·Is w r =
 abbrev pub Answers : Type 0
 Answers = (w : Wall) (b : List ℕ) → Answer·Is w (played w b .reply)
 
+-- on the line: the receiver takes bytes and quiet marks one at a time, and each burst between two marks is played
+abbrev pub Received : Type 0
+Received = (w : Wall) (events : List Event) → streamed (receiverOf []) w events ≡ session w (burstsAfter [] events)
+
 -- tables come from the empty one by add, remove and bursts, or from an image
 pub data Comes : Table → Type 0 where
   empty : Comes (tableOf [])
@@ -84,19 +89,19 @@ ReadsBack =
 -- Fields go by code: an image without fault, and another whose records hold the same fields in any order, read as the same wall
 abbrev pub AnyOrder : Type 0
 AnyOrder =
-    (image other : List ℕ) → isSound (wholeRefusal other) ≡ true → EachRecord Permuted (recordsIn image) (recordsIn other)
+    (image other : List ℕ) → isSound (wholeRefusal other) ≡ true → Forall₂ (SameHead Permuted) (recordsIn image) (recordsIn other)
     → readOf image .refusal ≡ Sound → readOf other ≡ readOf image
 
 -- or whose records give each setting the same values, where a code that is not there gives its fresh ones;
 abbrev pub ByCode : Type 0
 ByCode =
-    (image other : List ℕ) → isSound (wholeRefusal other) ≡ true → EachRecord GiveAlike (recordsIn image) (recordsIn other)
+    (image other : List ℕ) → isSound (wholeRefusal other) ≡ true → Forall₂ (SameHead GiveAlike) (recordsIn image) (recordsIn other)
     → readOf image .refusal ≡ Sound → readOf other ≡ readOf image
 
 -- and fields without a code read as with that field at its fresh value.
 abbrev pub LeftOut : Type 0
 LeftOut =
-    (row : ℕ) (es : List Entry) → row < 8 → Without (setCode row) es → fieldsIn (bytesOf es) .refusal ≡ Sound
+    (row : ℕ) (es : List Entry) → row < rowCount → Without (setCode row) es → fieldsIn (bytesOf es) .refusal ≡ Sound
     → fieldsIn (bytesOf (freshEntry row ∷ es)) ≡ fieldsIn (bytesOf es)
 
 -- the ten P cases of 01

@@ -11,8 +11,8 @@ use Rattle.packet.specs.declared.Control.the-variants.{Nack}
 use Rattle.packet.specs.Packet.{isIntact}
 use Rattle.packet.specs.Spoiled.{Spoiling, spoiled, Spoils}
 use Rattle.panels.specs.Wall.{Wall}
-use Rattle.line.specs.declared.Reply.{Reply}
-use Rattle.line.specs.Reply.{silence, wordFrom}
+use Rattle.answers.specs.declared.Reply.{Reply}
+use Rattle.answers.specs.Reply.{silence, wordFrom}
 use Rattle.line.specs.Session.{Ended, session, Event, byte, quiet, receiverOf, streamed}
 
 -- a burst that arrives as it was sent, or an intact packet that is spoiled on the way

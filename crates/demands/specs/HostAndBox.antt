@@ -12,8 +12,8 @@ use Rattle.panels.specs.declared.Table.{Table}
 use Rattle.panels.specs.declared.Place.the-variants.{At}
 use Rattle.panels.specs.Wall.{valuesOf, blank, placeOf, panelsOf}
 use Rattle.panels.specs.WellFormed.{WellFormed}
-use Rattle.line.specs.Reply.{sentBytes}
-use Rattle.line.specs.Played.{played}
+use Rattle.answers.specs.Reply.{sentBytes}
+use Rattle.answers.specs.Played.{played}
 use Rattle.line.specs.Session.{session}
 use Rattle.packet.specs.Answered.{isHeard}
 use Rattle.host.specs.declared.Request.{Request}

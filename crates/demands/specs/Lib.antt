@@ -1,5 +1,6 @@
 -- The three demands, over the definitions that the code is proved equal to.
 pub mod Numbers
+pub mod Cases
 pub mod Demand1
 pub mod Demand2
 pub mod Demand3

@@ -11,9 +11,9 @@ use Rattle.packet.specs.declared.GroupId.{GroupId}
 use Rattle.packet.specs.Packet.{writtenOf as packetWritten, refusalOf as packetNumber}
 use Rattle.panels.specs.Wall.{Wall, placeOf}
 use Rattle.panels.specs.Calls.{refusalOf as tableNumber, ifThere, addRefusal, removedFrom}
-use Rattle.line.specs.declared.Reply.{Reply}
-use Rattle.line.specs.Reply.{sentOf, refusalOf as answerNumber}
-use Rattle.image.specs.Written.{writtenOf as imageWritten, writeRefusalOf as imageNumber}
+use Rattle.answers.specs.declared.Reply.{Reply}
+use Rattle.answers.specs.Reply.{sentOf, refusalOf as answerNumber}
+use Rattle.image_write.specs.Written.{writtenOf as imageWritten, writeRefusalOf as imageNumber}
 
 -- 32 panels are there, ID 0, ID in the table, group 0
 abbrev pub Add : Type 0

@@ -7,13 +7,13 @@ use lib.ListN.{getD}
 use Rattle.packet.specs.declared.Control.the-variants.{Ack, Nav}
 use Rattle.packet.specs.Packet.{monitorId}
 use Rattle.panels.specs.Wall.{Wall}
-use Rattle.line.specs.declared.Answer.{Answer}
-use Rattle.line.specs.declared.Answer.the-variants.{Silence, Word, Report}
-use Rattle.line.specs.declared.Reply.{Reply}
-use Rattle.line.specs.Reply.{silence, wordFrom}
-use Rattle.line.specs.Played.{Outcome, played}
+use Rattle.answers.specs.declared.Answer.{Answer}
+use Rattle.answers.specs.declared.Answer.the-variants.{Silence, Word, Report}
+use Rattle.answers.specs.declared.Reply.{Reply}
+use Rattle.answers.specs.Reply.{silence, wordFrom}
+use Rattle.answers.specs.Played.{Outcome, played}
 use Rattle.line.specs.Session.{byBurst, session}
-use Rattle.line.specs.Cases.{twoPanels}
+use Rattle.answers.specs.Sample.{twoPanels}
 use Rattle.demands.specs.Demand3.{Box, Withstands, SilenceOrNack}
 
 -- always the same: silent, or one stored report

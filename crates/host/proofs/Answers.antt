@@ -3,12 +3,13 @@ use mathlib.Core.Path.{_≡_, refl}
 use mathlib.Core.List.{List, [], _∷_, flatten, append-nil}
 use Prim.Native.Nat.{ℕ}
 use lib.ListN.{length, length-replicate}
-use Rattle.packet.specs.Packet.{laidOver}
+use Rattle.lists.specs.Lists.{laidOver}
 use Rattle.host.specs.declared.Host.{Host}
 use Rattle.host.specs.declared.Step.{Step}
 use Rattle.host.specs.declared.Outcome.{Outcome}
 use Rattle.host.specs.Machine.{Move, State, quiet, over}
-use Rattle.host.specs.Calls.{hostOf, stateOf, nothingWaits, padded, stepOf, plainStep, Answers}
+use Rattle.host.specs.Calls.{hostOf, stateOf, nothingWaits, padded, stepOf, Answers}
+use Rattle.host.specs.Private.Steps.{plainStep}
 
 -- a host is what its state says
 pub host-back : (h : Host) → hostOf (stateOf h) ≡ h

@@ -11,9 +11,10 @@ use native.Mathlib.Omega.{arith}
 use borrow.Author.Tests.{ltb-true, leb-true, lt-ltb}
 use lib.Dec.{ltb}
 use lib.ListN.{length, replicate, length-replicate, length-take, length-append, replicate-append-replicate}
-use Rattle.settings.proofs.Both.{both}
+use Rattle.settings.specs.Settings.{mostValues}
+use Rattle.lists.proofs.Both.{both}
 use Rattle.packet.specs.Answered.{isHeard}
-use Rattle.packet.specs.Packet.{verdictOf}
+use Rattle.packet.specs.Packet.{verdictOf, mostData}
 use Rattle.packet.specs.declared.Verdict.the-variants.{Intact}
 use Rattle.packet.proofs.Packets.{packet-verdict, packet-data}
 use Rattle.host.specs.declared.Request.{Request}
@@ -21,8 +22,8 @@ use Rattle.host.specs.declared.Said.{Said}
 use Rattle.host.specs.declared.Said.the-variants.{Ack, Nack, Nav, Report, Nothing}
 use Rattle.host.specs.Request.{requestData, requestPacket, isRequest}
 use Rattle.host.specs.Heard.{saidTo, dataIn}
-use Rattle.host.specs.Machine.{Happening, start, burst, mark, State, Move, idle, sendings, mostSendings, waits, begun, again, ending, heard, step, run}
-use Rattle.host.specs.Lasting.{after, lasts, isNack, pushes, pushed, packets, countIn}
+use Rattle.host.specs.Machine.{Happening, start, burst, mark, State, Move, idle, sendings, mostSendings, waits, begun, again, ending, heard, step}
+use Rattle.host.specs.Private.Lasting.{run, after, lasts, isNack, pushes, pushed, packets, countIn}
 
 -- one happening
 
@@ -155,8 +156,8 @@ pub packet-reads : (r : Request) → isRequest r ≡ true
     → (verdictOf (requestPacket r) ≡ Intact (r .id) (r .group) (length (requestData r))) × (dataIn (requestPacket r) ≡ requestData r)
 unfolding requestPacket isRequest
 packet-reads r taken =
-    let seven = leb-true (r .count) 7 (both _ _ taken .0) in
-    let short : length (requestData r) ≤ 36 = simp length-take (omega arith) in
+    let seven = leb-true (r .count) mostValues (both _ _ taken .0) in
+    let short : length (requestData r) ≤ mostData = simp length-take (omega arith) in
     (packet-verdict (r .id) (r .group) (requestData r) short, packet-data (r .id) (r .group) (requestData r) short)
 
 ended : (s : State) (h : Happening) (n : ℕ) → sendings s ≡ suc n → waits (step s h .next) ≡ false

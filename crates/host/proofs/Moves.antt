@@ -9,7 +9,7 @@ use borrow.Author.Tests.{le-leb, lt-leb, lt-ltb, eq-eqb, ne-eqb}
 use types.Run.{OneOf}
 use denote.Enum.Declared.{tagOf}
 use lib.ListN.{length, length-replicate}
-use Rattle.packet.specs.Packet.{verdictOf}
+use Rattle.packet.specs.Packet.{verdictOf, longest}
 use Rattle.packet.specs.declared.MonitorId.{MonitorId}
 use Rattle.packet.specs.declared.GroupId.{GroupId}
 use Rattle.packet.specs.declared.Verdict.{Verdict}
@@ -23,9 +23,9 @@ use Rattle.host.specs.declared.Said.the-variants.{Nothing}
 use Rattle.host.specs.Request.{isRequest}
 use Rattle.host.specs.Heard.{wordIn, saidBy, saidTo, dataIn}
 use Rattle.host.specs.Machine.{Happening, start, burst, mark, State, quiet, begun, again, ending, heard, step}
-use Rattle.host.specs.Calls.{stateOf, packetRoom, call}
+use Rattle.host.specs.Calls.{stateOf, call}
 
-pub no-room : (out : List ℕ) (s : State) (h : Happening) → length out < packetRoom → call out s h ≡ quiet s (Refused NoRoom)
+pub no-room : (out : List ℕ) (s : State) (h : Happening) → length out < longest → call out s h ≡ quiet s (Refused NoRoom)
 unfolding call
 no-room out s h short = rw (lt-leb _ _ short)
 
@@ -33,7 +33,7 @@ some : (n : ℕ) → (n ≡ 0 → ⊥) → 0 < n
 some n h = omega arith
 
 -- with room for a packet
-module _ (out : List ℕ) (host : Host) (room : packetRoom ≤ length out) where
+module _ (out : List ℕ) (host : Host) (room : longest ≤ length out) where
   -- nothing waits
   module _ (e : host .sendings ≡ 0) where
     pub idle-burst : (b : List ℕ) → call out (stateOf host) (burst b) ≡ quiet (stateOf host) Idle

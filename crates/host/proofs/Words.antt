@@ -2,24 +2,24 @@
 use mathlib.Core.Path.{_≡_, refl}
 use mathlib.Core.Bool.{Bool, true, false, false≢true, cond, and-true, and-false, _&&_}
 use mathlib.Core.List.{List, [], _∷_}
-use Prim.Native.Nat.{ℕ, _-_, _≤_, _<_}
+use Prim.Native.Nat.{ℕ, _+_, _-_, _≤_, _<_}
 use native.Mathlib.Omega.{arith}
 use borrow.Author.Tests.{leb-true}
 use lib.Dec.{leb, eqb}
 use lib.ListN.{length, getD, take, drop, length-drop}
 use lib.Seq.{take-all}
-use Rattle.settings.specs.Settings.{settings, foundBy, getCode, setting, byteCount, allowedFor}
+use Rattle.settings.specs.Settings.{settings, foundBy, getCode, setting, byteCount, allowedFor, rowCount, mostValues}
 use Rattle.settings.specs.declared.Found.{Found}
 use Rattle.settings.specs.declared.Found.the-variants.{Set, Get, Nothing as NoSetting}
-use Rattle.settings.proofs.Both.{both}
-use Rattle.settings.proofs.WrittenOut.{alike}
-use Rattle.settings.proofs.Laws.{IsFound, found-right, allowed-count}
+use Rattle.lists.proofs.Both.{both}
+use Rattle.settings.proofs.Laws.{IsFound, found-right, allowed-count, byte-count-few}
 use Rattle.packet.specs.Control.{controlByte}
 use Rattle.packet.specs.declared.Control.{Control}
 use Rattle.packet.specs.declared.Control.the-variants.{Ack as AckWord, Nack as NackWord, Nav as NavWord}
 use Rattle.host.specs.declared.Said.{Said}
 use Rattle.host.specs.declared.Said.the-variants.{Ack, Nack, Nav, Report, Nothing}
-use Rattle.host.specs.Heard.{same, isControl, isReport, endedBy, wordIn}
+use Rattle.lists.specs.Lists.{same}
+use Rattle.host.specs.Heard.{isControl, isReport, endedBy, wordIn}
 
 pub control-other : (w : Control) (d : List ℕ) → (length d ≡ 2 → ⊥) → isControl w d ≡ false
 unfolding isControl same
@@ -49,20 +49,15 @@ word-found code d f nack nav e = rw (nack, nav, e)
 pub rest : (d : List ℕ) → take (length d - 1) (drop 1 d) ≡ drop 1 d
 rest d = take-all (length d - 1) (drop 1 d) (simp length-drop (omega arith))
 
--- no row has more than seven values
-seven : {row : ℕ} → row < 8 → byteCount row ≤ 7
-unfolding settings
-seven h = leb-true _ 7 (alike (λ k. leb (byteCount k) 7) (λ k. true) 8 refl h)
-
 abbrev Fits : List ℕ → Type 0
-Fits d = (1 ≤ length d) × (length d ≤ 8)
+Fits d = (1 ≤ length d) × (length d ≤ mostValues + 1)
 
 report-fits : (row : ℕ) (d : List ℕ) → row < 8 → isReport row d ≡ true → Fits d
 unfolding isReport
 report-fits row [] h e = absurd (false≢true e)
 report-fits row (c ∷ values) h e =
     let n = allowed-count (setting row .allowed) values (both (eqb c (getCode row)) _ e .1) in
-    let most = seven h in
+    let most = byte-count-few h in
     (omega arith, omega arith)
 
 only-report : (t : Bool) {x : Said} → (x ≡ Report → ⊥) → cond t Report x ≡ Report → t ≡ true

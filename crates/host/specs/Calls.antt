@@ -5,7 +5,9 @@ use mathlib.Core.Bool.{cond}
 use mathlib.Core.List.{List, flatten}
 use lib.ListN.{length, replicate}
 use lib.Dec.{leb}
-use Rattle.packet.specs.Packet.{laidOver}
+use Rattle.settings.specs.Settings.{mostValues}
+use Rattle.packet.specs.Packet.{longest}
+use Rattle.lists.specs.Lists.{laidOver}
 use Rattle.host.specs.declared.Host.{Host}
 use Rattle.host.specs.declared.Step.{Step}
 use Rattle.host.specs.declared.Refusal.{Refusal}
@@ -33,7 +35,7 @@ nothingWaits = record { request = noRequest; sendings = 0 }
 
 -- the values of a report, then zeros
 unfoldable pub padded : List ℕ → List ℕ
-padded vs = laidOver vs (replicate 7 0)
+padded vs = laidOver vs (replicate mostValues 0)
 
 -- the bytes given out
 abbrev pub bytesOf : Move → List ℕ
@@ -42,26 +44,12 @@ bytesOf m = flatten (m .sent)
 
 -- what a call answers for a move
 unfoldable pub stepOf : Move → Step
-stepOf m = record {
-  host = hostOf (m .next);
-  length = length (bytesOf m);
-  outcome = m .outcome;
-  values = padded (m .values);
-  count = length (m .values);
-}
-
--- an answer without values
-abbrev pub plainStep : Host → ℕ → Outcome → Step
-plainStep h n o = record { host = h; length = n; outcome = o; values = replicate 7 0; count = 0 }
+stepOf m = record { host = hostOf (m .next); length = length (bytesOf m); outcome = m .outcome; values = padded (m .values); count = length (m .values) }
 
 -- A call that was lent an output answers a move: with that step, and the bytes given out at the front of the output.
 abbrev pub Answers : Move → List ℕ → Step → List ℕ → Type 0
 Answers m out r out' = (r ≡ stepOf m) × (out' ≡ laidOver (bytesOf m) out)
 
--- the room that any packet needs
-abbrev pub packetRoom : ℕ
-packetRoom = 40
-
--- an output with less is refused first; then it is the machine's step
+-- an output without room for any packet is refused first; then it is the machine's step
 unfoldable pub call : List ℕ → State → Happening → Move
-call out s h = cond (leb packetRoom (length out)) (step s h) (quiet s (Refused NoRoom))
+call out s h = cond (leb longest (length out)) (step s h) (quiet s (Refused NoRoom))

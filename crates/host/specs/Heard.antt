@@ -1,9 +1,10 @@
 -- What a burst says to the host that waits for a request. 01, "Host side": it heeds only an intact burst with group 0 and the
 -- request's ID: for a set ACK, for a get its report with the right length and allowed values, for either NAV or NACK.
 use Prim.Native.Nat.{ℕ}
-use mathlib.Core.Bool.{Bool, true, false, cond, _&&_}
+use mathlib.Core.Bool.{Bool, false, cond, _&&_}
 use mathlib.Core.List.{List, [], _∷_}
 use lib.Dec.{eqb}
+use Rattle.lists.specs.Lists.{same}
 use Rattle.settings.specs.Settings.{foundBy, getCode, allowedFor}
 use Rattle.settings.specs.declared.Found.{Found}
 use Rattle.settings.specs.declared.Found.the-variants.{Set, Get, Nothing as NoSetting}
@@ -16,13 +17,6 @@ use Rattle.packet.specs.declared.Verdict.the-variants.{Empty, Damaged, Intact}
 use Rattle.host.specs.declared.Request.{Request}
 use Rattle.host.specs.declared.Said.{Said}
 use Rattle.host.specs.declared.Said.the-variants.{Ack, Nack, Nav, Report, Nothing}
-
--- the same bytes
-unfoldable pub same : List ℕ → List ℕ → Bool
-same [] [] = true
-same [] (y ∷ ys) = false
-same (x ∷ xs) [] = false
-same (x ∷ xs) (y ∷ ys) = eqb x y && same xs ys
 
 -- the data of a control word
 unfoldable pub isControl : Control → List ℕ → Bool

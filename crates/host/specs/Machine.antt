@@ -4,6 +4,7 @@ use mathlib.Core.Bool.{Bool, cond}
 use mathlib.Core.List.{List, [], _∷_}
 use lib.ListN.{length, drop, replicate}
 use lib.Dec.{ltb}
+use Rattle.settings.specs.Settings.{mostValues}
 use Rattle.packet.specs.Answered.{isHeard}
 use Rattle.packet.specs.Packet.{monitorId, groupId}
 use Rattle.host.specs.declared.Request.{Request}
@@ -35,7 +36,7 @@ pub record Move : Type 0 where
 
 -- what stands in the place of a request where nothing waits
 abbrev pub noRequest : Request
-noRequest = record { id = monitorId 0; group = groupId 0; code = 0; values = replicate 7 0; count = 0 }
+noRequest = record { id = monitorId 0; group = groupId 0; code = 0; values = replicate mostValues 0; count = 0 }
 
 abbrev pub idle : State
 idle = record { request = noRequest; given = [] }
@@ -91,8 +92,3 @@ unfoldable pub step : State → Happening → Move
 step s (start r) = cond (waits s) (quiet s (Refused Busy)) (cond (isRequest r) (begun r) (quiet s (Refused NotARequest)))
 step s (burst b) = cond (waits s) (heard s b) (quiet s Idle)
 step s mark = cond (waits s) (again s) (quiet s Idle)
-
--- for each happening its move
-unfoldable pub run : State → List Happening → List Move
-run s [] = []
-run s (h ∷ hs) = step s h ∷ run (step s h .next) hs

@@ -4,14 +4,14 @@ use mathlib.Core.Bool.{Bool, false, not, _&&_}
 use mathlib.Core.List.{List, _∷_}
 use lib.ListN.{take}
 use lib.Dec.{leb, eqb}
-use Rattle.settings.specs.Settings.{foundBy, allowedFor}
+use Rattle.settings.specs.Settings.{foundBy, allowedFor, mostValues}
 use Rattle.settings.specs.declared.Found.{Found}
 use Rattle.settings.specs.declared.Found.the-variants.{Set, Get, Nothing}
 use Rattle.packet.specs.Packet.{packetOf}
 use Rattle.packet.specs.Answered.{isHeard}
 use Rattle.host.specs.declared.Request.{Request}
 
--- the values that count; the others of the seven mean nothing
+-- the values that count; the others mean nothing
 abbrev pub valuesOf : Request → List ℕ
 valuesOf r = take (r .count) (r .values)
 
@@ -27,6 +27,6 @@ isTaken r (Set row) = not (eqb (r .group .0) 255) && allowedFor row (valuesOf r)
 isTaken r (Get row) = eqb (r .count) 0 && isHeard (r .id) (r .group)
 isTaken r Nothing = false
 
--- a request from the table: at most seven values, and one of these two
+-- a request from the table: no more values than any row has, and one of these two
 unfoldable pub isRequest : Request → Bool
-isRequest r = leb (r .count) 7 && isTaken r (foundBy (r .code))
+isRequest r = leb (r .count) mostValues && isTaken r (foundBy (r .code))

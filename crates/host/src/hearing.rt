@@ -1,6 +1,7 @@
 // What the data of a burst says to the host that waits.
 ghost use mathlib.Core.Path.{_≡_};
 ghost use Prim.Native.Nat.{_<_};
+ghost use Rattle.settings.specs.Settings.{rowCount};
 ghost use Rattle.host.specs.Heard.{isControl, isReport, wordIn};
 use crate::Said;
 use packet::Control;
@@ -21,7 +22,7 @@ fn is_control(d: &[u8], word: Control) -> bool
 
 // Whether the data is a report of this row: its get code, and behind it values that it allows.
 fn is_report(row: usize, d: &[u8]) -> bool
-    requires { ⌜ row < 8 ⌝ }
+    requires { ⌜ row < rowCount ⌝ }
     ensures { λ r. ⌜ r ≡ isReport row (now (d .entry)) ⌝ }
 {
     if d.len() == 0 {

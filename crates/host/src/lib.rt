@@ -5,19 +5,27 @@ mod sending;
 ghost use mathlib.Core.Path.{_≡_};
 ghost use Prim.Native.Nat.{_≤_};
 ghost use lib.ListN.{length};
+ghost use Rattle.settings.specs.Settings.{mostValues};
+ghost use Rattle.packet.specs.Packet.{longest};
 ghost use Rattle.host.specs.Heard.{wordIn};
 ghost use Rattle.host.specs.Machine.{start, burst, mark, over, begun, again, ending, heard};
-ghost use Rattle.host.specs.Calls.{refusalOf, nothingWaits, stateOf, stepOf, plainStep, call, Answers};
+ghost use Rattle.host.specs.Calls.{refusalOf, nothingWaits, stateOf, stepOf, call, Answers};
+ghost use Rattle.host.specs.Private.Steps.{plainStep};
 use packet::GroupId;
+use packet::LONGEST;
 use packet::MonitorId;
 use packet::Verdict;
+use settings::MOST_VALUES;
+
+// A packet is sent at most so often.
+const MOST_SENDINGS: usize = 3;
 
 // A set with its values or a get. The first count of the values are the request's; the others mean nothing.
 pub struct Request {
     pub id: MonitorId,
     pub group: GroupId,
     pub code: u8,
-    pub values: [u8; 7],
+    pub values: [u8; MOST_VALUES],
     pub count: usize,
 }
 
@@ -52,7 +60,7 @@ pub struct Step {
     pub host: Host,
     pub length: usize,
     pub outcome: Outcome,
-    pub values: [u8; 7],
+    pub values: [u8; MOST_VALUES],
     pub count: usize,
 }
 
@@ -80,7 +88,7 @@ pub fn refusal_number(refusal: Refusal) -> u8
 fn plain(host: Host, length: usize, outcome: Outcome) -> Step
     ensures { λ r. ⌜ r ≡ plainStep host length outcome ⌝ }
 {
-    let values = [0u8; 7];
+    let values = [0u8; MOST_VALUES];
     Step {
         host,
         length,
@@ -92,7 +100,7 @@ fn plain(host: Host, length: usize, outcome: Outcome) -> Step
 
 // The packet is given out for the first time; where no answer is due, that is all.
 fn begin(request: Request, out: &mut [u8]) -> Step
-    requires { ⌜ 40 ≤ length (now out) ⌝ }
+    requires { ⌜ longest ≤ length (now out) ⌝ }
     ensures { λ r. ⌜ Answers (begun request) (now (out .entry)) r (now (out .exit)) ⌝ }
 {
     let length = sending::send(request, out);
@@ -112,11 +120,11 @@ fn begin(request: Request, out: &mut [u8]) -> Step
 
 // The same packet again, or after the third sending given up.
 fn send_again(host: Host, out: &mut [u8]) -> Step
-    requires { ⌜ 40 ≤ length (now out) ⌝ }
+    requires { ⌜ longest ≤ length (now out) ⌝ }
     ensures { λ r. ⌜ Answers (again (stateOf host)) (now (out .entry)) r (now (out .exit)) ⌝ }
 {
     let sendings = host.sendings;
-    if 3 <= sendings {
+    if MOST_SENDINGS <= sendings {
         return plain(Host::idle(), 0, Outcome::GivenUp(sendings));
     }
     let request = host.request;
@@ -133,10 +141,10 @@ fn send_again(host: Host, out: &mut [u8]) -> Step
 
 // A report has come, and these are its values.
 fn reported(sendings: usize, v: &[u8]) -> Step
-    requires { ⌜ length (now v) ≤ 7 ⌝ }
+    requires { ⌜ length (now v) ≤ mostValues ⌝ }
     ensures { λ r. ⌜ r ≡ stepOf (over (Outcome.Report sendings) (now (v .entry))) ⌝ }
 {
-    let mut values = [0u8; 7];
+    let mut values = [0u8; MOST_VALUES];
     let count = bytes::copy(v, &mut values);
     let host = Host::idle();
     let outcome = Outcome::Report(sendings);
@@ -151,7 +159,7 @@ fn reported(sendings: usize, v: &[u8]) -> Step
 
 // The panel that was asked has sent this data.
 fn told(host: Host, d: &[u8], out: &mut [u8]) -> Step
-    requires { ⌜ 40 ≤ length (now out) ⌝ }
+    requires { ⌜ longest ≤ length (now out) ⌝ }
     ensures { λ r. ⌜ Answers (ending (stateOf host) (now (d .entry)) (wordIn (host .request .code) (now (d .entry)))) (now (out .entry)) r (now (out .exit)) ⌝ }
 {
     let request = host.request;
@@ -167,7 +175,7 @@ fn told(host: Host, d: &[u8], out: &mut [u8]) -> Step
 
 // Only an intact burst with group 0 and the request's ID is heeded.
 fn heeded(host: Host, b: &[u8], out: &mut [u8]) -> Step
-    requires { ⌜ 40 ≤ length (now out) ⌝ }
+    requires { ⌜ longest ≤ length (now out) ⌝ }
     ensures { λ r. ⌜ Answers (heard (stateOf host) (now (b .entry))) (now (out .entry)) r (now (out .exit)) ⌝ }
 {
     let verdict = packet::verdict_on(b);
@@ -195,7 +203,7 @@ impl Host {
     pub fn idle() -> Self
         ensures { λ r. ⌜ r ≡ nothingWaits ⌝ }
     {
-        let values = [0u8; 7];
+        let values = [0u8; MOST_VALUES];
         let request = Request {
             id: MonitorId(0),
             group: GroupId(0),
@@ -213,7 +221,7 @@ impl Host {
     pub fn start(self, request: Request, out: &mut [u8]) -> Step
         ensures { λ r. ⌜ Answers (call (now (out .entry)) (stateOf self) (start request)) (now (out .entry)) r (now (out .exit)) ⌝ }
     {
-        if out.len() < 40 {
+        if out.len() < LONGEST {
             return plain(self, 0, Outcome::Refused(Refusal::NoRoom));
         }
         if self.sendings != 0 {
@@ -229,7 +237,7 @@ impl Host {
     pub fn hear(self, b: &[u8], out: &mut [u8]) -> Step
         ensures { λ r. ⌜ Answers (call (now (out .entry)) (stateOf self) (burst (now (b .entry)))) (now (out .entry)) r (now (out .exit)) ⌝ }
     {
-        if out.len() < 40 {
+        if out.len() < LONGEST {
             return plain(self, 0, Outcome::Refused(Refusal::NoRoom));
         }
         if self.sendings == 0 {
@@ -242,7 +250,7 @@ impl Host {
     pub fn mark(self, out: &mut [u8]) -> Step
         ensures { λ r. ⌜ Answers (call (now (out .entry)) (stateOf self) mark) (now (out .entry)) r (now (out .exit)) ⌝ }
     {
-        if out.len() < 40 {
+        if out.len() < LONGEST {
             return plain(self, 0, Outcome::Refused(Refusal::NoRoom));
         }
         if self.sendings == 0 {

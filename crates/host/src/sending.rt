@@ -3,15 +3,18 @@ ghost use mathlib.Core.Path.{_≡_};
 ghost use Prim.Native.Nat.{_≤_, _<_, min};
 ghost use mathlib.Core.List.{_∷_};
 ghost use lib.ListN.{length, take};
-ghost use Rattle.settings.specs.Settings.{allowedFor};
-ghost use Rattle.packet.specs.Packet.{laidOver};
+ghost use Rattle.packet.specs.Packet.{longest};
+ghost use Rattle.settings.specs.Settings.{allowedFor, rowCount, mostValues};
+ghost use Rattle.lists.specs.Lists.{laidOver};
 ghost use Rattle.host.specs.Request.{isRequest, requestPacket};
 use crate::Request;
+use packet::SHORTEST;
 use settings::Found;
+use settings::MOST_VALUES;
 
 // Whether the first count of these values may be set in a row.
-fn may_set(row: usize, v: [u8; 7], count: usize) -> bool
-    requires { ⌜ (row < 8) × (count ≤ 7) ⌝ }
+fn may_set(row: usize, v: [u8; MOST_VALUES], count: usize) -> bool
+    requires { ⌜ (row < rowCount) × (count ≤ mostValues) ⌝ }
     ensures { λ r. ⌜ r ≡ allowedFor row (take count v) ⌝ }
 {
     settings::allowed(row, &v[..count])
@@ -22,7 +25,7 @@ pub(crate) fn is_request(request: Request) -> bool
     ensures { λ r. ⌜ r ≡ isRequest request ⌝ }
 {
     let count = request.count;
-    if 7 < count {
+    if MOST_VALUES < count {
         return false;
     }
     let group = request.group;
@@ -46,22 +49,26 @@ pub(crate) fn is_request(request: Request) -> bool
 }
 
 // The code, and behind it the values.
-fn data_bytes(code: u8, v: [u8; 7]) -> [u8; 8]
+fn data_bytes(code: u8, v: [u8; MOST_VALUES]) -> [u8; MOST_VALUES + 1]
     ensures { λ r. ⌜ r ≡ code ∷ v ⌝ }
 {
     [code, v[0], v[1], v[2], v[3], v[4], v[5], v[6]]
 }
 
-// How many of the seven values count.
+// How many of a request's values count.
 fn in_use(count: usize) -> usize
-    ensures { λ r. ⌜ r ≡ min count 7 ⌝ }
+    ensures { λ r. ⌜ r ≡ min count mostValues ⌝ }
 {
-    if count < 7 { count } else { 7 }
+    if count < MOST_VALUES {
+        count
+    } else {
+        MOST_VALUES
+    }
 }
 
 // Puts the request's packet, for which there is room, at the front of out and answers its length.
 pub(crate) fn send(request: Request, out: &mut [u8]) -> usize
-    requires { ⌜ 40 ≤ length (now out) ⌝ }
+    requires { ⌜ longest ≤ length (now out) ⌝ }
     ensures { λ r. ⌜ r ≡ length (requestPacket request) ⌝ }
     ensures { λ _. ⌜ now (out .exit) ≡ laidOver (requestPacket request) (now (out .entry)) ⌝ }
 {
@@ -69,5 +76,5 @@ pub(crate) fn send(request: Request, out: &mut [u8]) -> usize
     let data = data_bytes(request.code, values);
     let n = in_use(request.count) + 1;
     packet::write_packet(out, request.id, request.group, &data[..n]);
-    n + 4
+    n + SHORTEST
 }

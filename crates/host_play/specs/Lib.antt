@@ -1,2 +1,2 @@
--- `Steps` is what a start of the program's input asks for.
-pub mod Steps
+-- A program has no public promise.
+pub mod Private

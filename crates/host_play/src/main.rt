@@ -2,34 +2,40 @@
 ghost use mathlib.Core.Path.{_≡_};
 ghost use Prim.Native.Nat.{_≤_};
 ghost use lib.ListN.{length};
-ghost use Rattle.host_play.specs.Steps.{requestOf};
+ghost use Rattle.host_play.specs.Private.Steps.{requestOf, startHead};
 use host::Host;
 use host::Outcome;
 use host::Request;
 use host::Step;
 use packet::GroupId;
+use packet::LONGEST;
 use packet::MonitorId;
+use settings::MOST_VALUES;
+use text::LONGEST_STEP;
 use text::Read;
 
-// A start's ID, group, code and values, of which at most seven are kept; a request with more is refused by its count.
+// How many bytes stand before a start's values: its kind, ID, group and code.
+const START_HEAD: usize = 4;
+
+// A start's ID, group, code and values, of which those are kept that a request has room for; a request with more is refused by its count.
 fn request_of(step: &[u8]) -> Request
-    requires { ⌜ 4 ≤ length (now step) ⌝ }
+    requires { ⌜ startHead ≤ length (now step) ⌝ }
     ensures { λ r. ⌜ r ≡ requestOf (now (step .entry)) ⌝ }
 {
-    let mut values = [0u8; 7];
-    bytes::copy(text::front(&step[4..], 7), &mut values);
+    let mut values = [0u8; MOST_VALUES];
+    bytes::copy(text::front(&step[START_HEAD..], MOST_VALUES), &mut values);
     Request {
         id: MonitorId(step[1]),
         group: GroupId(step[2]),
         code: step[3],
         values,
-        count: step.len() - 4,
+        count: step.len() - START_HEAD,
     }
 }
 
-// Prints up to 40 bytes in hex.
+// Prints the bytes of a packet in hex.
 fn print_hex(bytes: &[u8]) {
-    let mut digits = [0u8; 80];
+    let mut digits = [0u8; 2 * LONGEST];
     let n = text::hex(bytes, &mut digits);
     io::write_all(1, &digits[..n]);
 }
@@ -92,10 +98,10 @@ fn play(host: Host, step: &[u8]) -> Host {
     if n == 0 {
         return unknown(host);
     }
-    let mut out = [0u8; 40];
+    let mut out = [0u8; LONGEST];
     match step[0] {
         1 => {
-            if n < 4 {
+            if n < START_HEAD {
                 return unknown(host);
             }
             let step = host.start(request_of(step), &mut out);
@@ -122,7 +128,7 @@ fn main() {
     let mut host = Host::idle();
     let mut number = 0u64;
     while number < u64::MAX {
-        let mut buffer = [0u8; 255];
+        let mut buffer = [0u8; LONGEST_STEP];
         let read = text::read_step(&mut buffer);
         match read {
             Read::Step(n) => {

@@ -7,43 +7,38 @@ use native.Mathlib.Omega.{arith}
 use borrow.Author.Tests.{le-leb, eq-eqb, ne-eqb}
 use lib.ListN.{length, getD, take, drop, length-map}
 use lib.Seq.{append-snoc, take-at}
-use Rattle.settings.specs.Settings.{setCode}
-use Rattle.settings.specs.Numbers.{each}
+use Rattle.settings.specs.Settings.{setCode, rowCount, valueCount}
+use Rattle.lists.specs.Lists.{each, laidOver}
 use Rattle.packet.specs.declared.MonitorId.{MonitorId}
-use Rattle.packet.specs.Packet.{laidOver}
 use Rattle.panels.specs.declared.Panel.{Panel}
 use Rattle.panels.specs.declared.Table.{Table}
 use Rattle.panels.specs.declared.Place.the-variants.{Nowhere}
-use Rattle.panels.specs.Wall.{Wall, valuesOf, blank, panelsOf, placeFrom}
+use Rattle.panels.specs.Wall.{Wall, valuesOf, blank, panelsOf, placeFrom, mostPanels}
 use Rattle.panels.specs.WellFormed.{GoodPanel, Absent, GoodWall, WellFormed}
 use Rattle.panels.proofs.Formed.{absent-snoc, good-at}
-use Rattle.image.specs.declared.Refusal.the-variants.{Nothing}
-use Rattle.image.specs.declared.Fields.{Fields}
-use Rattle.image.specs.declared.Read.{Read}
-use Rattle.image.specs.Written.{field, fieldsOf, recordOf, recordsOf, imageOf, sizeOf, outputOf}
-use Rattle.image.specs.Fields.{fieldsIn}
-use Rattle.image.specs.Read.{Reading, headFits, recordRefusal, panelIn, readRecords, readOf, inTable}
-use Rattle.image.specs.Entries.{Entry, entryBytes, bytesOf, entryOf, Without, givenOr, given}
-use Rattle.image.proofs.Lengths.{each-alike, length-values, record-at, record-length, records-long}
-use Rattle.image.proofs.Entries.{rowOf, row-is, Good, GoodEntries}
-use Rattle.image.proofs.ByCode.{stored-is}
-use Rattle.image.proofs.Order.{codes-apart, good-read}
-use Rattle.image.proofs.Split.{image-length, whole-sound, records-in}
+use Rattle.image_read.specs.declared.Refusal.the-variants.{Nothing}
+use Rattle.image_read.specs.declared.Read.{Read}
+use Rattle.image_write.specs.Written.{field, fieldsOf, recordOf, recordsOf, imageOf, sizeOf, outputOf}
+use Rattle.image_read.specs.Fields.{fieldsIn}
+use Rattle.image_read.specs.Read.{Reading, headFits, recordRefusal, panelIn, readRecords, readOf, inTable}
+use Rattle.image_read.specs.Entries.{Entry, entryBytes, bytesOf, entryOf, Without, givenOr, given}
+use Rattle.lists.proofs.Each.{each-alike, map-each}
+use Rattle.image_write.proofs.Lengths.{length-values, record-at, record-length, records-long, image-length}
+use Rattle.image_read.proofs.Entries.{rowOf, row-is, Good, GoodEntries}
+use Rattle.image_read.proofs.ByCode.{stored-is}
+use Rattle.image_read.proofs.Order.{codes-apart, good-read}
+use Rattle.image.proofs.Split.{whole-sound, records-in}
 
 -- the entries of a panel's fields
 abbrev entriesOf : List ℕ → List Entry
-entriesOf values = each (λ row. entryOf row values) 8
+entriesOf values = each (λ row. entryOf row values) rowCount
 
-map-each : {A B : Type 0} (g : A → B) (f : ℕ → A) (n : ℕ) → map g (each f n) ≡ each (λ k. g (f k)) n
-map-each g f zero = refl
-map-each g f (suc n) = ap (λ r. g (f 0) ∷ r) (map-each g (λ k. f (suc k)) n)
-
-written-entries : (values : List ℕ) → length values ≡ 15 → flatten (fieldsOf values) ≡ bytesOf (entriesOf values)
+written-entries : (values : List ℕ) → length values ≡ valueCount → flatten (fieldsOf values) ≡ bytesOf (entriesOf values)
 unfolding fieldsOf bytesOf flatten
 written-entries values full =
     ap flatten
-    (sym (map-each entryBytes (λ row. entryOf row values) 8
-    ∙ each-alike (λ row. entryBytes (entryOf row values)) (λ row. field row (valuesOf row values)) 8
+    (sym (map-each entryBytes (λ row. entryOf row values) rowCount
+    ∙ each-alike (λ row. entryBytes (entryOf row values)) (λ row. field row (valuesOf row values)) rowCount
     (λ row h. ap (λ (n : ℕ). setCode row ∷ n ∷ valuesOf row values) (length-values row values full))))
 
 without-each : (c : ℕ) (f : ℕ → Entry) (n : ℕ) → ((k : ℕ) → k < n → f k .code ≡ c → ⊥) → Without c (each f n)
@@ -74,28 +69,31 @@ absent-nowhere i k (p ∷ w) (n, a) = rw (ne-eqb (p .id .0) (i .0) n) (absent-no
 
 -- a panel's own entries are good, and give each row its values
 module _ (p : Panel) (good : GoodPanel p) where
-  own-row : {row : ℕ} → row < 8 → rowOf (entryOf row (p .values)) ≡ row
+  own-row : {row : ℕ} → row < rowCount → rowOf (entryOf row (p .values)) ≡ row
   own-row {row} h = row-is (entryOf row (p .values)) h refl
 
   own-good : GoodEntries (entriesOf (p .values))
   own-good =
-      good-each (λ row. entryOf row (p .values)) 8
+      good-each (λ row. entryOf row (p .values)) rowCount
       (λ row h. let e = own-row h in record { in-table = rw e h; code = ap setCode e; allowed = rw e (good .inRange row h) })
       (λ j k l h e. let s = codes-apart h (omega arith) e in omega arith)
 
-  own-given : (row : ℕ) → row < 8 → given row (entriesOf (p .values)) ≡ valuesOf row (p .values)
-  own-given row h = each-gives _ row (λ row. entryOf row (p .values)) 8 row h refl (λ j l e. let s = codes-apart (omega arith) h e in omega arith)
+  own-given : (row : ℕ) → row < rowCount → given row (entriesOf (p .values)) ≡ valuesOf row (p .values)
+  own-given row h = each-gives _ row (λ row. entryOf row (p .values)) rowCount row h refl (λ j l e. let s = codes-apart (omega arith) h e in omega arith)
 
-  fields-back : fieldsIn (drop 2 (recordOf p)) ≡ record { refusal = Nothing; values = p .values }
+  fields-sound : fieldsIn (drop 2 (recordOf p)) .refusal ≡ Nothing
+  unfolding recordOf
+  fields-sound = rw (written-entries (p .values) (good .full), good-read (entriesOf (p .values)) own-good)
+
+  fields-back : fieldsIn (drop 2 (recordOf p)) .values ≡ p .values
   unfolding recordOf
   fields-back =
-      ap fieldsIn (written-entries (p .values) (good .full))
-      ∙ good-read (entriesOf (p .values)) own-good
-      ∙ ap {B = Fields} (λ (v : List ℕ). record { refusal = Nothing; values = v }) (stored-is (entriesOf (p .values)) (p .values) own-good (good .full) own-given)
+      rw (written-entries (p .values) (good .full), good-read (entriesOf (p .values)) own-good)
+      (stored-is (entriesOf (p .values)) (p .values) own-good (good .full) own-given)
 
   panel-back : panelIn (recordOf p) ≡ p
   unfolding panelIn recordOf
-  panel-back = ap {B = Panel} (λ (f : Fields). record { id = p .id; group = p .group; values = f .values }) fields-back
+  panel-back = ap {B = Panel} (λ (vs : List ℕ). record { id = p .id; group = p .group; values = vs }) fields-back
 
   record-back : (w : Wall) → Absent (p .id) w → recordRefusal w (recordOf p) ≡ Nothing
   unfolding recordRefusal headFits recordOf
@@ -105,7 +103,7 @@ module _ (p : Panel) (good : GoodPanel p) where
         ne-eqb (p .id .0) 0 (good .named),
         ne-eqb (p .group .0) 0 (good .grouped),
         absent-nowhere (p .id) 0 w a,
-      ) (ap (λ (f : Fields). f .refusal) fields-back)
+      ) fields-sound
 
 -- no panel of the one wall has the ID of a panel of the other
 abbrev Apart : Wall → Wall → Type 0
@@ -124,7 +122,7 @@ records-back w (p ∷ v) (g, b, good) (a, apart) =
     (records-back (w ++ p ∷ []) v good (apart-snoc w v p apart b) ∙ ap {B = Reading} (λ (u : Wall). record { refusal = Nothing; wall = u }) (append-snoc w p v))
 
 -- The image of a good wall is sound and reads as that wall.
-module _ (w : Wall) (good : GoodWall w) (few : length w ≤ 32) where
+module _ (w : Wall) (good : GoodWall w) (few : length w ≤ mostPanels) where
   not-empty : (k : ℕ) → k < length (recordsOf w) → 0 < length (getD (recordsOf w) k [])
   not-empty k h =
       let h′ : k < length w = omega (arith, length-map w recordOf) in
@@ -133,7 +131,7 @@ module _ (w : Wall) (good : GoodWall w) (few : length w ≤ 32) where
   pub reads-back : readOf (imageOf (recordsOf w)) ≡ record { refusal = Nothing; wall = w }
   unfolding readOf
   reads-back =
-      let n : length (recordsOf w) ≤ 32 = omega (arith, length-map w recordOf) in
+      let n : length (recordsOf w) ≤ mostPanels = omega (arith, length-map w recordOf) in
       rw (whole-sound (recordsOf w) not-empty n, records-in (recordsOf w) not-empty n) (records-back [] w good (apart-none w))
     where
       apart-none : (v : Wall) → Apart [] v

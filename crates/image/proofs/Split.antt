@@ -9,58 +9,36 @@ use native.Mathlib.Omega.{arith}
 use borrow.Author.Tests.{le-ltb, lt-ltb, eq-eqb}
 use lib.ListN.{length, getD, take, drop, length-append, List·getD-append}
 use lib.Seq.{take-at, drop-at, take-all, getD-append-add}
-use Rattle.settings.specs.Settings.{startOf}
-use Rattle.settings.specs.Numbers.{each}
-use Rattle.settings.proofs.Flat.{in-flat}
-use Rattle.settings.proofs.WrittenOut.{in-each}
-use Rattle.image.specs.Written.{highLow, startsOf, imageOf}
-use Rattle.image.specs.Whole.{formOf, countOf, startsAt, startAt, edge, rises, startsFit, wholeRefusal, recordIn, recordsIn}
-use Rattle.image.specs.Read.{isSound}
-use Rattle.image.proofs.Laid.{flat-more}
-use Rattle.image.proofs.Lengths.{length-each, each-alike, pairs-before}
-
--- lists one behind the other, seen from list k
-flat-at : {A : Type 0} (ls : List (List A)) (k : ℕ) → k < length ls → flatten ls ≡ flatten (take k ls) ++ (getD ls k [] ++ flatten (drop (suc k) ls))
-unfolding flatten
-flat-at [] k h = absurd (not-suc-le-zero h)
-flat-at (l ∷ ls) zero h = refl
-flat-at (l ∷ ls) (suc k) h = rw (append-assoc l) (ap (λ r. l ++ r) (flat-at ls k (le-of-suc-le-suc h)))
-
-each-getD : {A : Type 0} (ls : List A) (d : A) → each (λ k. getD ls k d) (length ls) ≡ ls
-each-getD [] d = refl
-each-getD (l ∷ ls) d = ap (λ r. l ∷ r) (each-getD ls d)
+use Rattle.panels.specs.Wall.{mostPanels}
+use Rattle.lists.specs.Lists.{startOf, each}
+use Rattle.lists.proofs.Flat.{in-flat, flat-more, flat-at}
+use Rattle.lists.proofs.Each.{in-each, each-alike, each-getD}
+use Rattle.image_write.specs.Written.{highLow, startsOf, imageOf}
+use Rattle.image_read.specs.Whole.{formOf, countOf, startsAt, startAt, edge, rises, startsFit, wholeRefusal, recordIn, recordsIn}
+use Rattle.image_read.specs.Read.{isSound}
+use Rattle.image_write.proofs.Lengths.{pairs-before, starts-count, image-length}
 
 module _ (records : List (List ℕ)) where
-  pub starts-count : length (flatten (startsOf records)) ≡ 2 * length records
-  unfolding startsOf flatten
-  starts-count =
-      let all = take-all (length records) (startsOf records) (omega (arith, length-each (λ k. highLow (startOf records k)) (length records))) in
-      ap (λ (ls : List (List ℕ)). length (flatten ls)) (sym all) ∙ pairs-before (λ k. startOf records k) (length records) (length records) (omega arith)
-
-  pub image-length : length (imageOf records) ≡ length (flatten records) + 2 * length records + 2
-  unfolding imageOf
-  image-length = rw (length-append (flatten records ++ flatten (startsOf records)), length-append (flatten records), starts-count)
-
   -- the trailer
   in-trailer : (k : ℕ) → getD (imageOf records) (length (flatten records) + 2 * length records + k) 0 ≡ getD (length records ∷ 1 ∷ []) k 0
   unfolding imageOf
   in-trailer k =
       let p = flatten records ++ flatten (startsOf records) in
-      let e : length p ≡ length (flatten records) + 2 * length records = length-append (flatten records) (flatten (startsOf records)) ∙ ap (λ (m : ℕ). length (flatten records) + m) starts-count in
+      let e : length p ≡ length (flatten records) + 2 * length records = length-append (flatten records) (flatten (startsOf records)) ∙ ap (λ (m : ℕ). length (flatten records) + m) (starts-count records) in
       rw (← e) (getD-append-add p (length records ∷ 1 ∷ []) k 0)
 
   form-is : formOf (imageOf records) ≡ 1
   form-is =
-      let e : length (imageOf records) - 1 ≡ length (flatten records) + 2 * length records + 1 = omega (arith, image-length) in
+      let e : length (imageOf records) - 1 ≡ length (flatten records) + 2 * length records + 1 = omega (arith, image-length records) in
       rw e (in-trailer 1)
 
   count-is : countOf (imageOf records) ≡ length records
   count-is =
-      let e : length (imageOf records) - 2 ≡ length (flatten records) + 2 * length records + 0 = omega (arith, image-length) in
+      let e : length (imageOf records) - 2 ≡ length (flatten records) + 2 * length records + 0 = omega (arith, image-length records) in
       rw e (in-trailer 0)
 
   starts-at : startsAt (imageOf records) ≡ length (flatten records)
-  starts-at = rw count-is (omega (arith, image-length))
+  starts-at = rw count-is (omega (arith, image-length records))
 
   -- a byte of a start
   in-starts : (k j : ℕ) → k < length records → j < 2 → getD (imageOf records) (length (flatten records) + 2 * k + j) 0 ≡ getD (highLow (startOf records k)) j 0
@@ -71,7 +49,7 @@ module _ (records : List (List ℕ)) where
       let pair = in-each (λ k. highLow (startOf records k)) (length records) {k = k} [] h in
       let at : startOf ls k ≡ 2 * k = pairs-before (λ k. startOf records k) (length records) k (omega arith) in
       let e : length (flatten records) + 2 * k + j ≡ length (flatten records) + (2 * k + j) = omega arith in
-      let here : 2 * k + j < length s = omega (arith, starts-count) in
+      let here : 2 * k + j < length s = omega (arith, starts-count records) in
       rw (append-assoc (flatten records) s, e, getD-append-add (flatten records) _ (2 * k + j) 0, List·getD-append s _ 0 (2 * k + j) here, ← at)
       (in-flat ls k j 0 (rw pair g) ∙ rw pair)
 
@@ -102,7 +80,7 @@ module _ (records : List (List ℕ)) where
   next-start k h = ap length (flat-more records k h) ∙ length-append (flatten (take k records)) (getD records k [])
 
   -- none of them empty, and at most 32
-  module _ (full : (k : ℕ) → k < length records → 0 < length (getD records k [])) (few : length records ≤ 32) where
+  module _ (full : (k : ℕ) → k < length records → 0 < length (getD records k [])) (few : length records ≤ mostPanels) where
     rises-all : (m k : ℕ) → k + m ≡ length records → rises (imageOf records) k m ≡ true
     unfolding rises
     rises-all zero k e = refl
@@ -122,10 +100,10 @@ module _ (records : List (List ℕ)) where
     whole-sound =
         let image = imageOf records in
         rw (
-          le-ltb (length image) 2 (omega (arith, image-length)),
+          le-ltb (length image) 2 (omega (arith, image-length records)),
           eq-eqb (formOf image) 1 form-is,
-          le-ltb 32 (countOf image) (omega (arith, count-is)),
-          le-ltb (length image) (2 * countOf image + 2) (omega (arith, image-length, count-is)),
+          le-ltb mostPanels (countOf image) (omega (arith, count-is)),
+          le-ltb (length image) (2 * countOf image + 2) (omega (arith, image-length records, count-is)),
           starts-fit,
         )
 

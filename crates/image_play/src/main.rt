@@ -3,7 +3,7 @@
 ghost use Prim.Native.Nat.{_≤_, _<_};
 ghost use lib.ListN.{length};
 ghost use Rattle.panels.specs.WellFormed.{WellFormed};
-use image::Written;
+use image_write::Written;
 use panels::Table;
 
 // An image of the input, which stands at the front of the buffer; or the input stopped inside one; or it was at its end.
@@ -42,7 +42,7 @@ fn print_image(t: Table)
     requires { ⌜ WellFormed t ⌝ }
 {
     let mut out = [0u8; 1122];
-    let written = image::write_image(t, &mut out);
+    let written = image_write::write_image(t, &mut out);
     let Written::Bytes(n) = written else {
         return;
     };
@@ -56,9 +56,9 @@ fn print_reading(bytes: &[u8]) {
         io::write_all(1, b"too-long");
         return;
     }
-    let read = image::read_image(bytes);
+    let read = image_read::read_image(bytes);
     let refusal = read.refusal;
-    let number = image::refusal_number(refusal);
+    let number = image_read::refusal_number(refusal);
     if number != 0 {
         io::write_all(1, b"refused ");
         io::print_decimal(1, number as u64);

@@ -4,12 +4,13 @@ use mathlib.Core.Bool.{cond}
 use mathlib.Core.List.{List, [], _∷_, _++_}
 use lib.Dec.{ltb}
 use lib.ListN.{length, take, set, replicate}
+use Rattle.packet.specs.Packet.{longest}
 use Rattle.panels.specs.declared.Table.{Table}
 use Rattle.panels.specs.Wall.{Wall, panelsOf, tableOf}
-use Rattle.line.specs.declared.Reply.{Reply}
+use Rattle.answers.specs.declared.Reply.{Reply}
 use Rattle.line.specs.declared.Receiver.{Receiver}
 use Rattle.line.specs.declared.Heard.{Heard}
-use Rattle.line.specs.Played.{Outcome, played}
+use Rattle.answers.specs.Played.{Outcome, played}
 
 pub record Ended : Type 0 where
   pub wall : Wall
@@ -38,17 +39,17 @@ burstsAfter heard [] = []
 burstsAfter heard (byte b ∷ events) = burstsAfter (heard ++ b ∷ []) events
 burstsAfter heard (quiet ∷ events) = heard ∷ burstsAfter [] events
 
--- A receiver keeps the first 40 bytes and counts to 41, which stands for "more than 40".
+-- A receiver keeps as many bytes as a packet may have, and counts one more, which stands for all that came past them.
 unfoldable pub receiverOf : List ℕ → Receiver
-receiverOf heard = record { bytes = take 40 heard ++ replicate (40 - length heard) 0; count = min (length heard) 41 }
+receiverOf heard = record { bytes = take longest heard ++ replicate (longest - length heard) 0; count = min (length heard) (longest + 1) }
 
 unfoldable pub withByte : Receiver → ℕ → Receiver
 withByte r b =
-    cond (ltb (r .count) 40)
+    cond (ltb (r .count) longest)
     (record { bytes = set (r .bytes) (r .count) b; count = r .count + 1 })
-    (record { bytes = r .bytes; count = 41 })
+    (record { bytes = r .bytes; count = longest + 1 })
 
--- the burst that it has, with one byte behind the 40 for all that came past them
+-- the burst that it has, with one byte behind those kept for all that came past them
 unfoldable pub burstOf : Receiver → List ℕ
 burstOf r = take (r .count) (r .bytes ++ 0 ∷ [])
 

@@ -1,47 +1,18 @@
-// The answer to a burst, the receiver of one serial line, and an answer written out.
-mod answering;
-mod judging;
-mod playing;
-mod receiving;
-
-pub use answering::write_answer;
-use packet::Control;
-use packet::MonitorId;
+// The receiver of one serial line. It takes one byte or one quiet mark at a time and answers at the mark.
+ghost use mathlib.Core.Path.{_≡_};
+ghost use mathlib.Core.List.{[]};
+ghost use Rattle.panels.specs.WellFormed.{WellFormed};
+ghost use Rattle.line.specs.Session.{receiverOf, withByte, atMark};
+use answers::Reply;
+use packet::LONGEST;
 use panels::Table;
-pub use playing::play;
 
-// Silence, a control word, or a report, whose bytes stand beside it.
-pub enum Answer {
-    Silence,
-    Word(Control),
-    Report,
-}
+// Counted where more bytes came than a packet may have.
+const PAST_LONGEST: usize = LONGEST + 1;
 
-pub struct Reply {
-    pub answer: Answer,
-    pub id: MonitorId,
-    pub bytes: [u8; 8],
-    pub count: usize,
-}
-
-// What a packet asks of every addressed panel alike: a report of a row, its values to be stored in a row, or nothing
-// that is available.
-enum Order {
-    Report(usize),
-    Store(usize),
-    NotAvailable,
-}
-
-// What a burst leaves: the table and the reply.
-pub struct Played {
-    pub table: Table,
-    pub reply: Reply,
-}
-
-// The receiver of one line: the first 40 bytes since the last quiet mark, and how many there were, where 41 stands for
-// more than 40.
+// The first bytes since the last quiet mark, as many as a packet may have, and how many there were, up to one more.
 pub struct Receiver {
-    pub bytes: [u8; 40],
+    pub bytes: [u8; LONGEST],
     pub count: usize,
 }
 
@@ -52,8 +23,53 @@ pub struct Heard {
     pub reply: Reply,
 }
 
-// How many bytes went into the output, or it is under 40 bytes.
-pub enum Sent {
-    Bytes(usize),
-    NoRoom,
+impl Receiver {
+    // Nothing was heard since the last mark.
+    pub fn fresh() -> Receiver
+        ensures { λ r. ⌜ r ≡ receiverOf [] ⌝ }
+    {
+        Receiver {
+            bytes: [0u8; LONGEST],
+            count: 0,
+        }
+    }
+
+    pub fn byte(mut self, b: u8) -> Receiver
+        ensures { λ r. ⌜ r ≡ withByte self b ⌝ }
+    {
+        let n = self.count;
+        if n < LONGEST {
+            self.bytes[n] = b;
+            self.count = n + 1;
+            return self;
+        }
+        self.count = PAST_LONGEST;
+        self
+    }
+
+    pub fn quiet(mut self, t: Table) -> Heard
+        requires { ⌜ WellFormed t ⌝ }
+        ensures { λ r. ⌜ r ≡ atMark self t ⌝ }
+    {
+        let bytes = self.bytes;
+        let n = self.count;
+        self.bytes = [0u8; LONGEST];
+        self.count = 0;
+        if LONGEST < n {
+            let reply = answers::damaged_reply(t, &bytes);
+            return Heard {
+                receiver: self,
+                table: t,
+                reply,
+            };
+        }
+        let played = answers::play(t, &bytes[..n]);
+        let table = played.table;
+        let reply = played.reply;
+        Heard {
+            receiver: self,
+            table,
+            reply,
+        }
+    }
 }

@@ -8,7 +8,7 @@ use borrow.Author.Tests.{leb-true, le-leb, eqb-true, eq-eqb, ne-eqb}
 use lib.ListN.{length, getD, length-append}
 use lib.Seq.{take-append-seam}
 use Rattle.packet.specs.Xor.{xorAll}
-use Rattle.packet.specs.Packet.{monitorId, groupId, isIntact, verdictOf, dataOf, unsummed, packetOf}
+use Rattle.packet.specs.Packet.{monitorId, groupId, isIntact, verdictOf, dataOf, unsummed, packetOf, mostData, longest}
 use Rattle.packet.specs.declared.MonitorId.{MonitorId}
 use Rattle.packet.specs.declared.GroupId.{GroupId}
 use Rattle.packet.specs.declared.Verdict.the-variants.{Intact}
@@ -16,7 +16,7 @@ use Rattle.packet.proofs.Xor.{⊕-self, ⊕-zero, xorAll-append}
 
 pub record Sound (burst : List ℕ) : Type 0 where
   pub least : 4 ≤ length burst
-  pub most : length burst ≤ 40
+  pub most : length burst ≤ longest
   pub size : getD burst 0 0 ≡ length burst
   pub sum : xorAll burst ≡ 0
 
@@ -43,7 +43,7 @@ unfolding verdictOf
 intact-verdict burst e = let s = sound burst e in rw (ne-eqb (length burst) 0 (λ z. omega arith), e)
 
 -- A packet written out is intact, and reads back as its ID, group and data.
-module _ (id : MonitorId) (group : GroupId) (d : List ℕ) (short : length d ≤ 36) where
+module _ (id : MonitorId) (group : GroupId) (d : List ℕ) (short : length d ≤ mostData) where
   pub packet-length : length (packetOf id group d) ≡ length d + 4
   unfolding packetOf
   packet-length = simp length-append (omega arith)

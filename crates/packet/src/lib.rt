@@ -5,6 +5,13 @@ ghost use Rattle.packet.specs.Control.{controlByte};
 ghost use Rattle.packet.specs.Answered.{isHeard};
 ghost use Rattle.packet.specs.Packet.{isIntact, verdictOf, dataOf, writtenOf, outputOf};
 
+// A packet without data, the longest packet, and the data that has room in it.
+pub const SHORTEST: usize = 4;
+
+pub const LONGEST: usize = 40;
+
+pub const MOST_DATA: usize = LONGEST - SHORTEST;
+
 pub struct MonitorId(pub u8);
 
 pub struct GroupId(pub u8);
@@ -20,7 +27,7 @@ pub enum Verdict {
     },
 }
 
-// A packet's size, once it is written; or the data fits no packet; or the output is under 40 bytes.
+// A packet's size, once it is written; or the data fits no packet; or the output has no room for any packet.
 pub enum Written {
     Bytes(usize),
     TooLong,
@@ -68,10 +75,10 @@ fn is_intact(burst: &[u8]) -> bool
     ensures { λ r. ⌜ r ≡ isIntact (now (burst .entry)) ⌝ }
 {
     let n = burst.len();
-    if n < 4 {
+    if n < SHORTEST {
         return false;
     }
-    if 40 < n {
+    if LONGEST < n {
         return false;
     }
     if burst[0] as usize != n {
@@ -93,7 +100,7 @@ pub fn verdict_on(burst: &[u8]) -> Verdict
     Verdict::Intact {
         id: MonitorId(burst[1]),
         group: GroupId(burst[2]),
-        count: n - 4,
+        count: n - SHORTEST,
     }
 }
 
@@ -110,10 +117,10 @@ pub fn data_part(burst: &[u8], verdict: Verdict) -> &[u8]
         return &burst[..0];
     };
     let n = burst.len();
-    if n < 4 {
+    if n < SHORTEST {
         return &burst[..0];
     }
-    if n - 4 != count {
+    if n - SHORTEST != count {
         return &burst[..0];
     }
     &burst[3..n - 1]
@@ -124,18 +131,18 @@ pub fn write_packet(out: &mut [u8], id: MonitorId, group: GroupId, d: &[u8]) -> 
     ensures { λ r. ⌜ r ≡ writtenOf (now (out .entry)) (now (d .entry)) ⌝ }
     ensures { λ _. ⌜ now (out .exit) ≡ outputOf (now (out .entry)) id group (now (d .entry)) ⌝ }
 {
-    if out.len() < 40 {
+    if out.len() < LONGEST {
         return Written::NoRoom;
     }
     let n = d.len();
-    if 36 < n {
+    if MOST_DATA < n {
         return Written::TooLong;
     }
-    let size = (n + 4) as u8;
+    let size = (n + SHORTEST) as u8;
     out[0] = size;
     out[1] = id.0;
     out[2] = group.0;
     bytes::copy(d, &mut out[3..]);
     out[n + 3] = size ^ id.0 ^ group.0 ^ xor_of(d);
-    Written::Bytes(n + 4)
+    Written::Bytes(n + SHORTEST)
 }

@@ -17,15 +17,15 @@ use Rattle.panels.specs.declared.Place.{Place}
 use Rattle.panels.specs.declared.Place.the-variants.{At, Nowhere}
 use Rattle.panels.specs.declared.Refusal.{Refusal}
 use Rattle.panels.specs.declared.Refusal.the-variants.{Nothing, Full, IdZero, IdTaken, GroupZero, NoPanel}
-use Rattle.panels.specs.Wall.{Wall, blank, freshPanel, tableOf, panelsOf, placeFrom, placeOf}
+use Rattle.panels.specs.Wall.{Wall, blank, freshPanel, tableOf, panelsOf, placeFrom, placeOf, mostPanels}
 use Rattle.panels.specs.Calls.{ifThere, addRefusal, unlessRefused, added, without, removed}
 use Rattle.panels.specs.WellFormed.{GoodPanel, Absent, GoodWall, WellFormed}
 use Rattle.panels.proofs.Laws.{panels-of-table}
 
-pub formed : (w : Wall) → length w ≤ 32 → GoodWall w → WellFormed (tableOf w)
+pub formed : (w : Wall) → length w ≤ mostPanels → GoodWall w → WellFormed (tableOf w)
 formed w few good =
     let e = sym (panels-of-table w) in
-    record { held = ap tableOf e; few = subst (λ (v : Wall). length v ≤ 32) e few; good = subst GoodWall e good }
+    record { held = ap tableOf e; few = subst (λ (v : Wall). length v ≤ mostPanels) e few; good = subst GoodWall e good }
 
 -- nothing is found exactly where the ID is absent
 pub nowhere-absent : (i : MonitorId) (k : ℕ) (w : Wall) → placeFrom i k w ≡ Nowhere → Absent i w
@@ -82,16 +82,16 @@ empty-formed = formed [] (omega arith) tt
 
 -- what add has found where it refuses nothing
 pub record MayAdd (w : Wall) (i : MonitorId) (g : GroupId) : Type 0 where
-  pub room : length w < 32
+  pub room : length w < mostPanels
   pub named : i .0 ≡ 0 → ⊥
   pub new : placeOf i w ≡ Nowhere
   pub grouped : g .0 ≡ 0 → ⊥
 
 pub may-add : (w : Wall) (i : MonitorId) (g : GroupId) → addRefusal w i g ≡ Nothing → MayAdd w i g
 unfolding addRefusal
-may-add w i g e = go (leb 32 (length w)) (eqb (i .0) 0) (placeOf i w) (eqb (g .0) 0) refl refl refl refl e
+may-add w i g e = go (leb mostPanels (length w)) (eqb (i .0) 0) (placeOf i w) (eqb (g .0) 0) refl refl refl refl e
   where
-    go : (a b : Bool) (q : Place) (c : Bool) → leb 32 (length w) ≡ a → eqb (i .0) 0 ≡ b → placeOf i w ≡ q → eqb (g .0) 0 ≡ c
+    go : (a b : Bool) (q : Place) (c : Bool) → leb mostPanels (length w) ≡ a → eqb (i .0) 0 ≡ b → placeOf i w ≡ q → eqb (g .0) 0 ≡ c
         → cond a Full (cond b IdZero (ifThere q IdTaken (cond c GroupZero Nothing))) ≡ Nothing → MayAdd w i g
     go true b q c ea eb eq ec n = let z : _≡_ {A = ℕ} 0 1 = cc in absurd (omega arith)
     go false true q c ea eb eq ec n = let z : _≡_ {A = ℕ} 0 1 = cc in absurd (omega arith)
@@ -100,7 +100,7 @@ may-add w i g e = go (leb 32 (length w)) (eqb (i .0) 0) (placeOf i w) (eqb (g .0
     go false false Nowhere false ea eb eq ec n =
         record { room = leb-false _ _ ea; named = eqb-false _ _ eb; new = eq; grouped = eqb-false _ _ ec }
 
-good-added : (w : Wall) (i : MonitorId) (g : GroupId) (r : Refusal) → length w ≤ 32 → GoodWall w → addRefusal w i g ≡ r
+good-added : (w : Wall) (i : MonitorId) (g : GroupId) (r : Refusal) → length w ≤ mostPanels → GoodWall w → addRefusal w i g ≡ r
     → WellFormed (tableOf (unlessRefused r (w ++ freshPanel i g ∷ []) w))
 good-added w i g Nothing few good e =
     let m = may-add w i g e in
@@ -115,7 +115,7 @@ pub added-formed : {t : Table} → WellFormed t → (i : MonitorId) (g : GroupId
 unfolding added
 added-formed f i g = good-added _ i g _ (f .few) (f .good) refl
 
-good-removed : (w : Wall) (q : Place) → length w ≤ 32 → GoodWall w → WellFormed (tableOf (without q w))
+good-removed : (w : Wall) (q : Place) → length w ≤ mostPanels → GoodWall w → WellFormed (tableOf (without q w))
 good-removed w Nowhere few good = formed w few good
 good-removed w (At k) few good = formed _ (simp (length-append, length-take, length-drop) (omega arith)) (good-without k w good)
 

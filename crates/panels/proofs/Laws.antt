@@ -15,9 +15,9 @@ use Rattle.panels.specs.declared.Panel.{Panel}
 use Rattle.panels.specs.declared.Table.{Table}
 use Rattle.panels.specs.declared.Place.{Place}
 use Rattle.panels.specs.declared.Place.the-variants.{At, Nowhere}
-use Rattle.panels.specs.Wall.{Wall, blank, tableOf, panelsOf, placeFrom}
+use Rattle.panels.specs.Wall.{Wall, blank, tableOf, panelsOf, placeFrom, mostPanels}
 use Rattle.panels.specs.WellFormed.{WellFormed}
-use Rattle.panels.proofs.Lists.{getD-inside}
+use Rattle.lists.proofs.Places.{getD-inside}
 
 pub panels-of-table : (w : Wall) → panelsOf (tableOf w) ≡ w
 unfolding tableOf
@@ -27,7 +27,7 @@ pub count-is : {t : Table} → WellFormed t → t .count ≡ length (panelsOf t)
 unfolding tableOf
 count-is f = ap (λ (t : Table). t .count) (f .held)
 
-pub count-few : {t : Table} → WellFormed t → t .count ≤ 32
+pub count-few : {t : Table} → WellFormed t → t .count ≤ mostPanels
 count-few f = omega (arith, count-is f, f .few)
 
 -- a place below the count is the wall's
@@ -45,27 +45,27 @@ unfolding placeAfter placeFrom
 place-step i w k h = rw (drop-cons w k blank, add-one)
 
 -- the wall and its blank places are all that a table has
-pub places-are : {t : Table} → WellFormed t → t .panels ≡ panelsOf t ++ replicate (32 - length (panelsOf t)) blank
+pub places-are : {t : Table} → WellFormed t → t .panels ≡ panelsOf t ++ replicate (mostPanels - length (panelsOf t)) blank
 unfolding tableOf
 places-are f = ap (λ (t : Table). t .panels) (f .held)
 
-pub places-count : {t : Table} → WellFormed t → length (t .panels) ≡ 32
+pub places-count : {t : Table} → WellFormed t → length (t .panels) ≡ mostPanels
 places-count f = ap length (places-are f) ∙ simp (length-append, length-replicate) (omega (arith, f .few))
 
 -- a table is known by its places and its count
-pub table-is : (t : Table) (w : Wall) → t .panels ≡ w ++ replicate (32 - length w) blank → t .count ≡ length w → t ≡ tableOf w
+pub table-is : (t : Table) (w : Wall) → t .panels ≡ w ++ replicate (mostPanels - length w) blank → t .count ≡ length w → t ≡ tableOf w
 unfolding tableOf
 table-is t w e n = λ i. record { panels = e i; count = n i }
 
-grown-places : (w : Wall) (p : Panel) → length w < 32
-    → set (w ++ replicate (32 - length w) blank) (length w) p ≡ w ++ p ∷ [] ++ replicate (32 - length (w ++ p ∷ [])) blank
+grown-places : (w : Wall) (p : Panel) → length w < mostPanels
+    → set (w ++ replicate (mostPanels - length w) blank) (length w) p ≡ w ++ p ∷ [] ++ replicate (mostPanels - length (w ++ p ∷ [])) blank
 grown-places w p h =
-    let was : 32 - length w ≡ suc (31 - length w) = omega arith in
-    let is : 32 - length (w ++ p ∷ []) ≡ 31 - length w = simp length-append (omega arith) in
+    let was : mostPanels - length w ≡ suc ((mostPanels - 1) - length w) = omega arith in
+    let is : mostPanels - length (w ++ p ∷ []) ≡ (mostPanels - 1) - length w = simp length-append (omega arith) in
     rw (was, set-append-seam, is) (sym (append-snoc w p _))
 
 -- one more panel behind the last
-pub grown : {t : Table} → WellFormed t → t .count < 32 → (p : Panel)
+pub grown : {t : Table} → WellFormed t → t .count < mostPanels → (p : Panel)
     → _≡_ {A = Table} (record { panels = set (t .panels) (t .count) p; count = t .count + 1 }) (tableOf (panelsOf t ++ p ∷ []))
 grown {t} f h p =
     let n = count-is f in
@@ -81,7 +81,7 @@ replaced {t} f k h p =
     let w = panelsOf t in
     table-is _ _
     (ap (λ (l : Wall). set l k p) (places-are f) ∙ set-append-left w _ k p (omega arith)
-    ∙ ap (λ (m : ℕ). set w k p ++ replicate (32 - m) blank) (sym (length-set w k p)))
+    ∙ ap (λ (m : ℕ). set w k p ++ replicate (mostPanels - m) blank) (sym (length-set w k p)))
     (n ∙ sym (length-set w k p))
 
 -- What is found is a place of the wall with that ID; where nothing is found no place has it.

@@ -1,6 +1,5 @@
 -- `Laws` has what callers cite of walls and tables, `Values` of a panel's values, `Formed` that every call keeps tables
--- well-formed; `Lists` are laws on lists behind them.
-pub mod Lists
+-- well-formed.
 pub mod Values
 pub mod Laws
 pub mod Formed

@@ -10,18 +10,18 @@ use borrow.Author.Tests.{ltb-true, ltb-false, eqb-true, eqb-false}
 use lib.Dec.{ltb, eqb}
 use lib.ListN.{length, take}
 use lib.Seq.{take-add, take-all}
-use Rattle.settings.specs.Settings.{settings, allowedByRow, byteCount, place, allowedFor, freshValues}
+use Rattle.settings.specs.Settings.{settings, allowedByRow, byteCount, place, allowedFor, freshValues, valuesWith, valueCount, rowCount}
 use Rattle.settings.proofs.Laws.{place-fits, places-apart, allowed-count, fresh-allowed, fresh-count}
-use Rattle.settings.proofs.WrittenOut.{alike}
-use Rattle.settings.specs.Laid.{laidAt, valuesWith}
-use Rattle.settings.proofs.Laid.{length-laid, before-laid, laid-itself, behind-laid, ahead-of-laid}
+use Rattle.lists.proofs.Each.{alike}
+use Rattle.lists.specs.Lists.{laidAt}
+use Rattle.lists.proofs.Laid.{length-laid, before-laid, laid-itself, behind-laid, ahead-of-laid}
 use Rattle.panels.specs.Wall.{valuesOf}
 
-pub length-with : (row : ℕ) (vs values : List ℕ) → length vs ≡ byteCount row → length values ≡ 15 → length (valuesWith row vs values) ≡ 15
+pub length-with : (row : ℕ) (vs values : List ℕ) → length vs ≡ byteCount row → length values ≡ valueCount → length (valuesWith row vs values) ≡ valueCount
 length-with row vs values n full = length-laid (place row) vs values (omega (arith, place-fits row)) ∙ full
 
 -- a row that was stored to has the values, and every other row has what it had
-module _ (row : ℕ) (vs values : List ℕ) (n : length vs ≡ byteCount row) (full : length values ≡ 15) where
+module _ (row : ℕ) (vs values : List ℕ) (n : length vs ≡ byteCount row) (full : length values ≡ valueCount) where
   room : place row + length vs ≤ length values
   room = omega (arith, place-fits row)
 
@@ -47,29 +47,29 @@ module _ (row : ℕ) (vs values : List ℕ) (n : length vs ≡ byteCount row) (f
   with-twice = rw (before-laid (place row) vs values room, behind-laid (place row) vs values room (place row + length vs) (omega arith))
 
 -- 15 values are known by their rows
-next-place : {row : ℕ} → row < 8 → place (suc row) ≡ place row + byteCount row
+next-place : {row : ℕ} → row < rowCount → place (suc row) ≡ place row + byteCount row
 unfolding settings allowedByRow flatten
-next-place h = alike (λ k. place (suc k)) (λ k. place k + byteCount k) 8 refl h
+next-place h = alike (λ k. place (suc k)) (λ k. place k + byteCount k) rowCount refl h
 
-all-places : place 8 ≡ 15
+all-places : place rowCount ≡ valueCount
 unfolding settings allowedByRow flatten
 all-places = refl
 
-first-rows : (v w : List ℕ) → ((row : ℕ) → row < 8 → valuesOf row v ≡ valuesOf row w) → (row : ℕ) → row ≤ 8 → take (place row) v ≡ take (place row) w
+first-rows : (v w : List ℕ) → ((row : ℕ) → row < rowCount → valuesOf row v ≡ valuesOf row w) → (row : ℕ) → row ≤ rowCount → take (place row) v ≡ take (place row) w
 unfolding flatten
 first-rows v w same zero h = refl
 first-rows v w same (suc row) h =
     rw (next-place {row = row} h, take-add (place row) (byteCount row) v, take-add (place row) (byteCount row) w, first-rows v w same row (omega arith), same row h)
 
-pub by-rows : (v w : List ℕ) → length v ≡ 15 → length w ≡ 15 → ((row : ℕ) → row < 8 → valuesOf row v ≡ valuesOf row w) → v ≡ w
+pub by-rows : (v w : List ℕ) → length v ≡ valueCount → length w ≡ valueCount → ((row : ℕ) → row < rowCount → valuesOf row v ≡ valuesOf row w) → v ≡ w
 by-rows v w ev ew same =
-    let e = first-rows v w same 8 (omega arith) in
-    sym (take-all (place 8) v (omega (arith, all-places))) ∙ e ∙ take-all (place 8) w (omega (arith, all-places))
+    let e = first-rows v w same rowCount (omega arith) in
+    sym (take-all (place rowCount) v (omega (arith, all-places))) ∙ e ∙ take-all (place rowCount) w (omega (arith, all-places))
 
 -- values in range stay so
 pub record InRange (values : List ℕ) : Type 0 where
-  pub full : length values ≡ 15
-  pub rows : (row : ℕ) → row < 8 → allowedFor row (valuesOf row values) ≡ true
+  pub full : length values ≡ valueCount
+  pub rows : (row : ℕ) → row < rowCount → allowedFor row (valuesOf row values) ≡ true
 
 pub fresh-in-range : InRange freshValues
 fresh-in-range = record { full = fresh-count; rows = λ row h. fresh-allowed h }
@@ -80,6 +80,6 @@ with-in-range {values} i row vs a = record { full = length-with row vs values n 
     n : length vs ≡ byteCount row
     n = allowed-count _ vs a
 
-    go : (r : ℕ) → r < 8 → (t : Bool) → eqb r row ≡ t → allowedFor r (valuesOf r (valuesWith row vs values)) ≡ true
+    go : (r : ℕ) → r < rowCount → (t : Bool) → eqb r row ≡ t → allowedFor r (valuesOf r (valuesWith row vs values)) ≡ true
     go r h true e = let same = eqb-true r row e in rw (same, set-row row vs values n (i .full)) a
     go r h false e = rw (other-row row vs values n (i .full) r (eqb-false r row e)) (i .rows r h)

@@ -11,7 +11,7 @@ use Rattle.panels.specs.declared.Place.the-variants.{At, Nowhere}
 use Rattle.panels.specs.declared.Refusal.{Refusal}
 use Rattle.panels.specs.declared.Refusal.the-variants.{Nothing, Full, IdZero, IdTaken, GroupZero, NoPanel}
 use Rattle.panels.specs.declared.Changed.{Changed}
-use Rattle.panels.specs.Wall.{Wall, freshPanel, tableOf, placeOf}
+use Rattle.panels.specs.Wall.{Wall, freshPanel, tableOf, placeOf, mostPanels}
 
 -- 01's number, 0 where nothing was refused
 abbrev pub refusalOf : Refusal → ℕ
@@ -28,16 +28,11 @@ ifThere Nowhere a b = b
 
 unfoldable pub addRefusal : Wall → MonitorId → GroupId → Refusal
 addRefusal w i g =
-    cond (leb 32 (length w)) Full
+    cond (leb mostPanels (length w)) Full
     (cond (eqb (i .0) 0) IdZero (ifThere (placeOf i w) IdTaken (cond (eqb (g .0) 0) GroupZero Nothing)))
 
 abbrev pub unlessRefused : Refusal → Wall → Wall → Wall
-unlessRefused Nothing then w = then
-unlessRefused Full then w = w
-unlessRefused IdZero then w = w
-unlessRefused IdTaken then w = w
-unlessRefused GroupZero then w = w
-unlessRefused NoPanel then w = w
+unlessRefused r then w = cond (eqb (refusalOf r) 0) then w
 
 -- a fresh panel at the end
 unfoldable pub added : Wall → MonitorId → GroupId → Wall

@@ -1,10 +1,10 @@
--- A wall is a list of panels; a table holds it in 32 places. 01, "The settings", "Table calls and numbers".
+-- A wall is a list of panels; a table holds it in its places. 01, "The settings", "Table calls and numbers".
 use Prim.Native.Nat.{ℕ, suc, _-_}
 use mathlib.Core.Bool.{cond}
 use mathlib.Core.List.{List, [], _∷_, _++_}
 use lib.Dec.{eqb}
 use lib.ListN.{length, take, drop, replicate}
-use Rattle.settings.specs.Settings.{byteCount, place, freshValues}
+use Rattle.settings.specs.Settings.{byteCount, place, freshValues, valueCount}
 use Rattle.packet.specs.declared.MonitorId.{MonitorId}
 use Rattle.packet.specs.declared.GroupId.{GroupId}
 use Rattle.packet.specs.Packet.{monitorId, groupId}
@@ -16,21 +16,25 @@ use Rattle.panels.specs.declared.Place.the-variants.{At, Nowhere}
 abbrev pub Wall : Type 0
 Wall = List Panel
 
+-- how many panels a table has places for
+abbrev pub mostPanels : ℕ
+mostPanels = 32
+
 -- a panel before anything is set
 abbrev pub freshPanel : MonitorId → GroupId → Panel
 freshPanel i g = record { id = i; group = g; values = freshValues }
 
--- the values of a row among a panel's 15
+-- the values of a row among a panel's
 abbrev pub valuesOf : ℕ → List ℕ → List ℕ
 valuesOf row values = take (byteCount row) (drop (place row) values)
 
 -- what stands in a place that no panel has
 unfoldable pub blank : Panel
-blank = record { id = monitorId 0; group = groupId 0; values = replicate 15 0 }
+blank = record { id = monitorId 0; group = groupId 0; values = replicate valueCount 0 }
 
--- a wall of at most 32 panels in a table
+-- a wall in a table
 unfoldable pub tableOf : Wall → Table
-tableOf w = record { panels = w ++ replicate (32 - length w) blank; count = length w }
+tableOf w = record { panels = w ++ replicate (mostPanels - length w) blank; count = length w }
 
 abbrev pub panelsOf : Table → Wall
 panelsOf t = take (t .count) (t .panels)

@@ -5,17 +5,17 @@ use mathlib.Core.Bool.{true}
 use mathlib.Core.List.{[], _∷_}
 use mathlib.Core.Path.{_≡_}
 use lib.ListN.{length}
-use Rattle.settings.specs.Settings.{allowedFor}
+use Rattle.settings.specs.Settings.{allowedFor, rowCount, valueCount}
 use Rattle.packet.specs.declared.MonitorId.{MonitorId}
 use Rattle.panels.specs.declared.Panel.{Panel}
 use Rattle.panels.specs.declared.Table.{Table}
-use Rattle.panels.specs.Wall.{Wall, valuesOf, tableOf, panelsOf}
+use Rattle.panels.specs.Wall.{Wall, valuesOf, tableOf, panelsOf, mostPanels}
 
 pub record GoodPanel (p : Panel) : Type 0 where
   pub named : p .id .0 ≡ 0 → ⊥
   pub grouped : p .group .0 ≡ 0 → ⊥
-  pub full : length (p .values) ≡ 15
-  pub inRange : (row : ℕ) → row < 8 → allowedFor row (valuesOf row (p .values)) ≡ true
+  pub full : length (p .values) ≡ valueCount
+  pub inRange : (row : ℕ) → row < rowCount → allowedFor row (valuesOf row (p .values)) ≡ true
 
 -- no panel has the ID
 abbrev pub Absent : MonitorId → Wall → Type 0
@@ -27,8 +27,8 @@ abbrev pub GoodWall : Wall → Type 0
 GoodWall [] = Unit {0}
 GoodWall (p ∷ w) = GoodPanel p × Absent (p .id) w × GoodWall w
 
--- the table holds a good wall of at most 32 panels, and every other place is blank
+-- the table holds a good wall, and every other place is blank
 pub record WellFormed (t : Table) : Type 0 where
   pub held : t ≡ tableOf (panelsOf t)
-  pub few : length (panelsOf t) ≤ 32
+  pub few : length (panelsOf t) ≤ mostPanels
   pub good : GoodWall (panelsOf t)

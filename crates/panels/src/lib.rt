@@ -1,4 +1,4 @@
-// The panels of a line: a panel, the table of at most 32, add, remove, and who is addressed.
+// The panels of a line: a panel, the table of them, add, remove, and who is addressed.
 ghost use mathlib.Core.Path.{_≡_};
 ghost use mathlib.Core.List.{[]};
 ghost use Prim.Native.Nat.{_<_};
@@ -8,15 +8,19 @@ ghost use Rattle.panels.specs.Calls.{refusalOf, addedTo, without, remove
 ghost use Rattle.panels.specs.WellFormed.{WellFormed};
 use packet::GroupId;
 use packet::MonitorId;
+use settings::VALUE_COUNT;
+
+// How many panels a table has places for.
+pub const MOST_PANELS: usize = 32;
 
 pub struct Panel {
     pub id: MonitorId,
     pub group: GroupId,
-    pub values: [u8; 15],
+    pub values: [u8; VALUE_COUNT],
 }
 
 pub struct Table {
-    pub panels: [Panel; 32],
+    pub panels: [Panel; MOST_PANELS],
     pub count: usize,
 }
 
@@ -47,7 +51,7 @@ fn blank_panel() -> Panel
     Panel {
         id: MonitorId(0),
         group: GroupId(0),
-        values: [0u8; 15],
+        values: [0u8; VALUE_COUNT],
     }
 }
 
@@ -56,7 +60,7 @@ pub fn empty_table() -> Table
 {
     let p = blank_panel();
     Table {
-        panels: [p; 32],
+        panels: [p; MOST_PANELS],
         count: 0,
     }
 }
@@ -99,7 +103,7 @@ pub fn add(t: Table, id: MonitorId, group: GroupId) -> Changed
     ensures { λ r. ⌜ r ≡ addedTo (panelsOf t) id group ⌝ }
 {
     let n = t.count;
-    if 32 <= n {
+    if MOST_PANELS <= n {
         return Changed {
             refusal: Refusal::Full,
             table: t,

@@ -3,8 +3,10 @@
 ghost use mathlib.Core.Path.{_≡_};
 ghost use Rattle.panels.specs.Wall.{tableOf, panelsOf};
 ghost use Rattle.panels.specs.WellFormed.{WellFormed};
-ghost use Rattle.line.specs.Played.{played};
+ghost use Rattle.answers.specs.Played.{played};
+use packet::LONGEST;
 use panels::Table;
+use text::LONGEST_STEP;
 use text::Read;
 
 // The last line: `end` or `cut`, and how many bursts were played.
@@ -19,11 +21,11 @@ fn answer(t: Table, number: u64, burst: &[u8]) -> Table
     requires { ⌜ WellFormed t ⌝ }
     ensures { λ r. ⌜ (r ≡ tableOf (played (panelsOf t) (now (burst .entry)) .wall)) × WellFormed r ⌝ }
 {
-    let played = line::play(t, burst);
+    let played = answers::play(t, burst);
     io::print_decimal(1, number);
     io::write_all(1, b" ");
     let reply = played.reply;
-    let mut digits = [0u8; 80];
+    let mut digits = [0u8; 2 * LONGEST];
     let n = sample::shown_answer(reply, &mut digits);
     io::write_all(1, text::front(&digits, n));
     io::write_all(1, b"\n");
@@ -34,7 +36,7 @@ fn main() {
     let mut table = sample::two_panels();
     let mut number = 0u64;
     while number < u64::MAX {
-        let mut buffer = [0u8; 255];
+        let mut buffer = [0u8; LONGEST_STEP];
         let read = text::read_step(&mut buffer);
         match read {
             Read::Step(n) => {

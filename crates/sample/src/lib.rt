@@ -2,12 +2,14 @@
 ghost use mathlib.Core.Path.{_≡_};
 ghost use Rattle.panels.specs.Wall.{tableOf};
 ghost use Rattle.panels.specs.WellFormed.{WellFormed};
-ghost use Rattle.line.specs.Cases.{twoPanels};
-ghost use Rattle.line.specs.Reply.{sentBytes};
+ghost use Rattle.answers.specs.Sample.{twoPanels};
+ghost use Rattle.answers.specs.Reply.{sentBytes};
+ghost use Rattle.answers.specs.Played.{played};
 ghost use Rattle.sample.specs.Shown.{shownCount, shownOver};
-use line::Reply;
-use line::Sent;
+use answers::Reply;
+use answers::Sent;
 use packet::GroupId;
+use packet::LONGEST;
 use packet::MonitorId;
 use panels::Table;
 
@@ -19,6 +21,14 @@ pub fn two_panels() -> Table
     let first = one.table;
     let two = panels::add(first, MonitorId(2), GroupId(9));
     two.table
+}
+
+// The reply of the sample wall, fresh, to a burst.
+pub fn reply_to(burst: &[u8]) -> Reply
+    ensures { λ r. ⌜ r ≡ played twoPanels (now (burst .entry)) .reply ⌝ }
+{
+    let played = answers::play(two_panels(), burst);
+    played.reply
 }
 
 // Bytes in upper-case hex, or a dash where there are none, at the front of out; answers how many characters.
@@ -41,8 +51,8 @@ pub fn shown_answer(reply: Reply, out: &mut [u8]) -> usize
     ensures { λ r. ⌜ r ≡ shownCount (sentBytes reply) (now (out .entry)) ⌝ }
     ensures { λ _. ⌜ now (out .exit) ≡ shownOver (sentBytes reply) (now (out .entry)) ⌝ }
 {
-    let mut packet = [0u8; 40];
-    let sent = line::write_answer(reply, &mut packet);
+    let mut packet = [0u8; LONGEST];
+    let sent = answers::write_answer(reply, &mut packet);
     let Sent::Bytes(n) = sent else {
         return 0;
     };

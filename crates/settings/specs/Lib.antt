@@ -1,5 +1,3 @@
--- What is right of the settings. `Settings` is the paper's table and what it says of a row; `Numbers` is how the code's
--- const table has it; `Laid` is a row's values stored.
+-- What is right of the settings. `Settings` is the paper's table and what it says of a row.
 pub mod Settings
-pub mod Laid
-pub mod Numbers
+pub mod Private

@@ -2,8 +2,9 @@
 use Prim.Native.Nat.{ℕ, suc}
 use mathlib.Core.Bool.{Bool, true, false, cond, _&&_, _||_}
 use mathlib.Core.List.{List, [], _∷_, _++_, map, flatten}
-use lib.ListN.{length, getD, take, replicate}
+use lib.ListN.{length, getD, replicate}
 use lib.Dec.{leb, eqb}
+use Rattle.lists.specs.Lists.{startOf, laidAt}
 use Rattle.settings.specs.declared.Found.{Found}
 use Rattle.settings.specs.declared.Found.the-variants.{Set, Get, Nothing}
 
@@ -26,34 +27,29 @@ a to b = record { low = a; high = b } ∷ []
 abbrev pub row : ℕ → ℕ → List (List Range) → List ℕ → Setting
 row s g a f = record { set = s; get = g; allowed = a; fresh = f }
 
-abbrev pub power : Setting
-power = row 0x18 0x19 (1 to 2 ∷ []) (2 ∷ [])
-
--- six of 0 to 100, gamma 1 to 5
-abbrev pub video : Setting
-video = row 0x32 0x33 (replicate 6 (0 to 100) ++ 1 to 5 ∷ []) (replicate 6 50 ++ 3 ∷ [])
-
--- 0, 1, 3, 4, 5, 6, 9, 10, 13
-abbrev pub colourTemperature : Setting
-colourTemperature = row 0x34 0x35 ((0 to 1 ++ 3 to 6 ++ 9 to 10 ++ 13 to 13) ∷ []) (1 ∷ [])
-
-abbrev pub trebleBass : Setting
-trebleBass = row 0x42 0x43 (0 to 100 ∷ 0 to 100 ∷ []) (50 ∷ 50 ∷ [])
-
-abbrev pub fan : Setting
-fan = row 0x61 0x62 (0 to 4 ∷ []) (1 ∷ [])
-
-abbrev pub coldStart : Setting
-coldStart = row 0xA3 0xA4 (0 to 2 ∷ []) (2 ∷ [])
-
-abbrev pub apm : Setting
-apm = row 0xD0 0xD1 (0 to 3 ∷ []) (0 ∷ [])
-
-abbrev pub powerSaving : Setting
-powerSaving = row 0xDD 0xDE (0 to 3 ∷ []) (0 ∷ [])
-
+-- 01's rows: power, video (six of 0 to 100, gamma 1 to 5), colour temperature, treble and bass, fan, cold start, APM, power
+-- saving
 unfoldable pub settings : List Setting
-settings = power ∷ video ∷ colourTemperature ∷ trebleBass ∷ fan ∷ coldStart ∷ apm ∷ powerSaving ∷ []
+settings =
+    row 0x18 0x19 (1 to 2 ∷ []) (2 ∷ [])
+    ∷ row 0x32 0x33 (replicate 6 (0 to 100) ++ 1 to 5 ∷ []) (replicate 6 50 ++ 3 ∷ [])
+    ∷ row 0x34 0x35 ((0 to 1 ++ 3 to 6 ++ 9 to 10 ++ 13 to 13) ∷ []) (1 ∷ [])
+    ∷ row 0x42 0x43 (0 to 100 ∷ 0 to 100 ∷ []) (50 ∷ 50 ∷ [])
+    ∷ row 0x61 0x62 (0 to 4 ∷ []) (1 ∷ [])
+    ∷ row 0xA3 0xA4 (0 to 2 ∷ []) (2 ∷ [])
+    ∷ row 0xD0 0xD1 (0 to 3 ∷ []) (0 ∷ [])
+    ∷ row 0xDD 0xDE (0 to 3 ∷ []) (0 ∷ [])
+    ∷ []
+
+-- how many they are, how many value bytes they have in all, which are a panel's, and how many one has at most
+abbrev pub rowCount : ℕ
+rowCount = 8
+
+abbrev pub valueCount : ℕ
+valueCount = 15
+
+abbrev pub mostValues : ℕ
+mostValues = 7
 
 abbrev pub noSetting : Setting
 noSetting = row 0 0 [] []
@@ -79,18 +75,9 @@ getCode k = setting k .get
 abbrev pub byteCount : ℕ → ℕ
 byteCount k = length (setting k .allowed)
 
--- where list k of some lists begins, once they stand one behind the other
-abbrev pub startOf : {A : Type 0} → List (List A) → ℕ → ℕ
-unfolding flatten
-startOf ls k = length (flatten (take k ls))
-
--- A panel has 15 value bytes: those of all settings, in the order of the rows.
+-- A panel's value bytes are those of all settings, in the order of the rows.
 unfoldable pub allowedByRow : List (List (List Range))
 allowedByRow = map (λ (s : Setting). s .allowed) settings
-
-unfoldable pub allowedValues : List (List Range)
-unfolding flatten
-allowedValues = flatten allowedByRow
 
 unfoldable pub freshValues : List ℕ
 unfolding flatten
@@ -118,3 +105,7 @@ allAllowed (a ∷ rest) (v ∷ vs) = within a v && allAllowed rest vs
 -- the bytes vs may be set in row k
 abbrev pub allowedFor : ℕ → List ℕ → Bool
 allowedFor k vs = allAllowed (setting k .allowed) vs
+
+-- a panel's values with those of a row stored
+abbrev pub valuesWith : ℕ → List ℕ → List ℕ → List ℕ
+valuesWith k vs values = laidAt (place k) vs values

@@ -2,9 +2,18 @@
 ghost use mathlib.Core.Path.{_≡_};
 ghost use Prim.Native.Nat.{_<_};
 ghost use lib.ListN.{length, drop};
-ghost use Rattle.settings.specs.Settings.{foundBy, setCode, getCode, byteCount, place, inRange, within, allowedFor, freshValues};
-ghost use Rattle.settings.specs.Laid.{valuesWith};
-ghost use Rattle.settings.specs.Numbers.{rangeOf, rangesOf, firstRange, isMore, paperTable};
+ghost use Rattle.settings.specs.Settings.{foundBy, setCode, getCode, byteCount, place, inRange, within, allowedFor, freshValues, valuesWith, rowCount, valueCount};
+ghost use Rattle.settings.specs.Private.Numbers.{rangeOf, rangesOf, firstRange, isMore, paperTable};
+
+// How many settings there are, how many value bytes they have in all, and how many one has at most.
+pub const ROW_COUNT: usize = 8;
+
+pub const VALUE_COUNT: usize = 15;
+
+pub const MOST_VALUES: usize = 7;
+
+// How many ranges there are beyond the first of each value byte.
+const MORE_COUNT: usize = 3;
 
 // A setting's set code and its get code.
 struct Codes(u8, u8);
@@ -21,11 +30,11 @@ struct More(u8, u8, u8);
 // For each setting its codes and its value bytes; for each value byte its first range, more where it has several, and its
 // fresh value.
 struct Table {
-    codes: [Codes; 8],
-    values: [Values; 8],
-    ranges: [Span; 15],
-    more: [More; 3],
-    fresh: [u8; 15],
+    codes: [Codes; ROW_COUNT],
+    values: [Values; ROW_COUNT],
+    ranges: [Span; VALUE_COUNT],
+    more: [More; MORE_COUNT],
+    fresh: [u8; VALUE_COUNT],
 }
 
 const TABLE: Table = Table {
@@ -105,7 +114,7 @@ fn the_table() -> Table
 }
 
 fn codes_at(k: usize) -> Codes
-    requires { ⌜ k < 8 ⌝ }
+    requires { ⌜ k < rowCount ⌝ }
     ensures { λ r. ⌜ (r .0 ≡ setCode k) × (r .1 ≡ getCode k) ⌝ }
 {
     let codes = the_table().codes;
@@ -113,7 +122,7 @@ fn codes_at(k: usize) -> Codes
 }
 
 fn values_at(k: usize) -> Values
-    requires { ⌜ k < 8 ⌝ }
+    requires { ⌜ k < rowCount ⌝ }
     ensures { λ r. ⌜ (r .0 ≡ byteCount k) × (r .1 ≡ place k) ⌝ }
 {
     let values = the_table().values;
@@ -125,7 +134,7 @@ pub fn find_setting(code: u8) -> Found
     ensures { λ r. ⌜ r ≡ foundBy code ⌝ }
 {
     let mut k = 0;
-    while k < 8 {
+    while k < ROW_COUNT {
         let codes = codes_at(k);
         if codes.0 == code {
             return Found::Set(k);
@@ -140,7 +149,7 @@ pub fn find_setting(code: u8) -> Found
 
 // A row's set code, with which its field in a setup image begins.
 pub fn set_code(row: usize) -> u8
-    requires { ⌜ row < 8 ⌝ }
+    requires { ⌜ row < rowCount ⌝ }
     ensures { λ r. ⌜ r ≡ setCode row ⌝ }
 {
     codes_at(row).0
@@ -148,7 +157,7 @@ pub fn set_code(row: usize) -> u8
 
 // A row's get code, with which its report begins.
 pub fn get_code(row: usize) -> u8
-    requires { ⌜ row < 8 ⌝ }
+    requires { ⌜ row < rowCount ⌝ }
     ensures { λ r. ⌜ r ≡ getCode row ⌝ }
 {
     codes_at(row).1
@@ -156,15 +165,15 @@ pub fn get_code(row: usize) -> u8
 
 // How many value bytes a row has.
 pub fn byte_count(row: usize) -> usize
-    requires { ⌜ row < 8 ⌝ }
+    requires { ⌜ row < rowCount ⌝ }
     ensures { λ r. ⌜ r ≡ byteCount row ⌝ }
 {
     values_at(row).0 as usize
 }
 
-// The place of a row's first value among a panel's 15.
+// The place of a row's first value among a panel's.
 pub fn place_of(row: usize) -> usize
-    requires { ⌜ row < 8 ⌝ }
+    requires { ⌜ row < rowCount ⌝ }
     ensures { λ r. ⌜ r ≡ place row ⌝ }
 {
     values_at(row).1 as usize
@@ -187,12 +196,12 @@ fn is_more(more: More, p: usize, v: u8) -> bool
 
 // Whether v is in a range of place p behind the first.
 fn in_more(p: usize, v: u8) -> bool
-    requires { ⌜ p < 15 ⌝ }
+    requires { ⌜ p < valueCount ⌝ }
     ensures { λ r. ⌜ r ≡ within (drop 1 (rangesOf p)) v ⌝ }
 {
     let more = the_table().more;
     let mut k = 0;
-    while k < 3 {
+    while k < MORE_COUNT {
         if is_more(more[k], p, v) {
             return true;
         }
@@ -203,7 +212,7 @@ fn in_more(p: usize, v: u8) -> bool
 
 // Whether v may stand at place p, whose first range is given.
 fn allowed_at(p: usize, range: Span, v: u8) -> bool
-    requires { ⌜ (p < 15) × (rangeOf range ≡ firstRange p) ⌝ }
+    requires { ⌜ (p < valueCount) × (rangeOf range ≡ firstRange p) ⌝ }
     ensures { λ r. ⌜ r ≡ within (rangesOf p) v ⌝ }
 {
     if in_range(range, v) {
@@ -214,7 +223,7 @@ fn allowed_at(p: usize, range: Span, v: u8) -> bool
 
 // Whether these bytes may be set in a row: as many as it has, and each of them allowed.
 pub fn allowed(row: usize, values: &[u8]) -> bool
-    requires { ⌜ row < 8 ⌝ }
+    requires { ⌜ row < rowCount ⌝ }
     ensures { λ r. ⌜ r ≡ allowedFor row (now (values .entry)) ⌝ }
 {
     let first = place_of(row);
@@ -234,9 +243,9 @@ pub fn allowed(row: usize, values: &[u8]) -> bool
     true
 }
 
-// A row's values stored at their place among a panel's 15.
+// A row's values stored at their place among a panel's.
 pub fn store(row: usize, vs: &[u8], values: &mut [u8])
-    requires { ⌜ (row < 8) × (length (now vs) ≡ byteCount row) × (length (now values) ≡ 15) ⌝ }
+    requires { ⌜ (row < rowCount) × (length (now vs) ≡ byteCount row) × (length (now values) ≡ valueCount) ⌝ }
     ensures { λ _. ⌜ now (values .exit) ≡ valuesWith row (now (vs .entry)) (now (values .entry)) ⌝ }
 {
     let at = place_of(row);
@@ -244,7 +253,7 @@ pub fn store(row: usize, vs: &[u8], values: &mut [u8])
 }
 
 // A panel's values before anything is set.
-pub fn fresh() -> [u8; 15]
+pub fn fresh() -> [u8; VALUE_COUNT]
     ensures { λ r. ⌜ r ≡ freshValues ⌝ }
 {
     the_table().fresh

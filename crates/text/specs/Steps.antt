@@ -5,6 +5,10 @@ use Rattle.io.specs.Counts.{Counts}
 use Rattle.text.specs.declared.Read.{Read}
 use Rattle.text.specs.declared.Read.the-variants.{Step, Cut, End}
 
+-- its count is one byte
+abbrev pub longestStep : ℕ
+longestStep = 255
+
 abbrev pub Within : Read → List ℕ → Type 0
 Within (Step n) buf = Counts n buf
 Within Cut buf = Unit {0}

@@ -4,7 +4,10 @@ ghost use Prim.Native.Nat.{_<_, _≤_};
 ghost use lib.ListN.{length, take};
 ghost use Rattle.io.specs.Counts.{Counts};
 ghost use Rattle.text.specs.Hex.{digitOf, hexCount, hexOver};
-ghost use Rattle.text.specs.Steps.{Within};
+ghost use Rattle.text.specs.Steps.{Within, longestStep};
+
+// A step's count is one byte.
+pub const LONGEST_STEP: usize = 255;
 
 // A step of the input, which stands at the front of the buffer; or the input stopped inside one; or it was at its end.
 pub enum Read {
@@ -50,14 +53,14 @@ pub fn front(bytes: &[u8], n: usize) -> &[u8]
 
 // The number that a count byte stands for.
 fn count_of(b: u8) -> usize
-    ensures { λ r. ⌜ r ≤ 255 ⌝ }
+    ensures { λ r. ⌜ r ≤ longestStep ⌝ }
 {
     b as usize
 }
 
 // Reads a count byte from standard input, and that many bytes into the front of buf.
 pub fn read_step(buf: &mut [u8]) -> Read
-    requires { ⌜ 255 ≤ length (now buf) ⌝ }
+    requires { ⌜ longestStep ≤ length (now buf) ⌝ }
     ensures { λ r. ⌜ Within r (now (buf .exit)) ⌝ }
 {
     let mut one = [0u8; 1];

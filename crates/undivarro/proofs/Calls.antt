@@ -7,25 +7,25 @@ use native.Mathlib.Omega.{arith}
 use borrow.Author.Tests.{eq-eqb, ne-eqb, eqb-false, leb-true}
 use lib.Dec.{leb}
 use lib.ListN.{length, length-map}
-use Rattle.settings.proofs.Both.{both}
+use Rattle.lists.proofs.Both.{both}
 use Rattle.packet.specs.declared.Verdict.{Verdict}
 use Rattle.packet.specs.declared.Verdict.the-variants.{Empty, Damaged, Intact}
-use Rattle.packet.specs.Packet.{verdictOf, dataOf}
+use Rattle.packet.specs.Packet.{verdictOf, dataOf, longest}
 use Rattle.panels.specs.Wall.{Wall, tableOf, panelsOf}
 use Rattle.panels.specs.WellFormed.{WellFormed}
 use Rattle.panels.proofs.Laws.{panels-of-table}
-use Rattle.line.specs.declared.Reply.{Reply}
-use Rattle.line.specs.declared.Played.{Played}
-use Rattle.line.specs.Reply.{sentBytes}
-use Rattle.line.specs.Judged.{command}
-use Rattle.line.specs.Played.{turned, playedBy, played}
-use Rattle.line.specs.Played as line
-use Rattle.line.proofs.Formed.{played-formed}
-use Rattle.image.specs.declared.Refusal.{Refusal}
-use Rattle.image.specs.declared.Read.{Read}
-use Rattle.image.specs.Written.{sizeOf}
-use Rattle.image.specs.Read.{isSound, readRefusalOf, readOf, inTable}
-use Rattle.image.proofs.Sound.{read-formed}
+use Rattle.answers.specs.declared.Reply.{Reply}
+use Rattle.answers.specs.declared.Played.{Played}
+use Rattle.answers.specs.Reply.{sentBytes}
+use Rattle.answers.specs.Judged.{command}
+use Rattle.answers.specs.Played.{turned, playedBy, played}
+use Rattle.answers.specs.Played as line
+use Rattle.answers.proofs.Formed.{played-formed}
+use Rattle.image_read.specs.declared.Refusal.{Refusal}
+use Rattle.image_read.specs.declared.Read.{Read}
+use Rattle.image_write.specs.Written.{sizeOf, panelSize}
+use Rattle.image_read.specs.Read.{isSound, readRefusalOf, readOf, inTable}
+use Rattle.image_read.proofs.Sound.{read-formed}
 use Rattle.undivarro.specs.Calls.{refused, given, setupOf, refusalFor, afterPlay, afterRead}
 
 -- where nothing is refused there is room
@@ -50,13 +50,13 @@ module _ (image : List ℕ) (read : Read) (is-read : read ≡ inTable (readOf im
   unfolding tableOf
   count-read = ap (λ (r : Read). r .table .count) is-read
 
-  module _ (answer out : ℕ) (room : Bool) (is-room : room ≡ (leb 40 answer && leb (35 * read .table .count + 2) out)) (n : ℕ) (is-refusal : n ≡ refusalFor (read .refusal) room) where
-    pub refusal-is : n ≡ refusalFor (readOf image .refusal) (leb 40 answer && leb (sizeOf (readOf image .wall)) out)
+  module _ (answer out : ℕ) (room : Bool) (is-room : room ≡ (leb longest answer && leb (panelSize * read .table .count + 2) out)) (n : ℕ) (is-refusal : n ≡ refusalFor (read .refusal) room) where
+    pub refusal-is : n ≡ refusalFor (readOf image .refusal) (leb longest answer && leb (sizeOf (readOf image .wall)) out)
     refusal-is =
         is-refusal
-        ∙ ap₂ refusalFor (ap (λ (r : Read). r .refusal) is-read) (is-room ∙ ap (λ (k : ℕ). leb 40 answer && leb (35 * k + 2) out) count-read)
+        ∙ ap₂ refusalFor (ap (λ (r : Read). r .refusal) is-read) (is-room ∙ ap (λ (k : ℕ). leb longest answer && leb (panelSize * k + 2) out) count-read)
 
-    pub enough : n ≡ 0 → (40 ≤ answer) × (sizeOf (readOf image .wall) ≤ out)
+    pub enough : n ≡ 0 → (longest ≤ answer) × (sizeOf (readOf image .wall) ≤ out)
     enough z =
         let (a, b) = both _ _ (room-there (readOf image .refusal) _ (sym refusal-is ∙ z)) in
         (leb-true _ _ a, leb-true _ _ b)
@@ -84,7 +84,7 @@ module _ (image burst : List ℕ) (read : Read) (is-read : read ≡ inTable (rea
   wall-played = ap (λ (q : Played). panelsOf (q .table)) same-played ∙ panels-of-table _
 
   pub size-played : sizeOf (panelsOf (p .table)) ≡ sizeOf (readOf image .wall)
-  size-played = ap (λ (k : ℕ). 35 * k + 2) (ap length wall-played ∙ played-count (readOf image .wall) burst)
+  size-played = ap (λ (k : ℕ). panelSize * k + 2) (ap length wall-played ∙ played-count (readOf image .wall) burst)
 
   pub given-played : (answer out : List ℕ)
       → given (sentBytes (p .reply)) (setupOf (panelsOf (p .table))) answer out
@@ -94,7 +94,7 @@ module _ (image burst : List ℕ) (read : Read) (is-read : read ≡ inTable (rea
 
 -- Both ends of each call.
 module _ (image burst answer out : List ℕ) (n : ℕ)
-    (is : n ≡ refusalFor (readOf image .refusal) (leb 40 (length answer) && leb (sizeOf (readOf image .wall)) (length out))) where
+    (is : n ≡ refusalFor (readOf image .refusal) (leb longest (length answer) && leb (sizeOf (readOf image .wall)) (length out))) where
   pub play-refused : (n ≡ 0 → ⊥) → refused n answer out ≡ afterPlay image burst answer out
   unfolding afterPlay
   play-refused h = sym (rw (sym is, ne-eqb n 0 h))

@@ -6,13 +6,13 @@ use lib.ListN.{length, take, length-take}
 use Rattle.packet.specs.Packet.{groupId}
 use Rattle.packet.specs.Control.{controlData}
 use Rattle.packet.proofs.Packets.{packet-length}
-use Rattle.line.specs.declared.Answer.{Answer}
-use Rattle.line.specs.declared.Answer.the-variants.{Silence, Word, Report}
-use Rattle.line.specs.declared.Reply.{Reply}
-use Rattle.line.specs.Reply.{sentBy, sentBytes}
+use Rattle.answers.specs.declared.Answer.{Answer}
+use Rattle.answers.specs.declared.Answer.the-variants.{Silence, Word, Report}
+use Rattle.answers.specs.declared.Reply.{Reply}
+use Rattle.answers.specs.Reply.{sentBy, sentBytes, mostReported}
 
 -- a report has at most 8 data bytes
-pub sent-few : (r : Reply) → length (r .bytes) ≡ 8 → length (sentBytes r) ≤ 12
+pub sent-few : (r : Reply) → length (r .bytes) ≡ mostReported → length (sentBytes r) ≤ 12
 unfolding sentBytes
 sent-few r n = go (r .answer)
   where
@@ -21,5 +21,5 @@ sent-few r n = go (r .answer)
     go (Word c) = omega (arith, packet-length (r .id) (groupId 0) (controlData c) (omega arith))
     go Report =
         let d = take (r .count) (r .bytes) in
-        let few : length d ≤ 8 = simp length-take (omega arith) in
+        let few : length d ≤ mostReported = simp length-take (omega arith) in
         omega (arith, packet-length (r .id) (groupId 0) d (omega arith))

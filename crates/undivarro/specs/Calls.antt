@@ -4,13 +4,14 @@ use mathlib.Core.Bool.{Bool, cond, _&&_}
 use mathlib.Core.List.{List, []}
 use lib.Dec.{leb, eqb}
 use lib.ListN.{length}
-use Rattle.packet.specs.Packet.{laidOver}
+use Rattle.packet.specs.Packet.{longest}
+use Rattle.lists.specs.Lists.{laidOver}
 use Rattle.panels.specs.Wall.{Wall}
-use Rattle.line.specs.Reply.{sentBytes}
-use Rattle.line.specs.Played.{played}
-use Rattle.image.specs.declared.Refusal.{Refusal}
-use Rattle.image.specs.Written.{recordsOf, imageOf, sizeOf}
-use Rattle.image.specs.Read.{isSound, readRefusalOf, readOf}
+use Rattle.answers.specs.Reply.{sentBytes}
+use Rattle.answers.specs.Played.{played}
+use Rattle.image_read.specs.declared.Refusal.{Refusal}
+use Rattle.image_write.specs.Written.{recordsOf, imageOf, sizeOf}
+use Rattle.image_read.specs.Read.{isSound, readRefusalOf, readOf}
 use Rattle.undivarro.specs.declared.Outcome.{Outcome}
 
 pub record After : Type 0 where
@@ -38,12 +39,12 @@ setupOf w = imageOf (recordsOf w)
 unfoldable pub refusalFor : Refusal → Bool → ℕ
 refusalFor read room = cond (isSound read) (cond room 0 19) (readRefusalOf read)
 
--- the answer has room from 40 bytes on, and the image where the buffer has 35n + 2
+-- there is room where the answer buffer has it for any packet, and the output for the image
 unfoldable pub afterPlay : List ℕ → List ℕ → List ℕ → List ℕ → After
 afterPlay image burst answer out =
     let r = readOf image in
     let o = played (r .wall) burst in
-    let n = refusalFor (r .refusal) (leb 40 (length answer) && leb (sizeOf (r .wall)) (length out)) in
+    let n = refusalFor (r .refusal) (leb longest (length answer) && leb (sizeOf (r .wall)) (length out)) in
     cond (eqb n 0) (given (sentBytes (o .reply)) (setupOf (o .wall)) answer out) (refused n answer out)
 
 -- no burst, and no buffer for an answer

@@ -4,16 +4,20 @@ ghost use Prim.Native.Nat.{_+_, _*_, _≤_};
 ghost use mathlib.Core.Bool.{_&&_};
 ghost use lib.Dec.{leb};
 ghost use lib.ListN.{length};
-ghost use Rattle.packet.specs.Packet.{laidOver};
-ghost use Rattle.panels.specs.Wall.{panelsOf};
+ghost use Rattle.packet.specs.Packet.{longest};
+ghost use Rattle.lists.specs.Lists.{laidOver};
+ghost use Rattle.panels.specs.Wall.{panelsOf, mostPanels};
 ghost use Rattle.panels.specs.WellFormed.{WellFormed};
-ghost use Rattle.line.specs.Reply.{sentBytes};
-ghost use Rattle.image.specs.Written.{sizeOf};
+ghost use Rattle.answers.specs.Reply.{sentBytes};
+ghost use Rattle.image_write.specs.Written.{sizeOf, panelSize, trailerSize};
 ghost use Rattle.undivarro.specs.Calls.{setupOf, refusalFor, afterPlay, afterRead};
-use image::Refusal;
-use image::Written;
-use line::Reply;
-use line::Sent;
+use answers::Reply;
+use answers::Sent;
+use image_read::Refusal;
+use image_write::PANEL_SIZE;
+use image_write::TRAILER_SIZE;
+use image_write::Written;
+use packet::LONGEST;
 use panels::Table;
 
 // What comes back: 0 or the refusal's number, and how many bytes the answer and the image written have.
@@ -26,20 +30,20 @@ pub struct Outcome {
 
 // Room for any answer, and for the image of n panels.
 fn has_room(n: usize, answer: usize, out: usize) -> bool
-    requires { ⌜ n ≤ 32 ⌝ }
-    ensures { λ r. ⌜ r ≡ (leb 40 answer && leb (35 * n + 2) out) ⌝ }
+    requires { ⌜ n ≤ mostPanels ⌝ }
+    ensures { λ r. ⌜ r ≡ (leb longest answer && leb (panelSize * n + trailerSize) out) ⌝ }
 {
-    if answer < 40 {
+    if answer < LONGEST {
         return false;
     }
-    35 * n + 2 <= out
+    PANEL_SIZE * n + TRAILER_SIZE <= out
 }
 
 // 11 to 18 for what was read, then 19 where there is no room, else 0.
 fn refusal_for(read: Refusal, room: bool) -> u32
     ensures { λ r. ⌜ r ≡ refusalFor read room ⌝ }
 {
-    let number = image::refusal_number(read);
+    let number = image_read::refusal_number(read);
     if number != 0 {
         return number as u32;
     }
@@ -48,11 +52,11 @@ fn refusal_for(read: Refusal, room: bool) -> u32
 
 // The answer at the front of an output with room for it, and its length.
 fn put_answer(reply: Reply, out: &mut [u8]) -> u32
-    requires { ⌜ 40 ≤ length (now out) ⌝ }
+    requires { ⌜ longest ≤ length (now out) ⌝ }
     ensures { λ r. ⌜ r ≡ length (sentBytes reply) ⌝ }
     ensures { λ _. ⌜ now (out .exit) ≡ laidOver (sentBytes reply) (now (out .entry)) ⌝ }
 {
-    let sent = line::write_answer(reply, out);
+    let sent = answers::write_answer(reply, out);
     match sent {
         Sent::Bytes(n) => n as u32,
         Sent::NoRoom => 0,
@@ -65,7 +69,7 @@ fn put_setup(t: Table, out: &mut [u8]) -> u32
     ensures { λ r. ⌜ r ≡ length (setupOf (panelsOf t)) ⌝ }
     ensures { λ _. ⌜ now (out .exit) ≡ laidOver (setupOf (panelsOf t)) (now (out .entry)) ⌝ }
 {
-    let written = image::write_image(t, out);
+    let written = image_write::write_image(t, out);
     match written {
         Written::Bytes(n) => n as u32,
         Written::NoRoom => 0,
@@ -84,7 +88,7 @@ pub extern "C" fn undivarro_play(
     ensures { λ _. ⌜ now (answer .exit) ≡ afterPlay (now (image .entry)) (now (burst .entry)) (now (answer .entry)) (now (out .entry)) .answer ⌝ }
     ensures { λ _. ⌜ now (out .exit) ≡ afterPlay (now (image .entry)) (now (burst .entry)) (now (answer .entry)) (now (out .entry)) .out ⌝ }
 {
-    let read = image::read_image(image);
+    let read = image_read::read_image(image);
     let table = read.table;
     let why = read.refusal;
     let refusal = refusal_for(why, has_room(table.count, answer.len(), out.len()));
@@ -95,7 +99,7 @@ pub extern "C" fn undivarro_play(
             written: 0,
         };
     }
-    let played = line::play(table, burst);
+    let played = answers::play(table, burst);
     let reply = played.reply;
     let after = played.table;
     let answered = put_answer(reply, answer);
@@ -113,10 +117,10 @@ pub extern "C" fn undivarro_read(image: &[u8], out: &mut [u8]) -> Outcome
     ensures { λ r. ⌜ r ≡ afterRead (now (image .entry)) (now (out .entry)) .outcome ⌝ }
     ensures { λ _. ⌜ now (out .exit) ≡ afterRead (now (image .entry)) (now (out .entry)) .out ⌝ }
 {
-    let read = image::read_image(image);
+    let read = image_read::read_image(image);
     let table = read.table;
     let why = read.refusal;
-    let refusal = refusal_for(why, has_room(table.count, 40, out.len()));
+    let refusal = refusal_for(why, has_room(table.count, LONGEST, out.len()));
     if refusal != 0 {
         return Outcome {
             refusal,

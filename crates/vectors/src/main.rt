@@ -1,14 +1,13 @@
 // Plays each burst of standard input on a fresh sample wall, and prints the burst and its answer.
+use text::LONGEST_STEP;
 use text::Read;
 
 fn answer(burst: &[u8]) {
-    let played = line::play(sample::two_panels(), burst);
-    let mut digits = [0u8; 510];
+    let mut digits = [0u8; 2 * LONGEST_STEP];
     let shown = sample::shown(burst, &mut digits);
     io::write_all(1, text::front(&digits, shown));
     io::write_all(1, b" ");
-    let reply = played.reply;
-    let answered = sample::shown_answer(reply, &mut digits);
+    let answered = sample::shown_answer(sample::reply_to(burst), &mut digits);
     io::write_all(1, text::front(&digits, answered));
     io::write_all(1, b"\n");
 }
@@ -22,7 +21,7 @@ fn print_last(word: &[u8], number: u64) {
 fn main() {
     let mut number = 0u64;
     while number < u64::MAX {
-        let mut buffer = [0u8; 255];
+        let mut buffer = [0u8; LONGEST_STEP];
         let read = text::read_step(&mut buffer);
         match read {
             Read::Step(n) => {

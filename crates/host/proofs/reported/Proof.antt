@@ -5,7 +5,8 @@ use Prim.Native.Nat.{ℕ}
 use mathlib.Core.List.{List, _++_, flatten}
 use lib.ListN.{length, take, drop, replicate}
 use lib.Seq.{take-length}
-use Rattle.packet.specs.Packet.{laidOver}
+use Rattle.settings.specs.Settings.{mostValues}
+use Rattle.lists.specs.Lists.{laidOver}
 use Rattle.host.specs.declared.Host.{Host}
 use Rattle.host.specs.declared.Step.{Step}
 use Rattle.host.specs.declared.Outcome.the-variants.{Report}
@@ -15,7 +16,7 @@ use Rattle.host.proofs.reported.Statement.{statement}
 use Rattle.host.proofs.reported.Tie as tie
 
 made : (h : Host) (n sendings : ℕ) (v values : List ℕ) → h ≡ nothingWaits → n ≡ length v
-    → values ≡ take (length v) v ++ drop (length v) (replicate 7 0)
+    → values ≡ take (length v) v ++ drop (length v) (replicate mostValues 0)
     → _≡_ {A = Step} (record { host = h; length = 0; outcome = Report sendings; values = values; count = n }) (stepOf (over (Report sendings) v))
 unfolding stepOf padded laidOver flatten
 made h n sendings v values eh en ev = rw (eh, en, ev, take-length v)

@@ -2,8 +2,9 @@
 use mathlib.Core.Path.{_≡_, sym, _∙_}
 use borrow.Author.Needs.{needs}
 use native.Mathlib.Omega.{arith}
-use Prim.Native.Nat.{_≤_}
+use Prim.Native.Nat.{_+_, _≤_}
 use lib.ListN.{length, drop, length-drop, length-replicate}
+use Rattle.settings.specs.Settings.{mostValues}
 use Rattle.host.specs.declared.Said.{Said}
 use Rattle.host.specs.declared.Said.the-variants.{Report}
 use Rattle.host.specs.declared.Outcome.the-variants.{Report as Reported}
@@ -20,7 +21,7 @@ word c w e = sym (c .word-in .ensures) ∙ e
 
 -- what was taken for a report has a code and at most seven values
 report : (c : tie.At-match-keys4) (e : c .before .word-in .result ≡ Report)
-    → let d = c .before .before .before .before .before .args .d .now in (1 ≤ length d) × (length d ≤ 8)
+    → let d = c .before .before .before .before .before .args .d .now in (1 ≤ length d) × (length d ≤ mostValues + 1)
 report c e = report-length _ _ (word (c .before) _ e)
 
 word-in-requires : tie.Need-word-in-requires

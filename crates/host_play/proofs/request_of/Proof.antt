@@ -6,13 +6,14 @@ use native.Mathlib.Omega.{arith}
 use borrow.Author.Needs.{needs}
 use lib.ListN.{length, take, drop, replicate, length-take, length-drop}
 use lib.Seq.{take-all, take-length}
-use Rattle.packet.specs.Packet.{laidOver}
-use Rattle.host_play.specs.Steps.{requestOf}
+use Rattle.settings.specs.Settings.{mostValues}
+use Rattle.lists.specs.Lists.{laidOver}
+use Rattle.host_play.specs.Private.Steps.{requestOf}
 use Rattle.host_play.proofs.request_of.Statement.{statement}
 use Rattle.host_play.proofs.request_of.Tie as tie
 
-kept : (s v values : List ℕ) → v ≡ take 7 (take (length s - 4) (drop 4 s))
-    → values ≡ take (length v) v ++ drop (length v) (replicate 7 0) → values ≡ laidOver (take 7 (drop 4 s)) (replicate 7 0)
+kept : (s v values : List ℕ) → v ≡ take mostValues (take (length s - 4) (drop 4 s))
+    → values ≡ take (length v) v ++ drop (length v) (replicate mostValues 0) → values ≡ laidOver (take mostValues (drop 4 s)) (replicate mostValues 0)
 unfolding laidOver
 kept s v values ev e =
     let all : take (length s - 4) (drop 4 s) ≡ drop 4 s = take-all (length s - 4) (drop 4 s) (simp length-drop (omega arith)) in

@@ -1,8 +1,8 @@
 -- The table that was read is well-formed. Assumes nothing.
 use mathlib.Core.Path.{sym, ap, subst}
 use Rattle.panels.specs.WellFormed.{WellFormed}
-use Rattle.image.specs.declared.Read.{Read}
-use Rattle.image.proofs.Sound.{read-formed}
+use Rattle.image_read.specs.declared.Read.{Read}
+use Rattle.image_read.proofs.Sound.{read-formed}
 use borrow.Author.Needs.{needs}
 use Rattle.image_play.proofs.print_reading.Statement.{statement}
 use Rattle.image_play.proofs.print_reading.Tie as tie

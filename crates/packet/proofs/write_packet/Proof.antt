@@ -10,7 +10,8 @@ use lib.ListN.{length, take, drop, set, length-set, length-append, length-take, 
 use lib.Seq.{take-length, drop-length, drop-cons, set-at, append-snoc}
 use lib.Bits.{bitXor}
 use Rattle.packet.specs.Xor.{_⊕_, xorAll}
-use Rattle.packet.specs.Packet.{writtenOf, outputOf, packetOf, laidOver}
+use Rattle.packet.specs.Packet.{writtenOf, outputOf, packetOf, mostData, longest}
+use Rattle.lists.specs.Lists.{laidOver}
 use borrow.Author.Needs.{needs}
 use Rattle.packet.proofs.Xor.{xor-assoc}
 use Rattle.packet.proofs.write_packet.Statement.{statement}
@@ -20,7 +21,7 @@ use Rattle.packet.proofs.write_packet.Tie as tie
 abbrev headed : List ℕ → ℕ → ℕ → ℕ → List ℕ
 headed out s i g = set (set (set out 0 s) 1 i) 2 g
 
-copied : (out d last : List ℕ) (s i g : ℕ) → 40 ≤ length out
+copied : (out d last : List ℕ) (s i g : ℕ) → longest ≤ length out
     → let h = headed out s i g in last ≡ take (length d) d ++ drop (length d) (midOf 3 (length h - 3) h)
     → putMid 3 (length h - 3) h last ≡ s ∷ i ∷ g ∷ (d ++ drop (length d + 3) out)
 copied (x ∷ y ∷ z ∷ rest) d last s i g room e =
@@ -119,8 +120,8 @@ returns-3 : tie.Need-returns-3
 unfolding writtenOf outputOf packetOf
 returns-3 c =
     let a = start c .args in
-    let room = le-leb 40 (length (a .out .now)) (omega arith) in
-    let short = le-leb (length (a .d .now)) 36 (omega arith) in (
+    let room = le-leb longest (length (a .out .now)) (omega arith) in
+    let short = le-leb (length (a .d .now)) mostData (omega arith) in (
       simp (room, short),
       rw (held c, c .xor-of .ensures, sum-of, room, short) (summed (a .out .now) (a .d .now) _ _ _ _ (omega arith)),
     )

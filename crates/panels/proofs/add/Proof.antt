@@ -13,7 +13,7 @@ use Rattle.panels.specs.declared.Panel.{Panel}
 use Rattle.panels.specs.declared.Table.{Table}
 use Rattle.panels.specs.declared.Changed.{Changed}
 use Rattle.panels.specs.declared.Refusal.{Refusal}
-use Rattle.panels.specs.Wall.{panelsOf, tableOf, freshPanel}
+use Rattle.panels.specs.Wall.{panelsOf, tableOf, freshPanel, mostPanels}
 use Rattle.panels.specs.Calls.{addRefusal, unlessRefused, added, addedTo}
 use Rattle.panels.proofs.Laws.{count-is, grown}
 use Rattle.panels.proofs.add.Statement.{statement}
@@ -30,11 +30,11 @@ unfolding addRefusal
 returns c =
     let f = c .before .pre in
     let t = c .before .args .t in
-    answered t _ _ _ (simp (le-leb 32 (length (panelsOf t)) (omega (arith, count-is f)))) (f .held)
+    answered t _ _ _ (simp (le-leb mostPanels (length (panelsOf t)) (omega (arith, count-is f)))) (f .held)
 
 -- there is room
-room : (c : tie.Else1) → leb 32 (length (panelsOf (c .before .args .t))) ≡ false
-room c = lt-leb 32 (length (panelsOf (c .before .args .t))) (omega (arith, count-is (c .before .pre)))
+room : (c : tie.Else1) → leb mostPanels (length (panelsOf (c .before .args .t))) ≡ false
+room c = lt-leb mostPanels (length (panelsOf (c .before .args .t))) (omega (arith, count-is (c .before .pre)))
 
 returns-2 : tie.Need-returns-2
 unfolding addRefusal

@@ -10,9 +10,9 @@ use lib.ListN.{length, getD, take, drop, set, length-append, length-take, length
 use lib.Seq.{take-at, take-take, take-all, drop-at, drop-cons, getD-take, set-at}
 use Rattle.panels.specs.declared.Panel.{Panel}
 use Rattle.panels.specs.declared.Place.the-variants.{At}
-use Rattle.panels.specs.Wall.{Wall, panelsOf, blank}
+use Rattle.panels.specs.Wall.{Wall, panelsOf, blank, mostPanels}
 use Rattle.panels.specs.Calls.{without}
-use Rattle.panels.proofs.Lists.{store, behind, moved-up}
+use Rattle.lists.proofs.Places.{store, from-seam, moved-up}
 use Rattle.panels.proofs.Laws.{count-is, count-few, places-are, places-count, table-is}
 use Rattle.panels.proofs.closed_up.Statement.{statement}
 use Rattle.panels.proofs.closed_up.Tie as tie
@@ -35,19 +35,19 @@ turns orig n k j d h r m =
     let w = take n orig in
     let n-is : length w ≡ n = simp length-take (omega arith) in
     let short = length-without w k (omega arith) in
-    let next = behind (without (At k) w) orig j d (omega arith) (omega arith)
+    let next = from-seam (without (At k) w) orig j (suc j) d (omega arith) (omega arith) (omega arith)
     ∙ sym (getD-take n orig (suc j) d r) ∙ sym (moved-up w k j d h) in
     rw next (store (without (At k) w) orig j d (omega arith) (omega arith))
 
 -- the last place becomes blank
-ends : (w : Wall) (k m : ℕ) → k < length w → length w ≡ suc m → length w ≤ 32
-    → set (take m (without (At k) w) ++ drop m (w ++ replicate (32 - length w) blank)) m blank
-    ≡ without (At k) w ++ replicate (32 - length (without (At k) w)) blank
+ends : (w : Wall) (k m : ℕ) → k < length w → length w ≡ suc m → length w ≤ mostPanels
+    → set (take m (without (At k) w) ++ drop m (w ++ replicate (mostPanels - length w) blank)) m blank
+    ≡ without (At k) w ++ replicate (mostPanels - length (without (At k) w)) blank
 ends w k m h e few =
     let w′ = without (At k) w in
-    let pad = replicate (32 - length w) blank in
+    let pad = replicate (mostPanels - length w) blank in
     let short : length w′ ≡ m = omega (arith, length-without w k h) in
-    let fill : 32 - length w′ ≡ suc (32 - length w) = omega arith in
+    let fill : mostPanels - length w′ ≡ suc (mostPanels - length w) = omega arith in
     let some : m < length (w ++ pad) = simp length-append (omega arith) in
     let gone : drop (suc m) (w ++ pad) ≡ pad = drop-at w pad (suc m) e in
     rw (take-all m w′ (omega arith), drop-cons (w ++ pad) m blank some, gone, fill) (set-at w′ _ pad blank m short)

@@ -1,8 +1,8 @@
 -- A burst keeps the table well-formed. Assumes nothing.
 use mathlib.Core.Path.{sym, ap, subst}
 use Rattle.panels.specs.WellFormed.{WellFormed}
-use Rattle.line.specs.declared.Played.{Played}
-use Rattle.line.proofs.Formed.{played-formed}
+use Rattle.answers.specs.declared.Played.{Played}
+use Rattle.answers.proofs.Formed.{played-formed}
 use borrow.Author.Needs.{needs}
 use Rattle.play.proofs.answer.Statement.{statement}
 use Rattle.play.proofs.answer.Tie as tie

@@ -1,26 +1,27 @@
 -- The packet fits into 40 bytes, and its front is what goes out. Assumes nothing.
 use mathlib.Core.Path.{_≡_, refl, sym, ap, _∙_}
 use mathlib.Core.List.{List}
-use Prim.Native.Nat.{ℕ}
+use Prim.Native.Nat.{ℕ, _+_}
 use native.Mathlib.Omega.{arith}
 use lib.ListN.{length, take, replicate}
 use lib.Seq.{take-at}
-use Rattle.packet.specs.Packet.{laidOver}
-use Rattle.line.specs.declared.Reply.{Reply}
-use Rattle.line.specs.declared.Sent.{Sent}
-use Rattle.line.specs.declared.Sent.the-variants.{Bytes, NoRoom}
-use Rattle.line.specs.Reply.{sentBytes, sentOf, outputOf}
+use Rattle.packet.specs.Packet.{longest}
+use Rattle.lists.specs.Lists.{laidOver}
+use Rattle.answers.specs.declared.Reply.{Reply}
+use Rattle.answers.specs.declared.Sent.{Sent}
+use Rattle.answers.specs.declared.Sent.the-variants.{Bytes, NoRoom}
+use Rattle.answers.specs.Reply.{sentBytes, sentOf, outputOf}
 use Rattle.sample.specs.Shown.{shownCount, shownOver}
 use borrow.Author.Needs.{needs}
 use Rattle.sample.proofs.shown_answer.Statement.{statement}
 use Rattle.sample.proofs.shown_answer.Tie as tie
 
 abbrev empty : List ℕ
-empty = replicate 40 0
+empty = replicate longest 0
 
 abbrev countOf : Sent → ℕ
 countOf (Bytes n) = n
-countOf NoRoom = 41
+countOf NoRoom = (longest + 1)
 
 abbrev isBytes : Sent → ℕ
 isBytes (Bytes n) = 1

@@ -8,7 +8,7 @@ use Rattle.panels.specs.Calls.{addRefusal, added}
 use Rattle.panels.specs.WellFormed.{WellFormed}
 use Rattle.panels.proofs.Laws.{panels-of-table}
 use Rattle.panels.proofs.Formed.{empty-formed, added-formed}
-use Rattle.line.specs.Cases.{twoPanels}
+use Rattle.answers.specs.Sample.{twoPanels}
 use borrow.Author.Needs.{needs}
 use Rattle.sample.proofs.two_panels.Statement.{statement}
 use Rattle.sample.proofs.two_panels.Tie as tie

@@ -10,11 +10,11 @@ use borrow.Author.Needs.{needs}
 use borrow.Author.Tests.{not-true, not-false}
 use lib.ListN.{length, getD, drop}
 use lib.Seq.{drop-cons, drop-length}
-use Rattle.settings.specs.Settings.{setting, byteCount, place, within, allAllowed}
-use Rattle.settings.specs.Numbers.{rangesOf, firstRange, rangeOf, spanOf, paperTable}
+use Rattle.settings.specs.Settings.{setting, byteCount, place, within, allAllowed, valueCount}
+use Rattle.settings.specs.Private.Numbers.{rangesOf, firstRange, rangeOf, spanOf, paperTable}
 use Rattle.settings.specs.declared.Span.{Span}
 use Rattle.settings.specs.declared.Table.{Table}
-use Rattle.settings.proofs.WrittenOut.{in-each}
+use Rattle.lists.proofs.Each.{in-each}
 use Rattle.settings.proofs.Laws.{place-fits, at-place, other-count}
 use Rattle.settings.proofs.allowed.Statement.{statement}
 use Rattle.settings.proofs.allowed.Tie as tie
@@ -27,9 +27,9 @@ step : (row k : ℕ) (vs : List ℕ) → k < byteCount row → k < length vs
 unfolding rest allAllowed
 step row k vs h hv = rw (drop-cons (setting row .allowed) k [], drop-cons vs k 0, add-one, at-place row k h)
 
-first-in : {t : Table} {p : ℕ} (d : Span) → t ≡ paperTable → p < 15 → rangeOf (getD (t .ranges) p d) ≡ firstRange p
+first-in : {t : Table} {p : ℕ} (d : Span) → t ≡ paperTable → p < valueCount → rangeOf (getD (t .ranges) p d) ≡ firstRange p
 unfolding paperTable
-first-in {p} d e h = ap (λ (t : Table). rangeOf (getD (t .ranges) p d)) e ∙ ap rangeOf (in-each (λ p. spanOf (firstRange p)) 15 d h)
+first-in {p} d e h = ap (λ (t : Table). rangeOf (getD (t .ranges) p d)) e ∙ ap rangeOf (in-each (λ p. spanOf (firstRange p)) valueCount d h)
 
 abbrev Inv-loop : tie.InvT-loop
 Inv-loop row values first count ranges k₀ k = (k ≤ byteCount row) × (rest row values 0 ≡ rest row values k)
@@ -68,7 +68,7 @@ allowed-at-requires : tie.Need-allowed-at-requires Inv-loop μ-loop
 allowed-at-requires c κs =
     let table = c .before .before .before .before .before in
     let first = table .before .before .before .place-of in
-    let h : first .result + c .before .before .before .loop .k < 15 = omega (arith, place-fits (table .before .before .before .before .before .args .row)) in
+    let h : first .result + c .before .before .before .loop .k < valueCount = omega (arith, place-fits (table .before .before .before .before .before .args .row)) in
     (h, first-in _ (table .the-table .ensures) h)
 
 returns-2 : tie.Need-returns-2 Inv-loop μ-loop

@@ -4,13 +4,13 @@ use mathlib.Core.Bool.{true, false, _||_}
 use Prim.Native.Nat.{ℕ, _<_}
 use borrow.Author.Needs.{needs}
 use lib.ListN.{drop}
-use Rattle.settings.specs.Settings.{Range, inRange, within}
-use Rattle.settings.specs.Numbers.{rangeOf, rangesOf, firstRange}
+use Rattle.settings.specs.Settings.{Range, inRange, within, valueCount}
+use Rattle.settings.specs.Private.Numbers.{rangeOf, rangesOf, firstRange}
 use Rattle.settings.proofs.Laws.{first-and-more}
 use Rattle.settings.proofs.allowed_at.Statement.{statement}
 use Rattle.settings.proofs.allowed_at.Tie as tie
 
-apart : {p : ℕ} (v : ℕ) {r : Range} → p < 15 → r ≡ firstRange p → inRange r v || within (drop 1 (rangesOf p)) v ≡ within (rangesOf p) v
+apart : {p : ℕ} (v : ℕ) {r : Range} → p < valueCount → r ≡ firstRange p → inRange r v || within (drop 1 (rangesOf p)) v ≡ within (rangesOf p) v
 unfolding within
 apart v h e = rw (first-and-more h, e)
 

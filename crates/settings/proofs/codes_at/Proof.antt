@@ -2,10 +2,11 @@
 use mathlib.Core.Path.{ap, _∙_}
 use lib.ListN.{getD}
 use borrow.Author.Needs.{needs}
+use Rattle.settings.specs.Settings.{rowCount}
 use Rattle.settings.specs.declared.Codes.{Codes}
 use Rattle.settings.specs.declared.Table.{Table}
-use Rattle.settings.specs.Numbers.{codesAt, paperTable}
-use Rattle.settings.proofs.WrittenOut.{in-each}
+use Rattle.settings.specs.Private.Numbers.{codesAt, paperTable}
+use Rattle.lists.proofs.Each.{in-each}
 use Rattle.settings.proofs.codes_at.Statement.{statement}
 use Rattle.settings.proofs.codes_at.Tie as tie
 
@@ -22,7 +23,7 @@ returns : tie.Need-returns
 unfolding paperTable
 returns c =
     let call = c .before .before in
-    let e = ap (λ (t : Table). getD (t .codes) (call .before .args .k) _) (call .the-table .ensures) ∙ in-each codesAt 8 _ (call .before .pre) in
+    let e = ap (λ (t : Table). getD (t .codes) (call .before .args .k) _) (call .the-table .ensures) ∙ in-each codesAt rowCount _ (call .before .pre) in
     (ap (λ (r : Codes). r .0) e, ap (λ (r : Codes). r .1) e)
 
 pub codes-at-spec : {M : Type 1} → statement M

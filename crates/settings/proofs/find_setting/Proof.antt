@@ -5,16 +5,16 @@ use Prim.Native.Nat.{_-_, _≤_}
 use native.Mathlib.Nat.{le-antisymm}
 use native.Mathlib.Omega.{arith}
 use borrow.Author.Tests.{eq-eqb, ne-eqb}
-use Rattle.settings.specs.Settings.{settings, foundFrom}
+use Rattle.settings.specs.Settings.{settings, foundFrom, rowCount}
 use Rattle.settings.proofs.Laws.{foundAfter, found-step}
 use Rattle.settings.proofs.find_setting.Statement.{statement}
 use Rattle.settings.proofs.find_setting.Tie as tie
 
 abbrev Inv-loop : tie.InvT-loop
-Inv-loop code k₀ k = (k ≤ 8) × (foundAfter code 0 ≡ foundAfter code k)
+Inv-loop code k₀ k = (k ≤ rowCount) × (foundAfter code 0 ≡ foundAfter code k)
 
 abbrev μ-loop : tie.MeasureT-loop
-μ-loop code k₀ k = 8 - k
+μ-loop code k₀ k = rowCount - k
 
 loop-holds : tie.Need-loop-holds Inv-loop μ-loop
 loop-holds c = (omega arith, refl)

@@ -2,7 +2,7 @@
 use mathlib.Core.Path.{ap}
 use borrow.Author.Needs.{needs}
 use Rattle.settings.specs.declared.Table.{Table}
-use Rattle.settings.specs.Numbers.{paperTable}
+use Rattle.settings.specs.Private.Numbers.{paperTable}
 use Rattle.settings.proofs.fresh.Statement.{statement}
 use Rattle.settings.proofs.fresh.Tie as tie
 

@@ -11,9 +11,9 @@ use lib.ListN.{length, getD, drop}
 use lib.Seq.{drop-cons, drop-length}
 use Rattle.settings.specs.declared.More.{More}
 use Rattle.settings.specs.declared.Table.{Table}
-use Rattle.settings.specs.Settings.{Range, inRange, within, settings, allowedByRow, allowedValues}
-use Rattle.settings.specs.Numbers.{rangesOf, moreFrom, isMore, paperTable}
-use Rattle.settings.proofs.WrittenOut.{alike}
+use Rattle.settings.specs.Settings.{Range, inRange, within, settings, allowedByRow, valueCount}
+use Rattle.settings.specs.Private.Numbers.{allowedValues, rangesOf, moreFrom, isMore, paperTable}
+use Rattle.lists.proofs.Each.{alike}
 use Rattle.settings.proofs.in_more.Statement.{statement}
 use Rattle.settings.proofs.in_more.Tie as tie
 
@@ -37,9 +37,9 @@ any-within p v (m ∷ ms) = go (eqb (m .0) p) (any-within p v ms)
     go true e = rw e
     go false e = e
 
-right : {p : ℕ} (v : ℕ) → p < 15 → anyMore p v (moreFrom 0 allowedValues) ≡ within (drop 1 (rangesOf p)) v
+right : {p : ℕ} (v : ℕ) → p < valueCount → anyMore p v (moreFrom 0 allowedValues) ≡ within (drop 1 (rangesOf p)) v
 unfolding settings allowedByRow allowedValues flatten rangesFor
-right {p} v h = any-within p v (moreFrom 0 allowedValues) ∙ ap (λ (rs : List Range). within rs v) (alike (λ p. rangesFor p (moreFrom 0 allowedValues)) (λ p. drop 1 (rangesOf p)) 15 refl h)
+right {p} v h = any-within p v (moreFrom 0 allowedValues) ∙ ap (λ (rs : List Range). within rs v) (alike (λ p. rangesFor p (moreFrom 0 allowedValues)) (λ p. drop 1 (rangesOf p)) valueCount refl h)
 
 three : length (moreFrom 0 allowedValues) ≡ 3
 unfolding settings allowedByRow allowedValues flatten

@@ -6,7 +6,7 @@ use borrow.Rule.Slice.PartMut.{putMid}
 use borrow.Author.Needs.{needs}
 use lib.ListN.{length, length-take, length-drop}
 use Rattle.settings.proofs.Laws.{place-fits}
-use Rattle.settings.proofs.Laid.{laid-copy}
+use Rattle.lists.proofs.Laid.{laid-copy}
 use Rattle.settings.proofs.store.Statement.{statement}
 use Rattle.settings.proofs.store.Tie as tie
 

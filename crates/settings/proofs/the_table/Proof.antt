@@ -1,8 +1,8 @@
 -- The const table is the paper's: antt computes the one from the other. Assumes nothing.
 use mathlib.Core.Path.{refl}
 use mathlib.Core.List.{flatten}
-use Rattle.settings.specs.Settings.{settings, allowedByRow, allowedValues, freshValues}
-use Rattle.settings.specs.Numbers.{paperTable}
+use Rattle.settings.specs.Settings.{settings, allowedByRow, freshValues}
+use Rattle.settings.specs.Private.Numbers.{allowedValues, paperTable}
 use Rattle.settings.proofs.the_table.Statement.{statement}
 use Rattle.settings.proofs.the_table.Tie as tie
 

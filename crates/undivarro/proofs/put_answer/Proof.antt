@@ -5,17 +5,18 @@ use Prim.Native.Nat.{ℕ, _≤_}
 use native.Mathlib.Omega.{arith}
 use borrow.Author.Tests.{le-leb}
 use lib.ListN.{length}
-use Rattle.packet.specs.Packet.{laidOver}
-use Rattle.line.specs.declared.Reply.{Reply}
-use Rattle.line.specs.declared.Sent.{Sent}
-use Rattle.line.specs.declared.Sent.the-variants.{Bytes}
-use Rattle.line.specs.Reply.{sentBytes, sentOf, bytesSent, outputOf}
+use Rattle.packet.specs.Packet.{longest}
+use Rattle.lists.specs.Lists.{laidOver}
+use Rattle.answers.specs.declared.Reply.{Reply}
+use Rattle.answers.specs.declared.Sent.{Sent}
+use Rattle.answers.specs.declared.Sent.the-variants.{Bytes}
+use Rattle.answers.specs.Reply.{sentBytes, sentOf, bytesSent, outputOf, mostReported}
 use Rattle.undivarro.proofs.Lengths.{sent-few}
 use borrow.Author.Needs.{needs}
 use Rattle.undivarro.proofs.put_answer.Statement.{statement}
 use Rattle.undivarro.proofs.put_answer.Tie as tie
 
-fits : (out : List ℕ) (r : Reply) → 40 ≤ length out → (sentOf out r ≡ Bytes (length (sentBytes r))) × (outputOf out r ≡ laidOver (sentBytes r) out)
+fits : (out : List ℕ) (r : Reply) → longest ≤ length out → (sentOf out r ≡ Bytes (length (sentBytes r))) × (outputOf out r ≡ laidOver (sentBytes r) out)
 unfolding sentOf outputOf
 fits out r h = (simp (le-leb _ _ h), simp (le-leb _ _ h))
 
@@ -38,7 +39,7 @@ cast-result : tie.Need-cast-result
 cast-result c =
     let call = c .before .before .before .before .before in
     let reply = call .before .before .before .args .reply in
-    let n : length (reply .bytes) ≡ 8 = search needs in
+    let n : length (reply .bytes) ≡ mostReported = search needs in
     omega (arith, sent-few reply n, sent call _ (c .before .sent .given .1) .0)
 
 enum-told : tie.Need-enum-told

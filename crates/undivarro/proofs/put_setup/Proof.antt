@@ -5,11 +5,11 @@ use Prim.Native.Nat.{ℕ, _≤_}
 use native.Mathlib.Omega.{arith}
 use borrow.Author.Tests.{le-leb}
 use lib.ListN.{length}
-use Rattle.packet.specs.Packet.{laidOver}
+use Rattle.lists.specs.Lists.{laidOver}
 use Rattle.panels.specs.Wall.{Wall, panelsOf}
-use Rattle.image.specs.declared.Written.{Written}
-use Rattle.image.specs.declared.Written.the-variants.{Bytes}
-use Rattle.image.specs.Written.{sizeOf, writtenOf, bytesWritten, outputOf}
+use Rattle.image_write.specs.declared.Written.{Written}
+use Rattle.image_write.specs.declared.Written.the-variants.{Bytes}
+use Rattle.image_write.specs.Written.{sizeOf, writtenOf, bytesWritten, outputOf}
 use Rattle.image.proofs.Back.{image-size}
 use Rattle.undivarro.specs.Calls.{setupOf}
 use borrow.Author.Needs.{needs}

@@ -2,7 +2,7 @@
 use mathlib.Core.Path.{_≡_, sym, _∙_}
 use mathlib.Core.Bool.{true}
 use borrow.Author.Tests.{eq-eqb, ne-eqb}
-use Rattle.image.specs.Read.{isSound}
+use Rattle.image_read.specs.Read.{isSound}
 use Rattle.undivarro.specs.Calls.{refusalFor}
 use borrow.Author.Needs.{needs}
 use Rattle.undivarro.proofs.refusal_for.Statement.{statement}

@@ -2,8 +2,9 @@
 use mathlib.Core.Path.{ap, ap₂, _∙_}
 use Prim.Native.Nat.{ℕ, _≤_}
 use lib.ListN.{length}
-use Rattle.image.specs.Written.{sizeOf}
-use Rattle.image.specs.Read.{readOf}
+use Rattle.packet.specs.Packet.{longest}
+use Rattle.image_write.specs.Written.{sizeOf}
+use Rattle.image_read.specs.Read.{readOf}
 use Rattle.panels.proofs.Laws.{count-few}
 use Rattle.undivarro.specs.declared.Outcome.{Outcome}
 use Rattle.undivarro.specs.Calls.{After}
@@ -37,7 +38,7 @@ play-requires c κs = formed-read _ _ (c .before .before .before .before .read-i
 -- past the test there is room
 room-there : (c : tie.Else1)
     → let a = c .before .before .before .before .before .before .before .before .before .args in
-    (40 ≤ length (a .answer .now)) × (sizeOf (readOf (a .image .now) .wall) ≤ length (a .out .now))
+    (longest ≤ length (a .answer .now)) × (sizeOf (readOf (a .image .now) .wall) ≤ length (a .out .now))
 room-there c =
     let refusal = c .before in
     let room = refusal .before in

@@ -2,6 +2,7 @@
 use mathlib.Core.Path.{ap, _∙_}
 use mathlib.Core.List.{[]}
 use Prim.Native.Nat.{ℕ}
+use Rattle.packet.specs.Packet.{longest}
 use Rattle.panels.specs.Wall.{Wall}
 use Rattle.panels.proofs.Laws.{count-few}
 use Rattle.undivarro.specs.declared.Outcome.{Outcome}
@@ -26,7 +27,7 @@ returns c =
     let room = refusal .before in
     let read = room .before .before in
     let a = c .before .before .before .before .before .before .before .args in
-    let is = refusal-is _ _ (read .read-image .ensures) 40 _ _ (room .has-room .ensures) _ (refusal .refusal-for .ensures) in
+    let is = refusal-is _ _ (read .read-image .ensures) longest _ _ (room .has-room .ensures) _ (refusal .refusal-for .ensures) in
     let e = read-refused (a .image .now) (a .out .now) _ is (c .if1 .taken) in
     (ap (λ (r : After). r .outcome) e, ap (λ (r : After). r .out) e)
 
@@ -37,7 +38,7 @@ put-setup-requires c κs =
     let room = refusal .before in
     let read = room .before .before in
     let e = read .read-image .ensures in
-    let more = enough _ _ e 40 _ _ (room .has-room .ensures) _ (refusal .refusal-for .ensures) (past .if1 .left) in
+    let more = enough _ _ e longest _ _ (room .has-room .ensures) _ (refusal .refusal-for .ensures) (past .if1 .left) in
     (formed-read _ _ e, rw (wall-read _ _ e) (more .1))
 
 same-length : tie.Need-same-length
@@ -52,7 +53,7 @@ returns-2 c =
     let read = room .before .before in
     let a = past .before .before .before .before .before .before .before .args in
     let e = read .read-image .ensures in
-    let is = refusal-is _ _ e 40 _ _ (room .has-room .ensures) _ (refusal .refusal-for .ensures) in
+    let is = refusal-is _ _ e longest _ _ (room .has-room .ensures) _ (refusal .refusal-for .ensures) in
     let all =
     ap (λ (w : Wall). given [] (setupOf w) [] (a .out .now)) (wall-read (a .image .now) _ e)
     ∙ read-given (a .image .now) (a .out .now) _ is (past .if1 .left)

@@ -5,10 +5,11 @@ use mathlib.Core.Path.{_≡_, refl}
 use lib.ListN.{length, getD}
 use native.Mathlib.Omega.{arith}
 use borrow.Author.Needs.{needs}
+use Rattle.settings.specs.Settings.{mostValues}
 use Rattle.host.proofs.sending.data_bytes.Statement.{statement}
 use Rattle.host.proofs.sending.data_bytes.Tie as tie
 
-behind : (c : ℕ) (v : List ℕ) → length v ≡ 7
+behind : (c : ℕ) (v : List ℕ) → length v ≡ mostValues
     → c ∷ getD v 0 0 ∷ getD v 1 0 ∷ getD v 2 0 ∷ getD v 3 0 ∷ getD v 4 0 ∷ getD v 5 0 ∷ getD v 6 0 ∷ [] ≡ c ∷ v
 behind c (v0 ∷ v1 ∷ v2 ∷ v3 ∷ v4 ∷ v5 ∷ v6 ∷ []) e = refl
 behind c [] e = absurd (omega arith)

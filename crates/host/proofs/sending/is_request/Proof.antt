@@ -4,7 +4,7 @@ use Prim.Native.Nat.{_≤_}
 use native.Mathlib.Omega.{arith}
 use borrow.Author.Needs.{needs}
 use borrow.Author.Tests.{le-leb, lt-leb, eq-eqb, ne-eqb}
-use Rattle.settings.specs.Settings.{foundBy}
+use Rattle.settings.specs.Settings.{foundBy, mostValues}
 use Rattle.settings.specs.declared.Found.{Found}
 use Rattle.settings.proofs.Laws.{IsFound, found-right}
 use Rattle.host.specs.declared.Request.{Request}
@@ -12,7 +12,7 @@ use Rattle.host.specs.Request.{isTaken, isRequest}
 use Rattle.host.proofs.sending.is_request.Statement.{statement}
 use Rattle.host.proofs.sending.is_request.Tie as tie
 
-few : (r : Request) (f : Found) → r .count ≤ 7 → foundBy (r .code) ≡ f → isRequest r ≡ isTaken r f
+few : (r : Request) (f : Found) → r .count ≤ mostValues → foundBy (r .code) ≡ f → isRequest r ≡ isTaken r f
 unfolding isRequest
 few r f h e = rw (le-leb _ _ h, e)
 

@@ -10,7 +10,9 @@ use borrow.Author.Tests.{le-leb, leb-true, leb-false}
 use lib.Dec.{leb}
 use lib.ListN.{length, take}
 use lib.Seq.{length-take-le, take-all}
-use Rattle.packet.specs.Packet.{packetOf, laidOver, outputOf}
+use Rattle.settings.specs.Settings.{mostValues}
+use Rattle.packet.specs.Packet.{packetOf, outputOf, mostData, longest}
+use Rattle.lists.specs.Lists.{laidOver}
 use Rattle.packet.specs.declared.MonitorId.{MonitorId}
 use Rattle.packet.specs.declared.GroupId.{GroupId}
 use Rattle.packet.proofs.Packets.{packet-length}
@@ -19,29 +21,29 @@ use Rattle.host.specs.Request.{requestData, requestPacket}
 use Rattle.host.proofs.sending.send.Statement.{statement}
 use Rattle.host.proofs.sending.send.Tie as tie
 
-in-use : (n count : ℕ) (v : List ℕ) → length v ≡ 7 → n ≡ min count 7 → take n v ≡ take count v
-in-use n count v len e = go (leb count 7) refl
+in-use : (n count : ℕ) (v : List ℕ) → length v ≡ mostValues → n ≡ min count mostValues → take n v ≡ take count v
+in-use n count v len e = go (leb count mostValues) refl
   where
-    go : (t : Bool) → leb count 7 ≡ t → take n v ≡ take count v
-    go true h = let same : n ≡ count = omega (arith, leb-true count 7 h) in rw same
-    go false h = let most = leb-false count 7 h in take-all n v (omega arith) ∙ sym (take-all count v (omega arith))
+    go : (t : Bool) → leb count mostValues ≡ t → take n v ≡ take count v
+    go true h = let same : n ≡ count = omega (arith, leb-true count mostValues h) in rw same
+    go false h = let most = leb-false count mostValues h in take-all n v (omega arith) ∙ sym (take-all count v (omega arith))
 
 -- the first n + 1 of the eight bytes are the request's data
-sent : (c n count : ℕ) (v : List ℕ) → length v ≡ 7 → n ≡ min count 7 → take (n + 1) (c ∷ v) ≡ c ∷ take count v
+sent : (c n count : ℕ) (v : List ℕ) → length v ≡ mostValues → n ≡ min count mostValues → take (n + 1) (c ∷ v) ≡ c ∷ take count v
 sent c n count v len e = rw (add-one n, in-use n count v len e)
 
-written : (out : List ℕ) (id : MonitorId) (group : GroupId) (d : List ℕ) → 40 ≤ length out → length d ≤ 36
+written : (out : List ℕ) (id : MonitorId) (group : GroupId) (d : List ℕ) → longest ≤ length out → length d ≤ mostData
     → outputOf out id group d ≡ laidOver (packetOf id group d) out
 unfolding outputOf
 written out id group d room short = rw (le-leb _ _ room, le-leb _ _ short)
 
 done : (r : Request) (out last bytes : List ℕ) (n : ℕ)
-    → length bytes ≡ 8 → bytes ≡ r .code ∷ r .values → n ≡ min (r .count) 7
-    → 40 ≤ length out → last ≡ outputOf out (r .id) (r .group) (take (n + 1) bytes)
+    → length bytes ≡ 8 → bytes ≡ r .code ∷ r .values → n ≡ min (r .count) mostValues
+    → longest ≤ length out → last ≡ outputOf out (r .id) (r .group) (take (n + 1) bytes)
     → (n + 1 + 4 ≡ length (requestPacket r)) × (last ≡ laidOver (requestPacket r) out)
 unfolding requestPacket
 done r out last bytes n len eb en room e =
-    let seven : length (r .values) ≡ 7 = omega (arith, ap length eb) in
+    let seven : length (r .values) ≡ mostValues = omega (arith, ap length eb) in
     let same : take (n + 1) bytes ≡ requestData r = rw eb (sent (r .code) n (r .count) (r .values) seven en) in
     let size : length (requestData r) ≡ n + 1 = ap length (sym same) ∙ length-take-le (n + 1) bytes (omega arith) in (
       omega (arith, packet-length (r .id) (r .group) (requestData r) (omega arith)),

@@ -4,13 +4,14 @@ use mathlib.Core.List.{[], _∷_, _++_}
 use native.Mathlib.Omega.{arith}
 use lib.ListN.{length, length-append}
 use lib.Seq.{take-all, length-take-le, take-append-le}
+use Rattle.packet.specs.Packet.{longest}
 use Rattle.panels.specs.declared.Table.{Table}
 use Rattle.panels.specs.Wall.{panelsOf}
 use Rattle.line.specs.declared.Heard.{Heard}
-use Rattle.line.specs.declared.Reply.{Reply}
-use Rattle.line.specs.declared.Played.{Played}
+use Rattle.answers.specs.declared.Reply.{Reply}
+use Rattle.answers.specs.declared.Played.{Played}
 use Rattle.line.specs.Session.{receiverOf, burstOf, atMark}
-use Rattle.line.proofs.Bursts.{played-long, damaged-bare}
+use Rattle.answers.proofs.Bursts.{played-long, damaged-bare}
 use borrow.Author.Needs.{needs}
 use Rattle.line.proofs.Receiver.quiet.Statement.{statement}
 use Rattle.line.proofs.Receiver.quiet.Tie as tie
@@ -26,7 +27,7 @@ unfolding receiverOf atMark burstOf
 returns c =
     let start = c .before .before .before .before .before in
     let a = start .args in
-    let n : length (a .self .bytes) ≡ 40 = search needs in
+    let n : length (a .self .bytes) ≡ longest = search needs in
     let burst = take-all (a .self .count) (a .self .bytes ++ 0 ∷ []) (simp length-append (omega arith)) in
     let o = played-long (panelsOf (a .t)) (a .self .bytes ++ 0 ∷ []) (simp length-append (omega arith)) in
     let reply = c .damaged-reply .ensures ∙ damaged-bare (panelsOf (a .t)) (a .self .bytes) (0 ∷ []) (omega arith) in
@@ -34,13 +35,13 @@ returns c =
 
 array-share-prefix-bytes : tie.Need-array-share-prefix-bytes
 array-share-prefix-bytes c =
-    let n : length (c .before .before .before .args .self .bytes) ≡ 40 = search needs in
+    let n : length (c .before .before .before .args .self .bytes) ≡ longest = search needs in
     omega arith
 
 slice-aggregate-play : tie.Need-slice-aggregate-play
 slice-aggregate-play c =
     let a = c .before .before .before .before .args in
-    let n : length (a .self .bytes) ≡ 40 = search needs in
+    let n : length (a .self .bytes) ≡ longest = search needs in
     sym (length-take-le (a .self .count) (a .self .bytes) (omega arith))
 
 play-requires : tie.Need-play-requires
@@ -51,7 +52,7 @@ unfolding receiverOf atMark burstOf
 returns-2 c =
     let start = c .before .before .before .before .before .before .before in
     let a = start .args in
-    let n : length (a .self .bytes) ≡ 40 = search needs in
+    let n : length (a .self .bytes) ≡ longest = search needs in
     let burst = take-append-le (a .self .count) (a .self .bytes) (0 ∷ []) (omega arith) in
     rw burst (ap {B = Heard} (λ (p : Played). record { receiver = receiverOf []; table = p .table; reply = p .reply }) (c .before .before .play .ensures))
 

@@ -1,0 +1,102 @@
+-- A burst keeps a wall good: every setting stays in its range. Assumes nothing.
+use mathlib.Core.Path.{_≡_, refl}
+use mathlib.Core.Bool.{Bool, true, false, cond}
+use mathlib.Core.List.{List}
+use Prim.Native.Nat.{ℕ}
+use native.Mathlib.Omega.{arith}
+use lib.ListN.{length, length-map}
+use Rattle.settings.specs.Settings.{setting, byteCount, allowedFor, valueCount}
+use Rattle.settings.proofs.Laws.{allowed-count}
+use Rattle.packet.specs.declared.MonitorId.{MonitorId}
+use Rattle.packet.specs.declared.GroupId.{GroupId}
+use Rattle.packet.specs.declared.Verdict.{Verdict}
+use Rattle.packet.specs.declared.Verdict.the-variants.{Empty, Damaged, Intact}
+use Rattle.packet.specs.Packet.{verdictOf, dataOf}
+use Rattle.panels.specs.declared.Panel.{Panel}
+use Rattle.panels.specs.declared.Table.{Table}
+use Rattle.panels.specs.Wall.{Wall, valuesOf, tableOf, panelsOf}
+use Rattle.panels.specs.Addressed.{reaches}
+use Rattle.panels.specs.WellFormed.{GoodPanel, GoodWall, WellFormed}
+use Rattle.panels.proofs.Values.{set-row, other-row, with-twice, with-in-range}
+use Rattle.panels.proofs.Formed.{formed, good-map}
+use Rattle.answers.specs.Judged.{Command, getOf, setOf, unavailable, command, notAvailable, taken, judge, stored, panelAfter}
+use Rattle.answers.specs.Played.{turned, playedBy, played}
+
+-- A row that was stored to has the values, and every other row has what it had.
+module _ (row : ℕ) (vs : List ℕ) (p : Panel) (ok : allowedFor row vs ≡ true) (full : length (p .values) ≡ valueCount) where
+  n : length vs ≡ byteCount row
+  n = allowed-count (setting row .allowed) vs ok
+
+  pub stored-own : valuesOf row (stored row vs p .values) ≡ vs
+  unfolding stored
+  stored-own = set-row row vs (p .values) n full
+
+  pub stored-others : (other : ℕ) → (other ≡ row → ⊥) → valuesOf other (stored row vs p .values) ≡ valuesOf other (p .values)
+  unfolding stored
+  stored-others = other-row row vs (p .values) n full
+
+  -- storing the same once more changes nothing
+  pub stored-twice : stored row vs (stored row vs p) ≡ stored row vs p
+  unfolding stored
+  stored-twice = rw (with-twice row vs (p .values) n full)
+
+-- a good panel with allowed values stored in a row is good
+stored-good : (row : ℕ) (vs : List ℕ) (p : Panel) → allowedFor row vs ≡ true → GoodPanel p → GoodPanel (stored row vs p)
+unfolding stored
+stored-good row vs p ok g =
+    let i = with-in-range (record { full = g .full; rows = g .inRange }) row vs ok in
+    record { named = g .named; grouped = g .grouped; full = i .full; inRange = i .rows }
+
+-- what a panel does with a command keeps its ID and keeps it good
+judged-id : (c : Command) (p : Panel) → panelAfter (judge c p) p .id ≡ p .id
+unfolding judge stored
+judged-id (getOf row) p = refl
+judged-id (setOf row vs) p = go (allowedFor row vs)
+  where
+    go : (t : Bool) → panelAfter (cond t (taken (stored row vs p)) notAvailable) p .id ≡ p .id
+    go true = refl
+    go false = refl
+judged-id unavailable p = refl
+
+judged-good : (c : Command) (p : Panel) → GoodPanel p → GoodPanel (panelAfter (judge c p) p)
+unfolding judge
+judged-good (getOf row) p g = g
+judged-good (setOf row vs) p g = go (allowedFor row vs) refl
+  where
+    go : (t : Bool) → allowedFor row vs ≡ t → GoodPanel (panelAfter (cond t (taken (stored row vs p)) notAvailable) p)
+    go true e = stored-good row vs p e g
+    go false e = g
+judged-good unavailable p g = g
+
+turned-id : (i : MonitorId) (g : GroupId) (c : Command) (p : Panel) → turned i g c p .id ≡ p .id
+unfolding turned
+turned-id i g c p = go (reaches i g p)
+  where
+    go : (t : Bool) → cond t (panelAfter (judge c p) p) p .id ≡ p .id
+    go true = judged-id c p
+    go false = refl
+
+turned-good : (i : MonitorId) (g : GroupId) (c : Command) (p : Panel) → GoodPanel p → GoodPanel (turned i g c p)
+unfolding turned
+turned-good i g c p ok = go (reaches i g p)
+  where
+    go : (t : Bool) → GoodPanel (cond t (panelAfter (judge c p) p) p)
+    go true = judged-good c p ok
+    go false = ok
+
+by-verdict-good : (v : Verdict) (w : Wall) (b : List ℕ) → GoodWall w → (GoodWall (playedBy v w b .wall)) × (length (playedBy v w b .wall) ≡ length w)
+by-verdict-good Empty w b good = (good, refl)
+by-verdict-good Damaged w b good = (good, refl)
+by-verdict-good (Intact i g n) w b good =
+    let c = command (dataOf b (Intact i g n)) in
+    (good-map (turned i g c) (turned-id i g c) (turned-good i g c) w good, length-map w (turned i g c))
+
+pub played-good : (w : Wall) (b : List ℕ) → GoodWall w → GoodWall (played w b .wall)
+unfolding played
+played-good w b good = by-verdict-good (verdictOf b) w b good .0
+
+pub played-formed : {t : Table} → WellFormed t → (b : List ℕ) → WellFormed (tableOf (played (panelsOf t) b .wall))
+unfolding played
+played-formed {t} f b =
+    let (good, n) = by-verdict-good (verdictOf b) (panelsOf t) b (f .good) in
+    formed _ (omega (arith, f .few)) good

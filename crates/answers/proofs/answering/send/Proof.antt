@@ -1,0 +1,87 @@
+-- The packet fits, so it is written. Assumes nothing.
+use mathlib.Core.Path.{_≡_, sym, ap, _∙_}
+use mathlib.Core.List.{List}
+use Prim.Native.Nat.{ℕ, _+_, _≤_}
+use borrow.Author.Tests.{le-leb}
+use lib.ListN.{length}
+use Rattle.packet.specs.declared.MonitorId.{MonitorId}
+use Rattle.packet.specs.declared.GroupId.{GroupId}
+use Rattle.packet.specs.declared.Written.{Written}
+use Rattle.packet.specs.declared.Written.the-variants.{Bytes, TooLong, NoRoom}
+use Rattle.packet.specs.Packet.{groupId, writtenOf, outputOf, packetOf, mostData, longest}
+use Rattle.lists.specs.Lists.{laidOver}
+use Rattle.answers.specs.declared.Sent.{Sent}
+use Rattle.answers.specs.declared.Sent.the-variants as sent
+use borrow.Author.Needs.{needs}
+use Rattle.answers.proofs.answering.send.Statement.{statement}
+use Rattle.answers.proofs.answering.send.Tie as tie
+
+-- what the match makes of it
+abbrev passed-on : Written → Sent
+passed-on (Bytes n) = sent.Bytes n
+passed-on TooLong = sent.NoRoom
+passed-on NoRoom = sent.NoRoom
+
+fits : (out d : List ℕ) → longest ≤ length out → length d ≤ mostData → writtenOf out d ≡ Bytes (length d + 4)
+unfolding writtenOf
+fits out d h m = simp (le-leb _ _ h, le-leb _ _ m)
+
+laid : (out : List ℕ) (i : MonitorId) (g : GroupId) (d : List ℕ) → longest ≤ length out → length d ≤ mostData
+    → outputOf out i g d ≡ laidOver (packetOf i g d) out
+unfolding outputOf
+laid out i g d h m = simp (le-leb _ _ h, le-leb _ _ m)
+
+write-packet-requires : tie.Need-write-packet-requires
+write-packet-requires c κs = search needs
+
+enum-known-written : tie.Need-enum-known-written
+enum-known-written c = search needs
+
+enum-told : tie.Need-enum-told
+enum-told c = search needs
+
+enum-told-2 : tie.Need-enum-told-2
+enum-told-2 c = search needs
+
+same-length : tie.Need-same-length
+same-length c = search needs
+
+-- what was written, whatever the match told
+written : (c : tie.After-write-packet) (w : Written) → c .write-packet .result ≡ w
+    → let a = c .before .before .before .before .args in
+    (passed-on w ≡ sent.Bytes (length (a .d .now) + 4)) × (c .write-packet .last .0 ≡ laidOver (packetOf (a .id) (groupId 0) (a .d .now)) (a .out .now))
+written c w e =
+    let start = c .before .before .before .before in (
+      ap passed-on (sym e ∙ c .write-packet .ensures .0 ∙ fits _ _ (start .pre .0) (start .pre .1)),
+      c .write-packet .ensures .1 ∙ laid _ _ _ _ (start .pre .0) (start .pre .1),
+    )
+
+returns : tie.Need-returns
+returns c = written (c .before .before .before .before .before) _ (c .before .written .given .1)
+
+same-length-2 : tie.Need-same-length-2
+same-length-2 c = search needs
+
+returns-2 : tie.Need-returns-2
+returns-2 c = written (c .before .before .before .before) _ (c .enum-told .given .1)
+
+same-length-3 : tie.Need-same-length-3
+same-length-3 c = search needs
+
+returns-3 : tie.Need-returns-3
+returns-3 c = written (c .before .before .before .before) _ (c .enum-told2 .given .1)
+
+pub send-spec : {M : Type 1} → statement M
+send-spec =
+    tie.close
+    (tie.spec
+    write-packet-requires
+    enum-known-written
+    enum-told
+    enum-told-2
+    same-length
+    returns
+    same-length-2
+    returns-2
+    same-length-3
+    returns-3)

@@ -1,0 +1,64 @@
+-- The panel with the ID is asked; without one there is silence. Assumes nothing.
+use mathlib.Core.Path.{sym, ap₂, _∙_}
+use native.Mathlib.Omega.{arith}
+use Rattle.panels.specs.declared.Table.{Table}
+use Rattle.panels.proofs.Laws.{count-is, place-there}
+use Rattle.answers.specs.declared.Reply.{Reply}
+use Rattle.answers.specs.declared.Played.{Played}
+use Rattle.answers.proofs.Turns.{heard-there, heard-nowhere}
+use borrow.Author.Needs.{needs}
+use Rattle.answers.proofs.playing.play_heard.Statement.{statement}
+use Rattle.answers.proofs.playing.play_heard.Tie as tie
+
+find-panel-requires : tie.Need-find-panel-requires
+find-panel-requires c κs = search needs
+
+enum-known-place : tie.Need-enum-known-place
+enum-known-place c = search needs
+
+enum-told : tie.Need-enum-told
+enum-told c = search needs
+
+no-reply-requires : tie.Need-no-reply-requires
+no-reply-requires c κs = search needs
+
+returns : tie.Need-returns
+returns c =
+    let told = c .before in
+    let found = told .before .before in
+    let start = found .before .before in
+    let nowhere = sym (found .find-panel .ensures) ∙ told .enum-told .given .1 in
+    ap₂ {C = Played} (λ (t : Table) (r : Reply). record { table = t; reply = r }) (start .pre .0 .held) (c .no-reply .ensures)
+    ∙ sym (heard-nowhere _ _ (start .pre .1) _ nowhere)
+
+order-of-requires : tie.Need-order-of-requires
+order-of-requires c κs = search needs
+
+play-one-requires : tie.Need-play-one-requires
+play-one-requires c κs =
+    let place = c .before .before in
+    let found = place .before .before in
+    let f = found .before .before .pre .0 in
+    let there = sym (found .find-panel .ensures) ∙ place .place .given .1 in
+    (f, omega (arith, count-is f, place-there _ _ _ there .0), c .order-of .ensures)
+
+returns-2 : tie.Need-returns-2
+returns-2 c =
+    let place = c .before .before .before in
+    let found = place .before .before in
+    let start = found .before .before in
+    let there = sym (found .find-panel .ensures) ∙ place .place .given .1 in
+    c .play-one .ensures ∙ sym (heard-there _ _ (start .pre .1) _ _ (start .pre .0 .good) there)
+
+pub play-heard-spec : {M : Type 1} → statement M
+play-heard-spec =
+    tie.close
+    (tie.spec
+    find-panel-requires
+    enum-known-place
+    enum-told
+    no-reply-requires
+    returns
+    order-of-requires
+    play-one-requires
+    returns-2)

@@ -1,0 +1,55 @@
+-- What one panel makes of a packet's data. 01, "Answering a burst", steps 4 and 5; "The settings".
+use Prim.Native.Nat.{ℕ}
+use mathlib.Core.Bool.{cond}
+use mathlib.Core.List.{List, [], _∷_}
+use Rattle.settings.specs.declared.Found.{Found}
+use Rattle.settings.specs.declared.Found.the-variants.{Set, Get, Nothing}
+use Rattle.settings.specs.Settings.{foundBy, getCode, allowedFor, valuesWith}
+use Rattle.packet.specs.declared.MonitorId.{MonitorId}
+use Rattle.packet.specs.declared.Control.the-variants.{Ack, Nav}
+use Rattle.panels.specs.declared.Panel.{Panel}
+use Rattle.panels.specs.Wall.{valuesOf}
+use Rattle.answers.specs.declared.Reply.{Reply}
+use Rattle.answers.specs.Reply.{wordFrom, reportFrom}
+
+pub data Command : Type 0 where
+  getOf : ℕ → Command
+  setOf : ℕ → List ℕ → Command
+  unavailable : Command
+
+-- set data is the set code and then the values, get data the get code alone
+abbrev pub commandBy : Found → List ℕ → Command
+commandBy (Set row) values = setOf row values
+commandBy (Get row) [] = getOf row
+commandBy (Get row) (v ∷ values) = unavailable
+commandBy Nothing values = unavailable
+
+unfoldable pub command : List ℕ → Command
+command [] = unavailable
+command (code ∷ values) = commandBy (foundBy code) values
+
+pub data Judged : Type 0 where
+  notAvailable : Judged
+  reported : List ℕ → Judged
+  taken : Panel → Judged
+
+-- the panel with a row's values stored, and all else as it was
+unfoldable pub stored : ℕ → List ℕ → Panel → Panel
+stored row values p = record { id = p .id; group = p .group; values = valuesWith row values (p .values) }
+
+-- one panel decides for itself
+unfoldable pub judge : Command → Panel → Judged
+judge (getOf row) p = reported (getCode row ∷ valuesOf row (p .values))
+judge (setOf row values) p = cond (allowedFor row values) (taken (stored row values p)) notAvailable
+judge unavailable p = notAvailable
+
+abbrev pub panelAfter : Judged → Panel → Panel
+panelAfter notAvailable p = p
+panelAfter (reported d) p = p
+panelAfter (taken q) p = q
+
+-- a get: the report alone; a set: ACK; else NAV
+abbrev pub replyBy : MonitorId → Judged → Reply
+replyBy i notAvailable = wordFrom i Nav
+replyBy i (reported d) = reportFrom i d
+replyBy i (taken q) = wordFrom i Ack

@@ -1,0 +1,7 @@
+-- What is right of the answers. `Reply` is an answer and the bytes that go out, `Judged` what one panel makes of a command,
+-- `Played` a burst's outcome, `Sample` 01's sample wall.
+pub mod Reply
+pub mod Judged
+pub mod Played
+pub mod Sample
+pub mod Private

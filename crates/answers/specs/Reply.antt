@@ -1,0 +1,57 @@
+-- An answer is silence, one of three control words, or a report. 01, "Answering a burst".
+use Prim.Native.Nat.{ℕ, _+_, _-_}
+use mathlib.Core.Bool.{cond}
+use mathlib.Core.List.{List, [], _++_}
+use lib.Dec.{leb}
+use lib.ListN.{length, take, replicate}
+use Rattle.settings.specs.Settings.{mostValues}
+use Rattle.packet.specs.declared.MonitorId.{MonitorId}
+use Rattle.packet.specs.declared.Control.{Control}
+use Rattle.packet.specs.Packet.{monitorId, groupId, packetOf, longest}
+use Rattle.lists.specs.Lists.{laidOver}
+use Rattle.packet.specs.Control.{controlData}
+use Rattle.answers.specs.declared.Answer.{Answer}
+use Rattle.answers.specs.declared.Answer.the-variants.{Silence, Word, Report}
+use Rattle.answers.specs.declared.Reply.{Reply}
+use Rattle.answers.specs.declared.Sent.{Sent}
+use Rattle.answers.specs.declared.Sent.the-variants.{Bytes, NoRoom}
+
+-- a report's data at its longest: the get code, and the values of the largest row
+abbrev pub mostReported : ℕ
+mostReported = mostValues + 1
+
+-- what a reply does not use is 0
+abbrev pub silence : Reply
+silence = record { answer = Silence; id = monitorId 0; bytes = replicate mostReported 0; count = 0 }
+
+abbrev pub wordFrom : MonitorId → Control → Reply
+wordFrom i c = record { answer = Word c; id = i; bytes = replicate mostReported 0; count = 0 }
+
+-- a report's data: the get code and then the values
+abbrev pub reportFrom : MonitorId → List ℕ → Reply
+reportFrom i d = record { answer = Report; id = i; bytes = d ++ replicate (mostReported - length d) 0; count = length d }
+
+-- what goes out: a packet with group 0 and the panel's ID, or nothing
+abbrev pub sentBy : Answer → MonitorId → List ℕ → List ℕ
+sentBy Silence i d = []
+sentBy (Word c) i d = packetOf i (groupId 0) (controlData c)
+sentBy Report i d = packetOf i (groupId 0) d
+
+unfoldable pub sentBytes : Reply → List ℕ
+sentBytes r = sentBy (r .answer) (r .id) (take (r .count) (r .bytes))
+
+-- 19 for an output without room for any packet
+unfoldable pub sentOf : List ℕ → Reply → Sent
+sentOf out r = cond (leb longest (length out)) (Bytes (length (sentBytes r))) NoRoom
+
+unfoldable pub refusalOf : Sent → ℕ
+refusalOf (Bytes n) = 0
+refusalOf NoRoom = 19
+
+-- how many bytes went out, none on a refusal
+abbrev pub bytesSent : Sent → ℕ
+bytesSent (Bytes n) = n
+bytesSent NoRoom = 0
+
+unfoldable pub outputOf : List ℕ → Reply → List ℕ
+outputOf out r = cond (leb longest (length out)) (laidOver (sentBytes r) out) out

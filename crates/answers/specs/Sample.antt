@@ -1,0 +1,7 @@
+-- The sample wall. 01, "Bursts to try": panels 1 and 2, both in group 9, fresh.
+use mathlib.Core.List.{[], _∷_}
+use Rattle.packet.specs.Packet.{monitorId, groupId}
+use Rattle.panels.specs.Wall.{Wall, freshPanel}
+
+unfoldable pub twoPanels : Wall
+twoPanels = freshPanel (monitorId 1) (groupId 9) ∷ freshPanel (monitorId 2) (groupId 9) ∷ []

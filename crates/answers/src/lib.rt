@@ -1,0 +1,49 @@
+// The answer to a burst, and an answer written out.
+mod answering;
+mod judging;
+mod playing;
+
+pub use answering::write_answer;
+use packet::Control;
+use packet::MonitorId;
+use panels::Table;
+pub use playing::damaged_reply;
+pub use playing::play;
+use settings::MOST_VALUES;
+
+// A report's data at its longest: the get code, and the values of the largest row.
+pub const MOST_REPORTED: usize = MOST_VALUES + 1;
+
+// Silence, a control word, or a report, whose bytes stand beside it.
+pub enum Answer {
+    Silence,
+    Word(Control),
+    Report,
+}
+
+pub struct Reply {
+    pub answer: Answer,
+    pub id: MonitorId,
+    pub bytes: [u8; MOST_REPORTED],
+    pub count: usize,
+}
+
+// What a packet asks of every addressed panel alike: a report of a row, its values to be stored in a row, or nothing
+// that is available.
+enum Order {
+    Report(usize),
+    Store(usize),
+    NotAvailable,
+}
+
+// What a burst leaves: the table and the reply.
+pub struct Played {
+    pub table: Table,
+    pub reply: Reply,
+}
+
+// How many bytes went into the output, or it has no room for any packet.
+pub enum Sent {
+    Bytes(usize),
+    NoRoom,
+}

@@ -1,0 +1,161 @@
+// A burst played on the table.
+ghost use mathlib.Core.Path.{_≡_};
+ghost use mathlib.Core.Bool.{true, false};
+ghost use mathlib.Core.List.{map};
+ghost use Prim.Native.Nat.{_+_, _<_};
+ghost use lib.ListN.{length, drop};
+ghost use Rattle.settings.specs.Settings.{byteCount, allowedFor, rowCount};
+ghost use Rattle.packet.specs.Packet.{groupId};
+ghost use Rattle.panels.specs.Wall.{tableOf, panelsOf};
+ghost use Rattle.packet.specs.Answered.{isHeard};
+ghost use Rattle.panels.specs.WellFormed.{WellFormed};
+ghost use Rattle.answers.specs.Judged.{setOf, command};
+ghost use Rattle.answers.specs.Private.Orders.{orderOf, asked};
+ghost use Rattle.answers.specs.Played.{turned, playedPacket, damagedReply, played, inTable};
+use crate::Order;
+use crate::Played;
+use crate::Reply;
+use crate::answering;
+use crate::judging;
+use packet::Control;
+use packet::GroupId;
+use packet::MonitorId;
+use packet::Verdict;
+use panels::Panel;
+use panels::Place;
+use panels::Table;
+
+// The panel at place k is asked, and answers.
+fn play_one(t: Table, k: usize, order: Order, d: &[u8]) -> Played
+    requires { ⌜ WellFormed t × (k < t .count) × (order ≡ orderOf (command (now d))) ⌝ }
+    ensures { λ r. ⌜ r ≡ asked (panelsOf t) k (command (now (d .entry))) ⌝ }
+{
+    let p = t.panels[k];
+    let id = p.id;
+    match order {
+        Order::Report(row) => {
+            let reply = judging::report_of(p, row);
+            Played { table: t, reply }
+        }
+        Order::Store(row) => {
+            let mut after = t;
+            let q = judging::with_values(p, row, d);
+            after.panels[k] = q;
+            let reply = answering::word_from(id, Control::Ack);
+            Played {
+                table: after,
+                reply,
+            }
+        }
+        Order::NotAvailable => {
+            let reply = answering::word_from(id, Control::Nav);
+            Played { table: t, reply }
+        }
+    }
+}
+
+// The panel after a set: with the values, if it is addressed.
+fn store_in(p: Panel, id: MonitorId, group: GroupId, row: usize, d: &[u8]) -> Panel
+    requires { ⌜ (row < rowCount) × (length (now d) ≡ byteCount row + 1) × (allowedFor row (drop 1 (now d)) ≡ true) ⌝ }
+    ensures { λ r. ⌜ r ≡ turned id group (setOf row (drop 1 (now (d .entry)))) p ⌝ }
+{
+    if panels::addresses(id, group, p) {
+        return judging::with_values(p, row, d);
+    }
+    p
+}
+
+// The values are stored in every panel that is addressed.
+fn store_in_all(t: Table, id: MonitorId, group: GroupId, row: usize, d: &[u8]) -> Table
+    requires { ⌜ WellFormed t × (row < rowCount) × (length (now d) ≡ byteCount row + 1) × (allowedFor row (drop 1 (now d)) ≡ true) ⌝ }
+    ensures { λ r. ⌜ r ≡ tableOf (map (turned id group (setOf row (drop 1 (now (d .entry))))) (panelsOf t)) ⌝ }
+{
+    let n = t.count;
+    let mut table = t;
+    let mut k = 0;
+    while k < n {
+        let p = store_in(table.panels[k], id, group, row, d);
+        table.panels[k] = p;
+        k += 1;
+    }
+    table
+}
+
+// A packet that is answered: the panel with its ID is asked.
+fn play_heard(t: Table, id: MonitorId, d: &[u8]) -> Played
+    requires { ⌜ WellFormed t × (id .0 ≡ 0 → ⊥) ⌝ }
+    ensures { λ r. ⌜ r ≡ inTable (playedPacket (panelsOf t) id (groupId 0) (command (now (d .entry)))) ⌝ }
+{
+    let place = panels::find_panel(t, id);
+    let Place::At(k) = place else {
+        let reply = answering::no_reply();
+        return Played { table: t, reply };
+    };
+    let order = judging::order_of(d);
+    play_one(t, k, order, d)
+}
+
+// A packet to all or to a group: a set is stored where it is allowed, and nobody answers.
+fn play_unheard(t: Table, id: MonitorId, group: GroupId, d: &[u8]) -> Played
+    requires { ⌜ WellFormed t × (isHeard id group ≡ false) ⌝ }
+    ensures { λ r. ⌜ r ≡ inTable (playedPacket (panelsOf t) id group (command (now (d .entry)))) ⌝ }
+{
+    let reply = answering::no_reply();
+    let order = judging::order_of(d);
+    match order {
+        Order::Report(_) => Played { table: t, reply },
+        Order::Store(row) => {
+            let table = store_in_all(t, id, group, row, d);
+            Played { table, reply }
+        }
+        Order::NotAvailable => Played { table: t, reply },
+    }
+}
+
+// A damaged burst: NACK from the panel that it seems to be for.
+pub fn damaged_reply(t: Table, burst: &[u8]) -> Reply
+    requires { ⌜ WellFormed t ⌝ }
+    ensures { λ r. ⌜ r ≡ damagedReply (panelsOf t) (now (burst .entry)) ⌝ }
+{
+    if burst.len() < 3 {
+        return answering::no_reply();
+    }
+    if burst[2] != 0 {
+        return answering::no_reply();
+    }
+    let id = MonitorId(burst[1]);
+    let place = panels::find_panel(t, id);
+    match place {
+        Place::At(_) => answering::word_from(id, Control::Nack),
+        Place::Nowhere => answering::no_reply(),
+    }
+}
+
+// A whole burst.
+pub fn play(t: Table, burst: &[u8]) -> Played
+    requires { ⌜ WellFormed t ⌝ }
+    ensures { λ r. ⌜ r ≡ inTable (played (panelsOf t) (now (burst .entry))) ⌝ }
+{
+    let verdict = packet::verdict_on(burst);
+    match verdict {
+        Verdict::Empty => {
+            let reply = answering::no_reply();
+            Played { table: t, reply }
+        }
+        Verdict::Damaged => {
+            let reply = damaged_reply(t, burst);
+            Played { table: t, reply }
+        }
+        Verdict::Intact {
+            id,
+            group,
+            count: _,
+        } => {
+            let d = packet::data_part(burst, verdict);
+            if packet::is_answered(id, group) {
+                return play_heard(t, id, d);
+            }
+            play_unheard(t, id, group, d)
+        }
+    }
+}

@@ -1,0 +1,9 @@
+-- `Steps` is the walk over a record's fields, `Edges` where records begin and end, `Marked` the IDs seen before. The theorems:
+-- `Sound` that reading gives only well-formed tables, `Entries`, `ByCode` and `Order` that fields go by code and not by place.
+pub mod Steps
+pub mod Edges
+pub mod Sound
+pub mod Marked
+pub mod Entries
+pub mod ByCode
+pub mod Order

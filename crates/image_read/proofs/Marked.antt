@@ -1,0 +1,80 @@
+-- Where exactly the IDs of a wall are marked, a record is read as it should be behind that wall. Assumes nothing.
+use mathlib.Core.Path.{_≡_, refl, sym, subst, _∙_}
+use mathlib.Core.Bool.{Bool, true, false, cond, not}
+use mathlib.Core.List.{List, [], _∷_, _++_}
+use Prim.Native.Nat.{ℕ, zero, suc, _<_}
+use borrow.Author.Tests.{eqb-true, eqb-false}
+use lib.Dec.{eqb}
+use lib.ListN.{length, getD, drop, set, replicate}
+use lib.Seq.{getD-set-same, getD-set-other}
+use Rattle.packet.specs.Packet.{monitorId}
+use Rattle.panels.specs.declared.Panel.{Panel}
+use Rattle.panels.specs.declared.Place.{Place}
+use Rattle.panels.specs.declared.Place.the-variants.{At, Nowhere}
+use Rattle.panels.specs.Wall.{Wall, blank, placeFrom}
+use Rattle.panels.specs.Calls.{ifThere}
+use Rattle.image_read.specs.declared.Refusal.the-variants.{Record}
+use Rattle.image_read.specs.declared.ReadPanel.{ReadPanel}
+use Rattle.image_read.specs.Fields.{fieldsIn}
+use Rattle.image_read.specs.Read.{isSound, headFits, recordRefusal, panelIn}
+use Rattle.image_read.specs.Private.Marked.{Marks, headFitsBy, panelBy}
+use Rattle.image_read.proofs.Sound.{head-of}
+
+pub none-marked : (n : ℕ) → Marks (replicate n false) []
+unfolding placeFrom
+none-marked n = record { marked = unmarked n }
+  where
+    unmarked : (n i : ℕ) → getD (replicate n false) i false ≡ false
+    unmarked zero i = refl
+    unmarked (suc n) zero = refl
+    unmarked (suc n) (suc i) = unmarked n i
+
+there-snoc : (i k : ℕ) (w : Wall) (p : Panel)
+    → ifThere (placeFrom (monitorId i) k (w ++ p ∷ [])) true false
+    ≡ cond (eqb (p .id .0) i) true (ifThere (placeFrom (monitorId i) k w) true false)
+unfolding placeFrom
+there-snoc i k [] p = go (eqb (p .id .0) i)
+  where
+    go : (t : Bool) → ifThere (cond t (At k) Nowhere) true false ≡ cond t true false
+    go true = refl
+    go false = refl
+there-snoc i k (q ∷ w) p = go (eqb (q .id .0) i) (eqb (p .id .0) i) _ _ (there-snoc i (suc k) w p)
+  where
+    go : (s t : Bool) (a b : Place) → ifThere a true false ≡ cond t true (ifThere b true false)
+        → ifThere (cond s (At k) a) true false ≡ cond t true (ifThere (cond s (At k) b) true false)
+    go true true a b e = refl
+    go true false a b e = refl
+    go false t a b e = e
+
+-- the ID of one more panel is marked
+pub one-more : {seen : List Bool} {w : Wall} (p : Panel) → Marks seen w → p .id .0 < length seen
+    → Marks (set seen (p .id .0) true) (w ++ p ∷ [])
+one-more {seen} {w} p m h = record { marked = λ i. rw (there-snoc i 0 w p) (go i (eqb (p .id .0) i) refl) }
+  where
+    go : (i : ℕ) (t : Bool) → eqb (p .id .0) i ≡ t
+        → getD (set seen (p .id .0) true) i false ≡ cond t true (ifThere (placeFrom (monitorId i) 0 w) true false)
+    go i true e = subst (λ (j : ℕ). getD (set seen (p .id .0) true) j false ≡ true) (eqb-true _ _ e) (getD-set-same seen (p .id .0) true false h)
+    go i false e = getD-set-other seen (p .id .0) i true false (λ s. eqb-false _ _ e (sym s)) ∙ m .marked i
+
+module _ {seen : List Bool} {w : Wall} (m : Marks seen w) (bytes : List ℕ) where
+  head-alike : headFitsBy seen bytes ≡ headFits w bytes
+  unfolding headFitsBy headFits
+  head-alike = rw (m .marked (getD bytes 0 0), not-there (placeFrom (monitorId (getD bytes 0 0)) 0 w))
+    where
+      not-there : (q : Place) → not (ifThere q true false) ≡ ifThere q false true
+      not-there (At k) = refl
+      not-there Nowhere = refl
+
+  pub refusal-alike : panelBy seen bytes .refusal ≡ recordRefusal w bytes
+  unfolding panelBy recordRefusal
+  refusal-alike = rw head-alike (go (headFits w bytes))
+    where
+      go : (t : Bool)
+          → cond {A = ReadPanel} t (record { refusal = fieldsIn (drop 2 bytes) .refusal; panel = panelIn bytes }) (record { refusal = Record; panel = blank }) .refusal
+          ≡ cond t (fieldsIn (drop 2 bytes) .refusal) Record
+      go true = refl
+      go false = refl
+
+  pub panel-alike : isSound (recordRefusal w bytes) ≡ true → panelBy seen bytes .panel ≡ panelIn bytes
+  unfolding panelBy
+  panel-alike e = rw (head-alike, head-of w bytes e)

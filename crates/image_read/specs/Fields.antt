@@ -1,0 +1,63 @@
+-- The fields of a record, one after the other. 01, "Setup image, form 1", refusals 17 and 18.
+use Prim.Native.Nat.{ℕ, zero, suc, _+_}
+use mathlib.Core.Bool.{Bool, true, false, cond, not, _||_}
+use mathlib.Core.List.{List}
+use lib.Dec.{ltb, eqb}
+use lib.ListN.{length, getD, take, drop, set, replicate}
+use Rattle.settings.specs.declared.Found.{Found}
+use Rattle.settings.specs.declared.Found.the-variants.{Set, Get, Nothing}
+use Rattle.settings.specs.Settings.{foundBy, byteCount, allowedFor, freshValues, valuesWith, rowCount}
+use Rattle.image_read.specs.declared.Refusal.the-variants.{Nothing as Sound, Field as BadField, Value as BadValue}
+use Rattle.image_read.specs.declared.Step.{Step}
+use Rattle.image_read.specs.declared.Step.the-variants.{Field, NotAllowed, Broken, End}
+use Rattle.image_read.specs.declared.Fields.{Fields}
+
+-- the values of a row's field at the front of the bytes that are left: behind set code and length
+abbrev pub valuesIn : ℕ → List ℕ → List ℕ
+valuesIn row left = take (byteCount row) (drop 2 left)
+
+-- a row's field is cut off, or its length byte is not the row's count
+abbrev pub misfits : ℕ → List ℕ → Bool
+misfits row left = ltb (length left) (2 + byteCount row) || not (eqb (getD left 1 0) (byteCount row))
+
+-- the field of a code that was found: 17, then 18. `seen` tells which rows were seen before in this record.
+abbrev pub fieldBy : Found → List Bool → List ℕ → Step
+fieldBy (Set row) seen left =
+    cond (getD seen row false || misfits row left)
+    Broken
+    (cond (allowedFor row (valuesIn row left)) (Field row) NotAllowed)
+fieldBy (Get row) seen left = Broken
+fieldBy Nothing seen left = Broken
+
+-- what stands at the front of the bytes that are left
+unfoldable pub stepAt : List Bool → List ℕ → Step
+stepAt seen left = cond (eqb (length left) 0) End (fieldBy (foundBy (getD left 0 0)) seen left)
+
+-- a field that is taken: its row is seen, its values stand at the row's place, and it is left behind
+abbrev pub seenWith : ℕ → List Bool → List Bool
+seenWith row seen = set seen row true
+
+abbrev pub behind : ℕ → List ℕ → List ℕ
+behind row left = drop (2 + byteCount row) left
+
+-- what a step comes to: a field goes on, and anything else stops the walk
+abbrev pub afterStep : Step → List ℕ → (ℕ → Fields) → Fields
+afterStep (Field row) values more = more row
+afterStep NotAllowed values more = record { refusal = BadValue; values = values }
+afterStep Broken values more = record { refusal = BadField; values = values }
+afterStep End values more = record { refusal = Sound; values = values }
+
+-- field after field, n steps at most
+unfoldable pub gathered : ℕ → List Bool → List ℕ → List ℕ → Fields
+gathered zero seen values left = record { refusal = Sound; values = values }
+gathered (suc n) seen values left =
+    afterStep (stepAt seen left) values
+    (λ row. gathered n (seenWith row seen) (valuesWith row (valuesIn row left) values) (behind row left))
+
+-- A step leaves at least a byte behind, so one step more than there are bytes is enough.
+unfoldable pub fieldsFrom : List Bool → List ℕ → List ℕ → Fields
+fieldsFrom seen values left = gathered (suc (length left)) seen values left
+
+-- a record's fields: none seen, and a code not there means its fresh value
+abbrev pub fieldsIn : List ℕ → Fields
+fieldsIn left = fieldsFrom (replicate rowCount false) freshValues left

@@ -1,0 +1,110 @@
+-- How long a record and its parts are. Assumes nothing.
+use mathlib.Core.Path.{_≡_, refl, sym, ap, _∙_}
+use mathlib.Core.List.{List, [], _∷_, _++_, flatten}
+use Prim.Native.Nat.{ℕ, zero, suc, _+_, _*_, _≤_, _<_}
+use native.Mathlib.Nat.{mul-zero, mul-suc}
+use native.Mathlib.Omega.{arith}
+use borrow.Author.Tests.{leb-true}
+use mathlib.Core.Bool.{true}
+use lib.Dec.{leb}
+use lib.ListN.{length, getD, take, length-append, length-take, length-drop, length-map, List·getD-map}
+use lib.Seq.{take-all}
+use Rattle.settings.specs.Settings.{settings, byteCount, valueCount, rowCount}
+use Rattle.lists.specs.Lists.{startOf, each}
+use Rattle.settings.proofs.Laws.{place-fits}
+use Rattle.lists.proofs.Each.{in-each, alike, length-each, each-alike}
+use Rattle.panels.specs.declared.Panel.{Panel}
+use Rattle.panels.specs.Wall.{Wall, valuesOf, blank}
+use Rattle.panels.specs.WellFormed.{GoodWall}
+use Rattle.lists.proofs.Places.{getD-inside}
+use Rattle.panels.proofs.Formed.{good-at}
+use Rattle.image_write.specs.Written.{field, fieldsOf, recordOf, recordsOf, highLow, startsOf, imageOf, recordSize, fieldsSize}
+use Rattle.lists.proofs.Flat.{flat-more, alike-long}
+
+-- the values of a row are as many as it has
+pub length-values : (row : ℕ) (values : List ℕ) → length values ≡ valueCount → length (valuesOf row values) ≡ byteCount row
+length-values row values e = let f = place-fits row in simp (length-take, length-drop) (omega arith)
+
+pub field-at : (values : List ℕ) (row : ℕ) → row < rowCount → getD (fieldsOf values) row [] ≡ field row (valuesOf row values)
+unfolding fieldsOf
+field-at values row h = in-each (λ row. field row (valuesOf row values)) rowCount [] h
+
+pub fields-count : (values : List ℕ) → length (fieldsOf values) ≡ rowCount
+unfolding fieldsOf
+fields-count values = refl
+
+-- how many bytes the fields of the first rows have
+unfoldable pub fieldBytes : ℕ → ℕ
+fieldBytes zero = 0
+fieldBytes (suc row) = fieldBytes row + (2 + byteCount row)
+
+pub fields-before : (values : List ℕ) → length values ≡ valueCount → (row : ℕ) → row ≤ rowCount → length (flatten (take row (fieldsOf values))) ≡ fieldBytes row
+unfolding fieldBytes flatten
+fields-before values e zero h = refl
+fields-before values e (suc row) h =
+    let more = flat-more (fieldsOf values) row (omega (arith, fields-count values)) in
+    let n = length-values row values e in
+    rw (more, length-append (flatten (take row (fieldsOf values))) _, fields-before values e row (omega arith), field-at values row h, n)
+    (omega arith)
+
+pub bytes-of-all : fieldBytes rowCount ≡ fieldsSize
+unfolding fieldBytes settings
+bytes-of-all = refl
+
+-- those of a row fit behind the ones before it
+pub bytes-fit : {row : ℕ} → row < rowCount → fieldBytes row + (2 + byteCount row) ≤ fieldsSize
+unfolding fieldBytes settings
+bytes-fit {row} h = leb-true _ _ (alike (λ k. leb (fieldBytes k + (2 + byteCount k)) fieldsSize) (λ k. true) rowCount refl h)
+
+pub fields-all : (values : List ℕ) → take rowCount (fieldsOf values) ≡ fieldsOf values
+fields-all values = take-all rowCount (fieldsOf values) (omega (arith, fields-count values))
+
+-- n starts of two bytes
+pub pairs-before : (f : ℕ → ℕ) (n k : ℕ) → k ≤ n → length (flatten (take k (each (λ j. highLow (f j)) n))) ≡ 2 * k
+pairs-before f n k h =
+    let ls = each (λ j. highLow (f j)) n in
+    let count = length-each (λ j. highLow (f j)) n in
+    alike-long 2 ls (λ j g. ap length (in-each (λ j. highLow (f j)) n [] (omega arith))) k (omega arith)
+
+-- a record has 33 bytes
+pub fields-length : (values : List ℕ) → length values ≡ valueCount → length (flatten (fieldsOf values)) ≡ fieldsSize
+fields-length values full = ap (λ (ls : List (List ℕ)). length (flatten ls)) (sym (fields-all values)) ∙ fields-before values full rowCount (omega arith) ∙ bytes-of-all
+
+pub record-length : (p : Panel) → length (p .values) ≡ valueCount → length (recordOf p) ≡ recordSize
+unfolding recordOf
+record-length p full = omega (arith, fields-length (p .values) full)
+
+-- so that record k of a wall starts at 33k
+pub record-at : (w : Wall) (k : ℕ) → k < length w → getD (recordsOf w) k [] ≡ recordOf (getD w k blank)
+record-at w k h = getD-inside (recordsOf w) k [] (recordOf blank) (rw (length-map w recordOf) h) ∙ List·getD-map recordOf w k blank
+
+pub records-before : (w : Wall) → GoodWall w → (k : ℕ) → k ≤ length w → length (flatten (take k (recordsOf w))) ≡ recordSize * k
+records-before w good k h =
+    let n = length-map w recordOf in
+    alike-long recordSize (recordsOf w)
+    (λ j g. let g′ : j < length w = omega arith in rw (record-at w j g′) (record-length (getD w j blank) (good-at w good j g′ .full)))
+    k (omega arith)
+
+pub records-long : (w : Wall) → GoodWall w → length (flatten (recordsOf w)) ≡ recordSize * length w
+records-long w good =
+    let all = take-all (length w) (recordsOf w) (omega (arith, length-map w recordOf)) in
+    ap (λ (ls : List (List ℕ)). length (flatten ls)) (sym all) ∙ records-before w good (length w) (omega arith)
+
+pub starts-are : (w : Wall) → GoodWall w → startsOf (recordsOf w) ≡ each (λ k. highLow (recordSize * k)) (length w)
+unfolding startsOf flatten
+starts-are w good =
+    rw (length-map w recordOf)
+    (each-alike (λ k. highLow (startOf (recordsOf w) k)) (λ k. highLow (recordSize * k)) (length w)
+    (λ k h. ap highLow (records-before w good k (omega arith))))
+
+-- an image made of records
+module _ (records : List (List ℕ)) where
+  pub starts-count : length (flatten (startsOf records)) ≡ 2 * length records
+  unfolding startsOf flatten
+  starts-count =
+      let all = take-all (length records) (startsOf records) (omega (arith, length-each (λ k. highLow (startOf records k)) (length records))) in
+      ap (λ (ls : List (List ℕ)). length (flatten ls)) (sym all) ∙ pairs-before (λ k. startOf records k) (length records) (length records) (omega arith)
+
+  pub image-length : length (imageOf records) ≡ length (flatten records) + 2 * length records + 2
+  unfolding imageOf
+  image-length = rw (length-append (flatten records ++ flatten (startsOf records)), length-append (flatten records), starts-count)

@@ -1,0 +1,49 @@
+// The setup image written: a table laid out in the bytes that the box keeps across updates.
+mod write;
+
+ghost use mathlib.Core.Path.{_≡_};
+ghost use Rattle.panels.specs.Wall.{panelsOf};
+ghost use Rattle.panels.specs.WellFormed.{WellFormed};
+ghost use Rattle.image_write.specs.Written.{writtenOf, outputOf};
+use panels::Table;
+use settings::ROW_COUNT;
+use settings::VALUE_COUNT;
+
+// How many bytes stand before a field's values, before a record's fields, in a start, and behind the starts.
+const FIELD_HEAD: usize = 2;
+
+const RECORD_HEAD: usize = 2;
+
+const START_SIZE: usize = 2;
+
+pub const TRAILER_SIZE: usize = 2;
+
+// How many a record has, and a panel in all: its record and its start.
+const RECORD_SIZE: usize = RECORD_HEAD + FIELD_HEAD * ROW_COUNT + VALUE_COUNT;
+
+pub const PANEL_SIZE: usize = RECORD_SIZE + START_SIZE;
+
+// An image's size, once it is written; or the output has no room for it.
+pub enum Written {
+    Bytes(usize),
+    NoRoom,
+}
+
+// The table's image at the front of out, of which the rest stays as it was.
+pub fn write_image(t: Table, out: &mut [u8]) -> Written
+    requires { ⌜ WellFormed t ⌝ }
+    ensures { λ r. ⌜ r ≡ writtenOf (panelsOf t) (now (out .entry)) ⌝ }
+    ensures { λ _. ⌜ now (out .exit) ≡ outputOf (panelsOf t) (now (out .entry)) ⌝ }
+{
+    let n = t.count;
+    let end = PANEL_SIZE * n;
+    let size = end + TRAILER_SIZE;
+    if out.len() < size {
+        return Written::NoRoom;
+    }
+    write::records(out, t);
+    write::starts(out, n);
+    out[end] = n as u8;
+    out[end + 1] = 1;
+    Written::Bytes(size)
+}

@@ -1,0 +1,83 @@
+// An image's parts, laid into the output one behind the other.
+ghost use mathlib.Core.Path.{_≡_};
+ghost use mathlib.Core.List.{flatten};
+ghost use Prim.Native.Nat.{_+_, _*_, _≤_, _<_};
+ghost use lib.ListN.{length};
+ghost use Rattle.settings.specs.Settings.{byteCount, rowCount, valueCount};
+ghost use Rattle.lists.specs.Lists.{each, laidAt};
+ghost use Rattle.panels.specs.Wall.{valuesOf, panelsOf, mostPanels};
+ghost use Rattle.panels.specs.WellFormed.{WellFormed};
+ghost use Rattle.image_write.specs.Written.{field, fieldsOf, recordOf, recordsOf, highLow, fieldHead, fieldsSize, recordSize, panelSize};
+use crate::FIELD_HEAD;
+use crate::RECORD_HEAD;
+use crate::RECORD_SIZE;
+use crate::START_SIZE;
+use panels::Panel;
+use panels::Table;
+use settings::ROW_COUNT;
+use settings::VALUE_COUNT;
+
+// A row's field: set code, length, values.
+fn one_field(out: &mut [u8], at: usize, row: usize, values: [u8; VALUE_COUNT])
+    requires { ⌜ (row < rowCount) × (at + fieldHead + byteCount row ≤ length (now out)) ⌝ }
+    ensures { λ _. ⌜ now (out .exit) ≡ laidAt at (field row (valuesOf row values)) (now (out .entry)) ⌝ }
+{
+    let count = settings::byte_count(row);
+    let first = settings::place_of(row);
+    out[at] = settings::set_code(row);
+    out[at + 1] = count as u8;
+    bytes::copy(&values[first..first + count], &mut out[at + FIELD_HEAD..]);
+}
+
+// All eight fields, by rising code.
+fn all_fields(out: &mut [u8], at: usize, values: [u8; VALUE_COUNT])
+    requires { ⌜ at + fieldsSize ≤ length (now out) ⌝ }
+    ensures { λ _. ⌜ now (out .exit) ≡ laidAt at (flatten (fieldsOf values)) (now (out .entry)) ⌝ }
+{
+    let mut next = at;
+    let mut row = 0;
+    while row < ROW_COUNT {
+        one_field(out, next, row, values);
+        next = next + FIELD_HEAD + settings::byte_count(row);
+        row += 1;
+    }
+}
+
+// A record: ID, group, then fields.
+fn one_record(out: &mut [u8], at: usize, p: Panel)
+    requires { ⌜ (length (p .values) ≡ valueCount) × (at + recordSize ≤ length (now out)) ⌝ }
+    ensures { λ _. ⌜ now (out .exit) ≡ laidAt at (recordOf p) (now (out .entry)) ⌝ }
+{
+    out[at] = p.id.0;
+    out[at + 1] = p.group.0;
+    let values = p.values;
+    all_fields(out, at + RECORD_HEAD, values);
+}
+
+// The records, in table order.
+pub fn records(out: &mut [u8], t: Table)
+    requires { ⌜ WellFormed t × (recordSize * (t .count) ≤ length (now out)) ⌝ }
+    ensures { λ _. ⌜ now (out .exit) ≡ laidAt 0 (flatten (recordsOf (panelsOf t))) (now (out .entry)) ⌝ }
+{
+    let mut k = 0;
+    while k < t.count {
+        let p = t.panels[k];
+        one_record(out, RECORD_SIZE * k, p);
+        k += 1;
+    }
+}
+
+// The starts of n records, behind the last of them, high byte first.
+pub fn starts(out: &mut [u8], n: usize)
+    requires { ⌜ (n ≤ mostPanels) × (panelSize * n ≤ length (now out)) ⌝ }
+    ensures { λ _. ⌜ now (out .exit) ≡ laidAt (recordSize * n) (flatten (each (λ k. highLow (recordSize * k)) n)) (now (out .entry)) ⌝ }
+{
+    let mut k = 0;
+    while k < n {
+        let start = RECORD_SIZE * k;
+        let at = RECORD_SIZE * n + START_SIZE * k;
+        out[at] = (start / 256) as u8;
+        out[at + 1] = (start % 256) as u8;
+        k += 1;
+    }
+}

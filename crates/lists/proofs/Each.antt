@@ -1,0 +1,34 @@
+-- Lists made by a rule. Assumes nothing.
+use mathlib.Core.Path.{_≡_, refl, sym, ap, _∙_}
+use Prim.Native.Nat.{ℕ, zero, suc, _<_}
+use mathlib.Core.List.{List, [], _∷_, map}
+use native.Mathlib.Nat.{le-of-suc-le-suc, not-suc-le-zero}
+use native.Mathlib.Omega.{arith}
+use lib.ListN.{length, getD}
+use Rattle.lists.specs.Lists.{each}
+
+pub in-each : {A : Type 0} (f : ℕ → A) (n : ℕ) {k : ℕ} (d : A) → k < n → getD (each f n) k d ≡ f k
+in-each f zero d h = absurd (not-suc-le-zero h)
+in-each f (suc n) {k = zero} d h = refl
+in-each f (suc n) {k = suc k} d h = in-each (λ k. f (suc k)) n d (le-of-suc-le-suc h)
+
+-- A rule that holds at every place of a table, by one test: antt computes both sides of it over the whole table.
+pub alike : {A : Type 0} (f g : ℕ → A) (n : ℕ) → each f n ≡ each g n → {k : ℕ} → k < n → f k ≡ g k
+alike f g n e {k} h = sym (in-each f n (f k) h) ∙ ap (λ l. getD l k (f k)) e ∙ in-each g n (f k) h
+
+pub length-each : {A : Type 0} (f : ℕ → A) (n : ℕ) → length (each f n) ≡ n
+length-each f zero = refl
+length-each f (suc n) = ap suc (length-each (λ k. f (suc k)) n)
+
+pub each-alike : {A : Type 0} (f g : ℕ → A) (n : ℕ) → ((k : ℕ) → k < n → f k ≡ g k) → each f n ≡ each g n
+each-alike f g zero same = refl
+each-alike f g (suc n) same =
+    rw (same 0 (omega arith), each-alike (λ k. f (suc k)) (λ k. g (suc k)) n (λ k h. same (suc k) (omega arith)))
+
+pub each-getD : {A : Type 0} (ls : List A) (d : A) → each (λ k. getD ls k d) (length ls) ≡ ls
+each-getD [] d = refl
+each-getD (l ∷ ls) d = ap (λ r. l ∷ r) (each-getD ls d)
+
+pub map-each : {A B : Type 0} (g : A → B) (f : ℕ → A) (n : ℕ) → map g (each f n) ≡ each (λ k. g (f k)) n
+map-each g f zero = refl
+map-each g f (suc n) = ap (λ r. g (f 0) ∷ r) (map-each g (λ k. f (suc k)) n)
