@@ -1,8 +1,14 @@
-.PHONY: play test
+.PHONY: play check test
 # the play program on the sample session
 play:
-	@mkdir -p target && rt check play >target/play.log 2>&1 || { cat target/play.log; exit 1; }
+	@tools/prove play
 	@tools/bytes <tests/session.hex | tools/run play
+
+# every day: the layout, all proofs and the programs; after a change only what it touches
+check:
+	@tools/layout
+	@tools/prove
+	@tests/run
 
 # everything the gate checks
 test:

@@ -1,6 +1,6 @@
 #!/bin/sh
-# Installs what the rig needs and is missing, on Debian and its kin: a C compiler for x86-64, qemu's user emulation (on an
-# x86-64 machine only `make bench` runs under it), make. Does nothing where all is there.
+# Installs what the rig and the gate need and is missing, on Debian and its kin: a C compiler for x86-64, qemu's user
+# emulation (on an x86-64 machine only `make bench` runs under it), make, python3. Does nothing where all is there.
 set -eu
 scratch=$(mktemp -d)
 trap 'rm -rf "$scratch"' EXIT
@@ -31,6 +31,7 @@ aarch64)
 esac
 need gcc has_command gcc
 need make has_command make
+need python3 has_command python3
 need qemu-user has_command qemu-x86_64
 [ -n "$missing" ] || exit 0
 

@@ -44,10 +44,6 @@ sentBytes r = sentBy (r .answer) (r .id) (take (r .count) (r .bytes))
 unfoldable pub sentOf : List ℕ → Reply → Sent
 sentOf out r = cond (leb longest (length out)) (Bytes (length (sentBytes r))) NoRoom
 
-unfoldable pub refusalOf : Sent → ℕ
-refusalOf (Bytes n) = 0
-refusalOf NoRoom = 19
-
 -- how many bytes went out, none on a refusal
 abbrev pub bytesSent : Sent → ℕ
 bytesSent (Bytes n) = n

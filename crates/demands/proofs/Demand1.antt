@@ -33,7 +33,8 @@ use Rattle.image_write.specs.Written.{imageOf, recordsOf, sizeOf, writtenOf, by
 use Rattle.image_read.specs.declared.Refusal.{Refusal as ImageRefusal}
 use Rattle.image_read.specs.declared.Refusal.the-variants.{Nothing as Sound}
 use Rattle.image_read.specs.Whole.{wholeRefusal, recordsIn}
-use Rattle.image_read.specs.Read.{Reading, isSound, refused, recordRefusal, wallWith, readRecords, readOf}
+use Rattle.image_read.specs.Read.{Reading, isSound, refused, recordRefusal, readRecords, readOf}
+use Rattle.image_read.specs.Private.Walk.{wallWith}
 use Rattle.image.proofs.Back.{image-size}
 use Rattle.host.specs.declared.Refusal.{Refusal as HostRefusal}
 use Rattle.host.specs.declared.Request.{Request}

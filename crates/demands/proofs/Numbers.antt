@@ -5,17 +5,17 @@ use mathlib.Core.Bool.{Bool, true, false, cond, _&&_}
 use lib.Dec.{leb, eqb}
 use lib.ListN.{length}
 use Rattle.packet.specs.declared.Written.the-variants.{Bytes as PacketBytes, TooLong, NoRoom as NoPacket}
-use Rattle.packet.specs.Packet.{writtenOf as packetWritten, refusalOf as packetNumber}
+use Rattle.packet.specs.Packet.{writtenOf as packetWritten}
 use Rattle.panels.specs.declared.Place.{Place}
 use Rattle.panels.specs.declared.Place.the-variants.{At, Nowhere}
 use Rattle.panels.specs.declared.Refusal.the-variants.{Nothing, Full, IdZero, IdTaken, GroupZero, NoPanel}
 use Rattle.panels.specs.Wall.{placeOf}
 use Rattle.panels.specs.Calls.{refusalOf as tableNumber, ifThere, addRefusal}
 use Rattle.answers.specs.declared.Sent.the-variants.{Bytes as AnswerBytes, NoRoom as NoAnswer}
-use Rattle.answers.specs.Reply.{sentBytes, sentOf, refusalOf as answerNumber}
+use Rattle.answers.specs.Reply.{sentBytes, sentOf}
 use Rattle.image_write.specs.declared.Written.the-variants.{Bytes as ImageBytes, NoRoom as NoImage}
-use Rattle.image_write.specs.Written.{sizeOf, writtenOf as imageWritten, writeRefusalOf as imageNumber}
-use Rattle.demands.specs.Numbers.{Add, Remove, Image, Answer, Packet}
+use Rattle.image_write.specs.Written.{sizeOf, writtenOf as imageWritten}
+use Rattle.demands.specs.Numbers.{Add, Remove, imageNumber, answerNumber, packetNumber, Image, Answer, Packet}
 
 pub add-number : Add
 unfolding addRefusal

@@ -1,5 +1,5 @@
 -- The numbers that calls refuse by, 0 where nothing is refused. 01, "Table calls and numbers": each is given exactly when its
--- row says, lower numbers first. 11 to 18 go with the order of reading, in `image`; 21 and 22 with the machine, in `host`.
+-- row says, lower numbers first. 11 to 18 go with the order of reading, in `image_read`; 21 and 22 with the machine, in `host`.
 use Prim.Native.Nat.{ℕ, _+_, _*_}
 use mathlib.Core.Bool.{cond, _&&_}
 use mathlib.Core.Path.{_≡_}
@@ -8,12 +8,18 @@ use lib.Dec.{leb, eqb}
 use lib.ListN.{length}
 use Rattle.packet.specs.declared.MonitorId.{MonitorId}
 use Rattle.packet.specs.declared.GroupId.{GroupId}
-use Rattle.packet.specs.Packet.{writtenOf as packetWritten, refusalOf as packetNumber}
+use Rattle.packet.specs.declared.Written.{Written as PacketWritten}
+use Rattle.packet.specs.declared.Written.the-variants.{Bytes as PacketBytes, TooLong, NoRoom as NoPacketRoom}
+use Rattle.packet.specs.Packet.{writtenOf as packetWritten}
 use Rattle.panels.specs.Wall.{Wall, placeOf}
 use Rattle.panels.specs.Calls.{refusalOf as tableNumber, ifThere, addRefusal, removedFrom}
 use Rattle.answers.specs.declared.Reply.{Reply}
-use Rattle.answers.specs.Reply.{sentOf, refusalOf as answerNumber}
-use Rattle.image_write.specs.Written.{writtenOf as imageWritten, writeRefusalOf as imageNumber}
+use Rattle.answers.specs.declared.Sent.{Sent}
+use Rattle.answers.specs.declared.Sent.the-variants.{Bytes as AnswerBytes, NoRoom as NoAnswerRoom}
+use Rattle.answers.specs.Reply.{sentOf}
+use Rattle.image_write.specs.declared.Written.{Written as ImageWritten}
+use Rattle.image_write.specs.declared.Written.the-variants.{Bytes as ImageBytes, NoRoom as NoImageRoom}
+use Rattle.image_write.specs.Written.{writtenOf as imageWritten}
 
 -- 32 panels are there, ID 0, ID in the table, group 0
 abbrev pub Add : Type 0
@@ -25,6 +31,20 @@ Add =
 -- no panel has that ID
 abbrev pub Remove : Type 0
 Remove = (w : Wall) (i : MonitorId) → tableNumber (removedFrom w i .refusal) ≡ ifThere (placeOf i w) 0 6
+
+-- the number of what writing answers: an image, an answer, a packet
+unfoldable pub imageNumber : ImageWritten → ℕ
+imageNumber (ImageBytes n) = 0
+imageNumber NoImageRoom = 19
+
+unfoldable pub answerNumber : Sent → ℕ
+answerNumber (AnswerBytes n) = 0
+answerNumber NoAnswerRoom = 19
+
+unfoldable pub packetNumber : PacketWritten → ℕ
+packetNumber (PacketBytes n) = 0
+packetNumber TooLong = 19
+packetNumber NoPacketRoom = 19
 
 -- lent output too short: image under 35n + 2 bytes, answer or packet under 40; data that fits no packet is refused so too
 abbrev pub Image : Type 0

@@ -8,8 +8,8 @@ use Rattle.host.specs.declared.Host.{Host}
 use Rattle.host.specs.declared.Step.{Step}
 use Rattle.host.specs.declared.Outcome.{Outcome}
 use Rattle.host.specs.Machine.{Move, State, quiet, over}
-use Rattle.host.specs.Calls.{hostOf, stateOf, nothingWaits, padded, stepOf, Answers}
-use Rattle.host.specs.Private.Steps.{plainStep}
+use Rattle.host.specs.Calls.{hostOf, stateOf, stepOf, Answers}
+use Rattle.host.specs.Private.Steps.{nothingWaits, plainStep}
 
 -- a host is what its state says
 pub host-back : (h : Host) → hostOf (stateOf h) ≡ h
@@ -18,12 +18,12 @@ host-back h = rw length-replicate
 module _ {m : Move} {r : Step} where
   -- nothing is given out and nothing changes
   pub stays : (h : Host) (o : Outcome) (out : List ℕ) → m ≡ quiet (stateOf h) o → r ≡ plainStep h 0 o → Answers m out r out
-  unfolding stepOf padded laidOver flatten
+  unfolding stepOf laidOver flatten
   stays h o out e f = rw (e, f) (rw length-replicate, refl)
 
   -- nothing is given out and nothing waits any more
   pub ends : (h : Host) (o : Outcome) (out : List ℕ) → h ≡ nothingWaits → m ≡ over o [] → r ≡ plainStep h 0 o → Answers m out r out
-  unfolding stepOf padded laidOver flatten
+  unfolding stepOf laidOver flatten
   ends h o out w e f = rw (e, f, w) (refl, refl)
 
   -- the same, with a report's values
@@ -36,5 +36,5 @@ module _ {m : Move} {r : Step} where
       → h ≡ hostOf s → n ≡ length p → out' ≡ laidOver p out
       → m ≡ record { next = s; sent = p ∷ []; outcome = o; values = [] }
       → r ≡ plainStep h n o → Answers m out r out'
-  unfolding stepOf padded laidOver flatten
+  unfolding stepOf laidOver flatten
   gives s p o out out' h n eh en eo e f = rw (e, f, eh, en, eo) (rw append-nil, rw append-nil)

@@ -12,7 +12,8 @@ use Rattle.host.specs.Request.{requestPacket, isRequest}
 use Rattle.host.specs.Heard.{saidTo, dataIn}
 use Rattle.host.specs.Machine.{Happening, start, burst, mark, State, Move, idle, sendings, mostSendings, waits, begun, again, ending, heard, step}
 use Rattle.host.specs.Private.Lasting.{run, calls}
-use Rattle.host.specs.Calls.{nothingWaits, hostOf, stateOf, stepOf}
+use Rattle.host.specs.Private.Steps.{nothingWaits}
+use Rattle.host.specs.Calls.{hostOf, stateOf, stepOf}
 
 -- the packets given out are all the request's own
 abbrev Alike : State → Type 0

@@ -15,7 +15,7 @@ use Rattle.host.specs.declared.Refusal.the-variants.{NoRoom, Busy, NotAR
 use Rattle.host.specs.declared.Outcome.{Outcome}
 use Rattle.host.specs.declared.Outcome.the-variants.{Refused}
 use Rattle.host.specs.Request.{requestPacket}
-use Rattle.host.specs.Machine.{Happening, State, Move, noRequest, quiet, step}
+use Rattle.host.specs.Machine.{Happening, State, Move, quiet, step}
 
 -- 01's numbers
 abbrev pub refusalOf : Refusal → ℕ
@@ -30,21 +30,14 @@ hostOf s = record { request = s .request; sendings = length (s .given) }
 abbrev pub stateOf : Host → State
 stateOf h = record { request = h .request; given = replicate (h .sendings) (requestPacket (h .request)) }
 
-abbrev pub nothingWaits : Host
-nothingWaits = record { request = noRequest; sendings = 0 }
-
--- the values of a report, then zeros
-unfoldable pub padded : List ℕ → List ℕ
-padded vs = laidOver vs (replicate mostValues 0)
-
 -- the bytes given out
 abbrev pub bytesOf : Move → List ℕ
 unfolding flatten
 bytesOf m = flatten (m .sent)
 
--- what a call answers for a move
+-- what a call answers for a move; behind the values of a report stand zeros
 unfoldable pub stepOf : Move → Step
-stepOf m = record { host = hostOf (m .next); length = length (bytesOf m); outcome = m .outcome; values = padded (m .values); count = length (m .values) }
+stepOf m = record { host = hostOf (m .next); length = length (bytesOf m); outcome = m .outcome; values = laidOver (m .values) (replicate mostValues 0); count = length (m .values) }
 
 -- A call that was lent an output answers a move: with that step, and the bytes given out at the front of the output.
 abbrev pub Answers : Move → List ℕ → Step → List ℕ → Type 0

@@ -34,12 +34,9 @@ pub record Move : Type 0 where
   pub outcome : Outcome
   pub values : List ℕ
 
--- what stands in the place of a request where nothing waits
-abbrev pub noRequest : Request
-noRequest = record { id = monitorId 0; group = groupId 0; code = 0; values = replicate mostValues 0; count = 0 }
-
+-- nothing waits, and a fixed blank stands in the place of a request
 abbrev pub idle : State
-idle = record { request = noRequest; given = [] }
+idle = record { request = record { id = monitorId 0; group = groupId 0; code = 0; values = replicate mostValues 0; count = 0 }; given = [] }
 
 -- how many times the packet was sent: the number given out since start
 abbrev pub sendings : State → ℕ

@@ -8,8 +8,8 @@ ghost use lib.ListN.{length};
 ghost use Rattle.settings.specs.Settings.{mostValues};
 ghost use Rattle.packet.specs.Packet.{longest};
 ghost use Rattle.host.specs.Heard.{wordIn};
-ghost use Rattle.host.specs.Machine.{start, burst, mark, over, begun, again, ending, heard};
-ghost use Rattle.host.specs.Calls.{refusalOf, nothingWaits, stateOf, stepOf, call, Answers};
+ghost use Rattle.host.specs.Machine.{start, burst, mark, over, begun, again, ending, heard, idle};
+ghost use Rattle.host.specs.Calls.{refusalOf, hostOf, stateOf, stepOf, call, Answers};
 ghost use Rattle.host.specs.Private.Steps.{plainStep};
 use packet::GroupId;
 use packet::LONGEST;
@@ -201,7 +201,7 @@ fn heeded(host: Host, b: &[u8], out: &mut [u8]) -> Step
 impl Host {
     // A host with nothing to wait for.
     pub fn idle() -> Self
-        ensures { λ r. ⌜ r ≡ nothingWaits ⌝ }
+        ensures { λ r. ⌜ r ≡ hostOf idle ⌝ }
     {
         let values = [0u8; MOST_VALUES];
         let request = Request {

@@ -15,8 +15,9 @@ use Rattle.image_read.specs.declared.Refusal.the-variants.{Nothing as So
 use Rattle.image_read.specs.declared.Fields.{Fields}
 use Rattle.image_read.specs.Whole.{wholeRefusal, recordsIn}
 use Rattle.image_read.specs.Fields.{fieldsIn}
-use Rattle.image_read.specs.Read.{isSound, headFits, recordRefusal, panelIn, wallWith, refused, readRecords, readOf}
-use Rattle.image_read.specs.Entries.{Entry, bytesOf, freshEntry, Permuted, same, swapped, kept, twice, Without, recordWith, givenOr, given, GiveAlike, SameHead}
+use Rattle.image_read.specs.Read.{isSound, headFits, recordRefusal, panelIn, refused, readRecords, readOf}
+use Rattle.image_read.specs.Private.Walk.{wallWith}
+use Rattle.image_read.specs.Entries.{Entry, bytesOf, freshEntry, Permuted, same, swapped, kept, twice, Without, givenOr, given, GiveAlike, SameHead}
 use Rattle.image_read.proofs.Edges.{sound-nothing}
 use Rattle.image_read.proofs.Entries.{rowOf, row-is, Good, GoodEntries, Unseen, stored, all-taken, no-fault}
 use Rattle.image_read.proofs.ByCode.{stored-alike}
@@ -114,7 +115,7 @@ module _ (P : List Entry → List Entry → Type 0)
     (read-alike : (es fs : List Entry) → P es fs → fieldsIn (bytesOf es) .refusal ≡ Sound → fieldsIn (bytesOf fs) ≡ fieldsIn (bytesOf es)) where
   record-same : (w : Wall) (a b : List ℕ) → SameHead P a b → isSound (recordRefusal w a) ≡ true → (recordRefusal w b ≡ recordRefusal w a) × (panelIn b ≡ panelIn a)
   record-same w a b (id, group, these, those, first, second, fields) e =
-      let sound = fields-sound w (recordWith id group these) (rw (← first) e) in
+      let sound = fields-sound w (id ∷ group ∷ bytesOf these) (rw (← first) e) in
       rw (first, second) (record-alike w id group (bytesOf those) (bytesOf these) (read-alike these those fields sound))
 
   records-same : (w : Wall) (xs ys : List (List ℕ)) → Forall₂ (SameHead P) xs ys → readRecords w xs .refusal ≡ Sound → readRecords w ys ≡ readRecords w xs

@@ -23,12 +23,9 @@ unfoldable pub bytesOf : List Entry → List ℕ
 unfolding flatten
 bytesOf es = flatten (map entryBytes es)
 
--- the field that a row has among some values
-abbrev pub entryOf : ℕ → List ℕ → Entry
-entryOf row values = record { code = setCode row; values = valuesOf row values }
-
+-- a row's field at its fresh values
 abbrev pub freshEntry : ℕ → Entry
-freshEntry row = entryOf row freshValues
+freshEntry row = record { code = setCode row; values = valuesOf row freshValues }
 
 -- the same fields in another order
 pub data Permuted : List Entry → List Entry → Type 0 where
@@ -41,10 +38,6 @@ pub data Permuted : List Entry → List Entry → Type 0 where
 abbrev pub Without : ℕ → List Entry → Type 0
 Without c [] = Unit {0}
 Without c (e ∷ es) = (e .code ≡ c → ⊥) × Without c es
-
--- a record: ID, group, then fields
-abbrev pub recordWith : ℕ → ℕ → List Entry → List ℕ
-recordWith id group es = id ∷ group ∷ bytesOf es
 
 -- what fields give a row: the values of the one with its set code, or the row's fresh values where there is none
 abbrev pub givenOr : List ℕ → ℕ → List Entry → List ℕ
@@ -62,4 +55,4 @@ pub record GiveAlike (these those : List Entry) : Type 0 where
 -- two records with the same ID and group, and fields that stand in a relation
 abbrev pub SameHead : (List Entry → List Entry → Type 0) → List ℕ → List ℕ → Type 0
 SameHead P a b =
-    (id group : ℕ) × (these those : List Entry) × (a ≡ recordWith id group these) × (b ≡ recordWith id group those) × P these those
+    (id group : ℕ) × (these those : List Entry) × (a ≡ id ∷ group ∷ bytesOf these) × (b ≡ id ∷ group ∷ bytesOf those) × P these those

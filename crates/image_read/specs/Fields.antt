@@ -33,13 +33,6 @@ fieldBy Nothing seen left = Broken
 unfoldable pub stepAt : List Bool → List ℕ → Step
 stepAt seen left = cond (eqb (length left) 0) End (fieldBy (foundBy (getD left 0 0)) seen left)
 
--- a field that is taken: its row is seen, its values stand at the row's place, and it is left behind
-abbrev pub seenWith : ℕ → List Bool → List Bool
-seenWith row seen = set seen row true
-
-abbrev pub behind : ℕ → List ℕ → List ℕ
-behind row left = drop (2 + byteCount row) left
-
 -- what a step comes to: a field goes on, and anything else stops the walk
 abbrev pub afterStep : Step → List ℕ → (ℕ → Fields) → Fields
 afterStep (Field row) values more = more row
@@ -47,12 +40,12 @@ afterStep NotAllowed values more = record { refusal = BadValue; values = values 
 afterStep Broken values more = record { refusal = BadField; values = values }
 afterStep End values more = record { refusal = Sound; values = values }
 
--- field after field, n steps at most
+-- field after field, n steps at most: a row that is taken is seen, its values stand at its place, and it is left behind
 unfoldable pub gathered : ℕ → List Bool → List ℕ → List ℕ → Fields
 gathered zero seen values left = record { refusal = Sound; values = values }
 gathered (suc n) seen values left =
     afterStep (stepAt seen left) values
-    (λ row. gathered n (seenWith row seen) (valuesWith row (valuesIn row left) values) (behind row left))
+    (λ row. gathered n (set seen row true) (valuesWith row (valuesIn row left) values) (drop (2 + byteCount row) left))
 
 -- A step leaves at least a byte behind, so one step more than there are bytes is enough.
 unfoldable pub fieldsFrom : List Bool → List ℕ → List ℕ → Fields

@@ -53,14 +53,11 @@ recordRefusal w bytes = cond (headFits w bytes) (fieldsIn (drop 2 bytes) .refusa
 unfoldable pub panelIn : List ℕ → Panel
 panelIn bytes = record { id = monitorId (getD bytes 0 0); group = groupId (getD bytes 1 0); values = fieldsIn (drop 2 bytes) .values }
 
--- the wall after a record, and records in order
-abbrev pub wallWith : Wall → List ℕ → Wall
-wallWith w bytes = w ++ panelIn bytes ∷ []
-
+-- records in order, each a panel at the end of the wall
 unfoldable pub readRecords : Wall → List (List ℕ) → Reading
 readRecords w [] = record { refusal = Nothing; wall = w }
 readRecords w (bytes ∷ records) =
-    cond (isSound (recordRefusal w bytes)) (readRecords (wallWith w bytes) records) (refused (recordRefusal w bytes))
+    cond (isSound (recordRefusal w bytes)) (readRecords (w ++ panelIn bytes ∷ []) records) (refused (recordRefusal w bytes))
 
 unfoldable pub readOf : List ℕ → Reading
 readOf image =

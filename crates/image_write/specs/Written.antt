@@ -11,20 +11,14 @@ use Rattle.panels.specs.Wall.{Wall, valuesOf}
 use Rattle.image_write.specs.declared.Written.{Written}
 use Rattle.image_write.specs.declared.Written.the-variants.{Bytes, NoRoom}
 
--- how many bytes stand before a field's values, before a record's fields, in a start, and behind the starts
+-- how many bytes stand before a field's values (set code and length), and before a record's fields (ID and group)
 abbrev pub fieldHead : ℕ
 fieldHead = 2
 
 abbrev pub recordHead : ℕ
 recordHead = 2
 
-abbrev pub startSize : ℕ
-startSize = 2
-
-abbrev pub trailerSize : ℕ
-trailerSize = 2
-
--- so the fields of a record, the whole record, and with its start, have as many as follow from the rows
+-- how many the fields of a record have, the record, and a panel in all: its record and the two bytes of its start
 abbrev pub fieldsSize : ℕ
 fieldsSize = fieldHead * rowCount + valueCount
 
@@ -32,7 +26,7 @@ abbrev pub recordSize : ℕ
 recordSize = recordHead + fieldsSize
 
 abbrev pub panelSize : ℕ
-panelSize = recordSize + startSize
+panelSize = recordSize + 2
 
 -- a field: set code, length, values
 abbrev pub field : ℕ → List ℕ → List ℕ
@@ -64,17 +58,13 @@ imageOf records = flatten records ++ flatten (startsOf records) ++ length record
 abbrev pub recordsOf : Wall → List (List ℕ)
 recordsOf w = map recordOf w
 
--- how many bytes that is
+-- how many bytes that is: behind the starts stand n and the form byte
 abbrev pub sizeOf : Wall → ℕ
-sizeOf w = panelSize * length w + trailerSize
+sizeOf w = panelSize * length w + 2
 
--- what writing answers, and 01's number for it, 0 where nothing was refused
+-- what writing answers
 unfoldable pub writtenOf : Wall → List ℕ → Written
 writtenOf w out = cond (leb (sizeOf w) (length out)) (Bytes (sizeOf w)) NoRoom
-
-unfoldable pub writeRefusalOf : Written → ℕ
-writeRefusalOf (Bytes n) = 0
-writeRefusalOf NoRoom = 19
 
 -- how many bytes were written, none on a refusal
 abbrev pub bytesWritten : Written → ℕ

@@ -57,12 +57,6 @@ packetOf id group d = unsummed id group d ++ xorAll (unsummed id group d) ∷ []
 unfoldable pub writtenOf : List ℕ → List ℕ → Written
 writtenOf out d = cond (leb longest (length out)) (cond (leb (length d) mostData) (Bytes (length d + shortest)) TooLong) NoRoom
 
--- 01's number for it, 0 where nothing was refused
-unfoldable pub refusalOf : Written → ℕ
-refusalOf (Bytes n) = 0
-refusalOf TooLong = 19
-refusalOf NoRoom = 19
-
 -- the output after a packet was written, or not
 unfoldable pub outputOf : List ℕ → MonitorId → GroupId → List ℕ → List ℕ
 outputOf out id group d = cond (leb longest (length out) && leb (length d) mostData) (laidOver (packetOf id group d) out) out

@@ -51,12 +51,9 @@ valueCount = 15
 abbrev pub mostValues : ℕ
 mostValues = 7
 
-abbrev pub noSetting : Setting
-noSetting = row 0 0 [] []
-
 -- row k, counted from 0
 abbrev pub setting : ℕ → Setting
-setting k = getD settings k noSetting
+setting k = getD settings k (row 0 0 [] [])
 
 -- the first of some rows, counted from k, that has the code c, and which of its two codes that is
 unfoldable pub foundFrom : ℕ → ℕ → List Setting → Found
@@ -87,13 +84,10 @@ freshValues = flatten (map (λ (s : Setting). s .fresh) settings)
 abbrev pub place : ℕ → ℕ
 place k = startOf allowedByRow k
 
-abbrev pub inRange : Range → ℕ → Bool
-inRange r v = leb (r .low) v && leb v (r .high)
-
 -- v is in one of the ranges
 unfoldable pub within : List Range → ℕ → Bool
 within [] v = false
-within (r ∷ rs) v = inRange r v || within rs v
+within (r ∷ rs) v = leb (r .low) v && leb v (r .high) || within rs v
 
 -- as many values as there should be, each of them allowed
 unfoldable pub allAllowed : List (List Range) → List ℕ → Bool

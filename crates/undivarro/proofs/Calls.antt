@@ -16,17 +16,18 @@ use Rattle.panels.specs.WellFormed.{WellFormed}
 use Rattle.panels.proofs.Laws.{panels-of-table}
 use Rattle.answers.specs.declared.Reply.{Reply}
 use Rattle.answers.specs.declared.Played.{Played}
-use Rattle.answers.specs.Reply.{sentBytes}
+use Rattle.answers.specs.Reply.{sentBytes, silence}
 use Rattle.answers.specs.Judged.{command}
 use Rattle.answers.specs.Played.{turned, playedBy, played}
-use Rattle.answers.specs.Played as line
+use Rattle.answers.specs.Played as answers
 use Rattle.answers.proofs.Formed.{played-formed}
 use Rattle.image_read.specs.declared.Refusal.{Refusal}
 use Rattle.image_read.specs.declared.Read.{Read}
 use Rattle.image_write.specs.Written.{sizeOf, panelSize}
 use Rattle.image_read.specs.Read.{isSound, readRefusalOf, readOf, inTable}
 use Rattle.image_read.proofs.Sound.{read-formed}
-use Rattle.undivarro.specs.Calls.{refused, given, setupOf, refusalFor, afterPlay, afterRead}
+use Rattle.undivarro.specs.Calls.{refused, given, refusalFor, afterPlay}
+use Rattle.undivarro.specs.Private.Setup.{setupOf}
 
 -- where nothing is refused there is room
 room-there : (read : Refusal) (room : Bool) → refusalFor read room ≡ 0 → room ≡ true
@@ -73,12 +74,12 @@ played-count w b = by-verdict-count (verdictOf b) w b
 
 -- What was played on it.
 module _ (image burst : List ℕ) (read : Read) (is-read : read ≡ inTable (readOf image)) (p : Played)
-    (is-played : p ≡ line.inTable (played (panelsOf (read .table)) burst)) where
+    (is-played : p ≡ answers.inTable (played (panelsOf (read .table)) burst)) where
   pub formed-played : WellFormed (p .table)
   formed-played = subst WellFormed (sym (ap (λ (q : Played). q .table) is-played)) (played-formed (formed-read image read is-read) burst)
 
-  same-played : p ≡ line.inTable (played (readOf image .wall) burst)
-  same-played = is-played ∙ ap (λ (w : Wall). line.inTable (played w burst)) (wall-read image read is-read)
+  same-played : p ≡ answers.inTable (played (readOf image .wall) burst)
+  same-played = is-played ∙ ap (λ (w : Wall). answers.inTable (played w burst)) (wall-read image read is-read)
 
   wall-played : panelsOf (p .table) ≡ played (readOf image .wall) burst .wall
   wall-played = ap (λ (q : Played). panelsOf (q .table)) same-played ∙ panels-of-table _
@@ -104,11 +105,7 @@ module _ (image burst answer out : List ℕ) (n : ℕ)
   unfolding afterPlay
   play-given z = sym (rw (sym is, eq-eqb n 0 z))
 
-module _ (image out : List ℕ) (n : ℕ) (is : n ≡ refusalFor (readOf image .refusal) (leb (sizeOf (readOf image .wall)) (length out))) where
-  pub read-refused : (n ≡ 0 → ⊥) → refused n [] out ≡ afterRead image out
-  unfolding afterRead
-  read-refused h = sym (rw (sym is, ne-eqb n 0 h))
-
-  pub read-given : n ≡ 0 → given [] (setupOf (readOf image .wall)) [] out ≡ afterRead image out
-  unfolding afterRead
-  read-given z = sym (rw (sym is, eq-eqb n 0 z))
+-- no bytes are played
+pub played-none : (w : Wall) → played w [] ≡ record { wall = w; reply = silence }
+unfolding played verdictOf
+played-none w = refl

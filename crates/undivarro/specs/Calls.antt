@@ -3,10 +3,9 @@ use Prim.Native.Nat.{ℕ}
 use mathlib.Core.Bool.{Bool, cond, _&&_}
 use mathlib.Core.List.{List, []}
 use lib.Dec.{leb, eqb}
-use lib.ListN.{length}
+use lib.ListN.{length, replicate}
 use Rattle.packet.specs.Packet.{longest}
 use Rattle.lists.specs.Lists.{laidOver}
-use Rattle.panels.specs.Wall.{Wall}
 use Rattle.answers.specs.Reply.{sentBytes}
 use Rattle.answers.specs.Played.{played}
 use Rattle.image_read.specs.declared.Refusal.{Refusal}
@@ -25,15 +24,7 @@ refused number answer out = record { outcome = record { refusal = number; answer
 
 -- an answer and an image at the front of the buffers, and their lengths; the bytes past them are untouched
 abbrev pub given : List ℕ → List ℕ → List ℕ → List ℕ → After
-given sent setup answer out = record {
-  outcome = record { refusal = 0; answered = length sent; written = length setup };
-  answer = laidOver sent answer;
-  out = laidOver setup out;
-}
-
--- the image of a wall
-abbrev pub setupOf : Wall → List ℕ
-setupOf w = imageOf (recordsOf w)
+given sent setup answer out = record { outcome = record { refusal = 0; answered = length sent; written = length setup }; answer = laidOver sent answer; out = laidOver setup out }
 
 -- reading faults are 11 to 18; then 19 where there is no room
 unfoldable pub refusalFor : Refusal → Bool → ℕ
@@ -45,11 +36,8 @@ afterPlay image burst answer out =
     let r = readOf image in
     let o = played (r .wall) burst in
     let n = refusalFor (r .refusal) (leb longest (length answer) && leb (sizeOf (r .wall)) (length out)) in
-    cond (eqb n 0) (given (sentBytes (o .reply)) (setupOf (o .wall)) answer out) (refused n answer out)
+    cond (eqb n 0) (given (sentBytes (o .reply)) (imageOf (recordsOf (o .wall))) answer out) (refused n answer out)
 
--- no burst, and no buffer for an answer
+-- reading is playing no bytes, where there is room for an answer
 unfoldable pub afterRead : List ℕ → List ℕ → After
-afterRead image out =
-    let r = readOf image in
-    let n = refusalFor (r .refusal) (leb (sizeOf (r .wall)) (length out)) in
-    cond (eqb n 0) (given [] (setupOf (r .wall)) [] out) (refused n [] out)
+afterRead image out = afterPlay image [] (replicate longest 0) out

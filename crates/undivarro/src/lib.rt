@@ -9,8 +9,9 @@ ghost use Rattle.lists.specs.Lists.{laidOver};
 ghost use Rattle.panels.specs.Wall.{panelsOf, mostPanels};
 ghost use Rattle.panels.specs.WellFormed.{WellFormed};
 ghost use Rattle.answers.specs.Reply.{sentBytes};
-ghost use Rattle.image_write.specs.Written.{sizeOf, panelSize, trailerSize};
-ghost use Rattle.undivarro.specs.Calls.{setupOf, refusalFor, afterPlay, afterRead};
+ghost use Rattle.image_write.specs.Written.{sizeOf, panelSize};
+ghost use Rattle.undivarro.specs.Private.Setup.{setupOf};
+ghost use Rattle.undivarro.specs.Calls.{refusalFor, afterPlay, afterRead};
 use answers::Reply;
 use answers::Sent;
 use image_read::Refusal;
@@ -31,7 +32,7 @@ pub struct Outcome {
 // Room for any answer, and for the image of n panels.
 fn has_room(n: usize, answer: usize, out: usize) -> bool
     requires { ⌜ n ≤ mostPanels ⌝ }
-    ensures { λ r. ⌜ r ≡ (leb longest answer && leb (panelSize * n + trailerSize) out) ⌝ }
+    ensures { λ r. ⌜ r ≡ (leb longest answer && leb (panelSize * n + 2) out) ⌝ }
 {
     if answer < LONGEST {
         return false;

@@ -11,14 +11,15 @@ use Rattle.host.specs.declared.Host.{Host}
 use Rattle.host.specs.declared.Step.{Step}
 use Rattle.host.specs.declared.Outcome.the-variants.{Report}
 use Rattle.host.specs.Machine.{over}
-use Rattle.host.specs.Calls.{nothingWaits, padded, stepOf}
+use Rattle.host.specs.Private.Steps.{nothingWaits}
+use Rattle.host.specs.Calls.{stepOf}
 use Rattle.host.proofs.reported.Statement.{statement}
 use Rattle.host.proofs.reported.Tie as tie
 
 made : (h : Host) (n sendings : ℕ) (v values : List ℕ) → h ≡ nothingWaits → n ≡ length v
     → values ≡ take (length v) v ++ drop (length v) (replicate mostValues 0)
     → _≡_ {A = Step} (record { host = h; length = 0; outcome = Report sendings; values = values; count = n }) (stepOf (over (Report sendings) v))
-unfolding stepOf padded laidOver flatten
+unfolding stepOf laidOver flatten
 made h n sendings v values eh en ev = rw (eh, en, ev, take-length v)
 
 slice-aggregate-copy : tie.Need-slice-aggregate-copy

@@ -4,8 +4,8 @@ use mathlib.Core.Bool.{true, false, _||_}
 use Prim.Native.Nat.{ℕ, _<_}
 use borrow.Author.Needs.{needs}
 use lib.ListN.{drop}
-use Rattle.settings.specs.Settings.{Range, inRange, within, valueCount}
-use Rattle.settings.specs.Private.Numbers.{rangeOf, rangesOf, firstRange}
+use Rattle.settings.specs.Settings.{Range, within, valueCount}
+use Rattle.settings.specs.Private.Numbers.{inRange, rangeOf, rangesOf, firstRange}
 use Rattle.settings.proofs.Laws.{first-and-more}
 use Rattle.settings.proofs.allowed_at.Statement.{statement}
 use Rattle.settings.proofs.allowed_at.Tie as tie

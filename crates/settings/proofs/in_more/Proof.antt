@@ -11,8 +11,8 @@ use lib.ListN.{length, getD, drop}
 use lib.Seq.{drop-cons, drop-length}
 use Rattle.settings.specs.declared.More.{More}
 use Rattle.settings.specs.declared.Table.{Table}
-use Rattle.settings.specs.Settings.{Range, inRange, within, settings, allowedByRow, valueCount}
-use Rattle.settings.specs.Private.Numbers.{allowedValues, rangesOf, moreFrom, isMore, paperTable}
+use Rattle.settings.specs.Settings.{Range, within, settings, allowedByRow, valueCount}
+use Rattle.settings.specs.Private.Numbers.{inRange, allowedValues, rangesOf, moreFrom, isMore, paperTable}
 use Rattle.lists.proofs.Each.{alike}
 use Rattle.settings.proofs.in_more.Statement.{statement}
 use Rattle.settings.proofs.in_more.Tie as tie

@@ -11,7 +11,7 @@ use Rattle.image_write.specs.declared.Written.{Written}
 use Rattle.image_write.specs.declared.Written.the-variants.{Bytes}
 use Rattle.image_write.specs.Written.{sizeOf, writtenOf, bytesWritten, outputOf}
 use Rattle.image.proofs.Back.{image-size}
-use Rattle.undivarro.specs.Calls.{setupOf}
+use Rattle.undivarro.specs.Private.Setup.{setupOf}
 use borrow.Author.Needs.{needs}
 use Rattle.undivarro.proofs.put_setup.Statement.{statement}
 use Rattle.undivarro.proofs.put_setup.Tie as tie

@@ -1,16 +1,24 @@
 -- The numbers and the buffer are those of the definition, on a refusal and otherwise. Assumes nothing.
-use mathlib.Core.Path.{ap, _∙_}
-use mathlib.Core.List.{[]}
+use mathlib.Core.Path.{sym, ap, _∙_}
+use mathlib.Core.List.{List, []}
 use Prim.Native.Nat.{ℕ}
+use lib.ListN.{replicate}
 use Rattle.packet.specs.Packet.{longest}
 use Rattle.panels.specs.Wall.{Wall}
 use Rattle.panels.proofs.Laws.{count-few}
 use Rattle.undivarro.specs.declared.Outcome.{Outcome}
-use Rattle.undivarro.specs.Calls.{After, given, setupOf}
-use Rattle.undivarro.proofs.Calls.{formed-read, wall-read, refusal-is, enough, read-refused, read-given}
+use Rattle.answers.specs.Reply.{sentBytes}
+use Rattle.answers.specs.Played.{Outcome as BurstOutcome}
+use Rattle.undivarro.specs.Calls.{After, given, afterRead}
+use Rattle.undivarro.specs.Private.Setup.{setupOf}
+use Rattle.undivarro.proofs.Calls.{formed-read, wall-read, refusal-is, enough, play-refused, play-given, played-none}
 use borrow.Author.Needs.{needs}
 use Rattle.undivarro.proofs.undivarro_read.Statement.{statement}
 use Rattle.undivarro.proofs.undivarro_read.Tie as tie
+
+-- the answer buffer that the definition plays no bytes with
+abbrev room-for : List ℕ
+room-for = replicate longest 0
 
 read-image-requires : tie.Need-read-image-requires
 read-image-requires c κs = search needs
@@ -22,13 +30,14 @@ refusal-for-requires : tie.Need-refusal-for-requires
 refusal-for-requires c κs = search needs
 
 returns : tie.Need-returns
+unfolding afterRead
 returns c =
     let refusal = c .before in
     let room = refusal .before in
     let read = room .before .before in
     let a = c .before .before .before .before .before .before .before .args in
     let is = refusal-is _ _ (read .read-image .ensures) longest _ _ (room .has-room .ensures) _ (refusal .refusal-for .ensures) in
-    let e = read-refused (a .image .now) (a .out .now) _ is (c .if1 .taken) in
+    let e = play-refused (a .image .now) [] room-for (a .out .now) _ is (c .if1 .taken) in
     (ap (λ (r : After). r .outcome) e, ap (λ (r : After). r .out) e)
 
 put-setup-requires : tie.Need-put-setup-requires
@@ -45,6 +54,7 @@ same-length : tie.Need-same-length
 same-length c = search needs
 
 returns-2 : tie.Need-returns-2
+unfolding afterRead sentBytes
 returns-2 c =
     let put = c .before .before in
     let past = put .before .before in
@@ -55,8 +65,9 @@ returns-2 c =
     let e = read .read-image .ensures in
     let is = refusal-is _ _ e longest _ _ (room .has-room .ensures) _ (refusal .refusal-for .ensures) in
     let all =
-    ap (λ (w : Wall). given [] (setupOf w) [] (a .out .now)) (wall-read (a .image .now) _ e)
-    ∙ read-given (a .image .now) (a .out .now) _ is (past .if1 .left)
+    ap (λ (w : Wall). given [] (setupOf w) room-for (a .out .now)) (wall-read (a .image .now) _ e)
+    ∙ ap (λ (o : BurstOutcome). given (sentBytes (o .reply)) (setupOf (o .wall)) room-for (a .out .now)) (sym (played-none _))
+    ∙ play-given (a .image .now) [] room-for (a .out .now) _ is (past .if1 .left)
     in (
       ap {B = Outcome} (λ (m : ℕ). record { refusal = 0; answered = 0; written = m }) (put .put-setup .ensures .0) ∙ ap (λ (r : After). r .outcome) all,
       put .put-setup .ensures .1 ∙ ap (λ (r : After). r .out) all,

@@ -1,0 +1,21 @@
+-- A record on the way through the reader: a field that is taken, and the wall with its panel; a row's field among some values.
+use Prim.Native.Nat.{ℕ, _+_}
+use mathlib.Core.Bool.{Bool, true}
+use mathlib.Core.List.{List, [], _∷_, _++_}
+use lib.ListN.{drop, set}
+use Rattle.settings.specs.Settings.{setCode, byteCount}
+use Rattle.panels.specs.Wall.{Wall, valuesOf}
+use Rattle.image_read.specs.Read.{panelIn}
+use Rattle.image_read.specs.Entries.{Entry}
+
+abbrev pub seenWith : ℕ → List Bool → List Bool
+seenWith row seen = set seen row true
+
+abbrev pub behind : ℕ → List ℕ → List ℕ
+behind row left = drop (2 + byteCount row) left
+
+abbrev pub wallWith : Wall → List ℕ → Wall
+wallWith w bytes = w ++ panelIn bytes ∷ []
+
+abbrev pub entryOf : ℕ → List ℕ → Entry
+entryOf row values = record { code = setCode row; values = valuesOf row values }
