@@ -4,9 +4,9 @@ use mathlib.Core.Bool.{Bool, true, false, cond, false≢true}
 use mathlib.Core.Logic.{inl, inr}
 use mathlib.Core.Path.{_≡_, refl, sym, ap, _∙_}
 use mathlib.Core.List.{List, [], _∷_, flatten}
-use lib.Seq.{drop-at}
 use lib.Dec.{leb, ltb}
 use lib.ListN.{length, getD, drop}
+use Rattle.lists.proofs.Laid.{behind-over}
 use Rattle.packet.specs.Answered.{isHeard}
 use Rattle.packet.specs.declared.MonitorId.{MonitorId}
 use Rattle.packet.specs.declared.GroupId.{GroupId}
@@ -85,18 +85,13 @@ bad-burst w b bad = go (verdictOf b) bad
     go Damaged h = refl
     go (Intact i g n) h = map-same _ blank w (λ k s. stay i g n (getD w k blank) (h k s))
 
--- behind what is laid over it an output is as before
-behind-laid : (bytes out : List ℕ) → drop (length bytes) (laidOver bytes out) ≡ drop (length bytes) out
-unfolding laidOver
-behind-laid bytes out = drop-at bytes _ _ refl
-
 pub answer-alone : AnswerAlone
 unfolding sentOf answerOutput
 answer-alone out r = go (leb longest (length out))
   where
     go : (t : Bool)
         → let n = bytesSent (cond t (Bytes (length (sentBytes r))) NoRoom) in drop n (cond t (laidOver (sentBytes r) out) out) ≡ drop n out
-    go true = behind-laid (sentBytes r) out
+    go true = behind-over (sentBytes r) out
     go false = refl
 
 pub image-alone : ImageAlone
@@ -106,7 +101,7 @@ image-alone t f out = go (leb (sizeOf (panelsOf t)) (length out))
     go : (b : Bool)
         → let n = bytesWritten (cond b (WrittenBytes (sizeOf (panelsOf t))) NotWritten) in
         drop n (cond b (laidOver (imageOf (recordsOf (panelsOf t))) out) out) ≡ drop n out
-    go true = rw (← image-size (panelsOf t) (f .good)) (behind-laid (imageOf (recordsOf (panelsOf t))) out)
+    go true = rw (← image-size (panelsOf t) (f .good)) (behind-over (imageOf (recordsOf (panelsOf t))) out)
     go false = refl
 
 -- a refusal gives no panel

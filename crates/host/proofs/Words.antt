@@ -2,13 +2,11 @@
 use mathlib.Core.Path.{_≡_, refl}
 use mathlib.Core.Bool.{Bool, true, false, false≢true, cond, and-true, and-false, _&&_}
 use mathlib.Core.List.{List, [], _∷_}
-use Prim.Native.Nat.{ℕ, _+_, _-_, _≤_, _<_}
+use Prim.Native.Nat.{ℕ, _+_, _≤_, _<_}
 use native.Mathlib.Omega.{arith}
-use borrow.Author.Tests.{leb-true}
-use lib.Dec.{leb, eqb}
-use lib.ListN.{length, getD, take, drop, length-drop}
-use lib.Seq.{take-all}
-use Rattle.settings.specs.Settings.{settings, foundBy, getCode, setting, byteCount, allowedFor, rowCount, mostValues}
+use lib.Dec.{eqb}
+use lib.ListN.{length, getD, drop}
+use Rattle.settings.specs.Settings.{foundBy, getCode, setting, allowedFor, mostValues}
 use Rattle.settings.specs.declared.Found.{Found}
 use Rattle.settings.specs.declared.Found.the-variants.{Set, Get, Nothing as NoSetting}
 use Rattle.lists.proofs.Both.{both}
@@ -44,10 +42,6 @@ pub word-found : (code : ℕ) (d : List ℕ) (f : Found)
     → isControl NackWord d ≡ false → isControl NavWord d ≡ false → foundBy code ≡ f → wordIn code d ≡ endedBy f d
 unfolding wordIn
 word-found code d f nack nav e = rw (nack, nav, e)
-
--- all bytes but the first
-pub rest : (d : List ℕ) → take (length d - 1) (drop 1 d) ≡ drop 1 d
-rest d = take-all (length d - 1) (drop 1 d) (simp length-drop (omega arith))
 
 abbrev Fits : List ℕ → Type 0
 Fits d = (1 ≤ length d) × (length d ≤ mostValues + 1)

@@ -1,6 +1,6 @@
 -- Reading what was written gives that table. Assumes nothing.
 use mathlib.Core.Path.{_≡_, refl, sym, ap, _∙_}
-use mathlib.Core.List.{List, [], _∷_, _++_, map, flatten, append-nil}
+use mathlib.Core.List.{List, [], _∷_, _++_, flatten, append-nil}
 use Prim.Native.Nat.{ℕ, zero, suc, _≤_, _<_}
 use native.Mathlib.Nat.{not-suc-le-zero, le-of-suc-le-suc}
 use native.Mathlib.Omega.{arith}
@@ -24,7 +24,8 @@ use Rattle.image_read.specs.Read.{Reading, headFits, recordRefusal, panelIn, re
 use Rattle.image_read.specs.Entries.{Entry, entryBytes, bytesOf, Without, givenOr, given}
 use Rattle.image_read.specs.Private.Walk.{entryOf}
 use Rattle.lists.proofs.Each.{each-alike, map-each}
-use Rattle.image_write.proofs.Lengths.{length-values, record-at, record-length, records-long, image-length}
+use Rattle.panels.proofs.Values.{length-values}
+use Rattle.image_write.proofs.Lengths.{record-at, record-length, records-long, image-length}
 use Rattle.image_read.proofs.Entries.{rowOf, row-is, Good, GoodEntries}
 use Rattle.image_read.proofs.ByCode.{stored-is}
 use Rattle.image_read.proofs.Order.{codes-apart, good-read}

@@ -1,17 +1,16 @@
 -- How long a record and its parts are. Assumes nothing.
 use mathlib.Core.Path.{_≡_, refl, sym, ap, _∙_}
-use mathlib.Core.List.{List, [], _∷_, _++_, flatten}
+use mathlib.Core.List.{List, [], _++_, flatten}
 use Prim.Native.Nat.{ℕ, zero, suc, _+_, _*_, _≤_, _<_}
-use native.Mathlib.Nat.{mul-zero, mul-suc}
 use native.Mathlib.Omega.{arith}
 use borrow.Author.Tests.{leb-true}
 use mathlib.Core.Bool.{true}
 use lib.Dec.{leb}
-use lib.ListN.{length, getD, take, length-append, length-take, length-drop, length-map, List·getD-map}
+use lib.ListN.{length, getD, take, length-append, length-map, List·getD-map}
 use lib.Seq.{take-all}
+use Rattle.panels.proofs.Values.{length-values}
 use Rattle.settings.specs.Settings.{settings, byteCount, valueCount, rowCount}
 use Rattle.lists.specs.Lists.{startOf, each}
-use Rattle.settings.proofs.Laws.{place-fits}
 use Rattle.lists.proofs.Each.{in-each, alike, length-each, each-alike}
 use Rattle.panels.specs.declared.Panel.{Panel}
 use Rattle.panels.specs.Wall.{Wall, valuesOf, blank}
@@ -20,10 +19,6 @@ use Rattle.lists.proofs.Places.{getD-inside}
 use Rattle.panels.proofs.Formed.{good-at}
 use Rattle.image_write.specs.Written.{field, fieldsOf, recordOf, recordsOf, highLow, startsOf, imageOf, recordSize, fieldsSize}
 use Rattle.lists.proofs.Flat.{flat-more, alike-long}
-
--- the values of a row are as many as it has
-pub length-values : (row : ℕ) (values : List ℕ) → length values ≡ valueCount → length (valuesOf row values) ≡ byteCount row
-length-values row values e = let f = place-fits row in simp (length-take, length-drop) (omega arith)
 
 pub field-at : (values : List ℕ) (row : ℕ) → row < rowCount → getD (fieldsOf values) row [] ≡ field row (valuesOf row values)
 unfolding fieldsOf

@@ -2,7 +2,7 @@
 -- Assumes nothing.
 use mathlib.Core.Path.{_≡_, refl, sym, ap, _∙_}
 use mathlib.Core.List.{List, [], _∷_, _++_, append-assoc, append-nil, flatten}
-use Prim.Native.Nat.{ℕ, suc, _+_, _-_, _≤_, _<_}
+use Prim.Native.Nat.{ℕ, _+_, _-_, _≤_, _<_}
 use native.Mathlib.Nat.{add-assoc, zero-add, add-zero}
 use native.Mathlib.Numerals.{add-one}
 use native.Mathlib.Omega.{arith}
@@ -72,6 +72,11 @@ laid-none at l = rw (append-nil, add-zero) (take-append-drop at l)
 pub laid-over : (b l : List ℕ) → laidAt 0 b l ≡ laidOver b l
 unfolding laidAt laidOver
 laid-over b l = rw zero-add
+
+-- behind what is laid over its front a list is as before
+pub behind-over : (b l : List ℕ) → drop (length b) (laidOver b l) ≡ drop (length b) l
+unfolding laidOver
+behind-over b l = drop-at b _ _ refl
 
 -- one piece behind the other
 pub laid-then : (at m : ℕ) (a b l : List ℕ) → m ≡ at + length a → m + length b ≤ length l

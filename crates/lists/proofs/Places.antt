@@ -1,9 +1,11 @@
 -- Lists that are changed place by place. Assumes nothing.
-use mathlib.Core.Path.{_≡_, refl, ap}
+use mathlib.Core.Path.{_≡_, refl, sym, ap, _∙_}
 use mathlib.Core.List.{List, [], _∷_, _++_}
-use Prim.Native.Nat.{ℕ, zero, suc, _≤_, _<_}
-use native.Mathlib.Nat.{le-of-suc-le-suc, not-suc-le-zero}
-use lib.ListN.{length, getD, take, drop, set}
+use Prim.Native.Nat.{ℕ, zero, suc, _-_, _≤_, _<_}
+use native.Mathlib.Nat.{le-of-suc-le-suc, not-suc-le-zero, sub-zero, zero-sub, suc-sub-suc}
+use native.Mathlib.Omega.{arith}
+use lib.ListN.{length, getD, take, drop, set, replicate, length-drop}
+use lib.Seq.{take-all}
 
 module _ {A : Type 0} where
   pub getD-inside : (l : List A) (k : ℕ) (d e : A) → k < length l → getD l k d ≡ getD l k e
@@ -35,3 +37,12 @@ module _ {A : Type 0} where
   moved-up (x ∷ l) zero j d h = refl
   moved-up (x ∷ l) (suc k) zero d h = absurd (not-suc-le-zero h)
   moved-up (x ∷ l) (suc k) (suc j) d h = moved-up l k j d (le-of-suc-le-suc h)
+
+  -- all elements but the first
+  pub rest : (l : List A) → take (length l - 1) (drop 1 l) ≡ drop 1 l
+  rest l = take-all (length l - 1) (drop 1 l) (simp length-drop (omega arith))
+
+  pub drop-replicate : (n m : ℕ) (a : A) → drop n (replicate m a) ≡ replicate (m - n) a
+  drop-replicate zero m a = ap (λ (k : ℕ). replicate k a) (sym (sub-zero m))
+  drop-replicate (suc n) zero a = ap (λ (k : ℕ). replicate k a) (sym (zero-sub (suc n)))
+  drop-replicate (suc n) (suc m) a = drop-replicate n m a ∙ ap (λ (k : ℕ). replicate k a) (sym (suc-sub-suc m n))

@@ -8,7 +8,7 @@ use native.Mathlib.Nat.{eq-or-lt-of-le}
 use native.Mathlib.Omega.{arith}
 use borrow.Author.Tests.{ltb-true, ltb-false, eqb-true, eqb-false}
 use lib.Dec.{ltb, eqb}
-use lib.ListN.{length, take}
+use lib.ListN.{length, take, length-take, length-drop}
 use lib.Seq.{take-add, take-all}
 use Rattle.settings.specs.Settings.{settings, allowedByRow, byteCount, place, allowedFor, freshValues, valuesWith, valueCount, rowCount}
 use Rattle.settings.proofs.Laws.{place-fits, places-apart, allowed-count, fresh-allowed, fresh-count}
@@ -16,6 +16,10 @@ use Rattle.lists.proofs.Each.{alike}
 use Rattle.lists.specs.Lists.{laidAt}
 use Rattle.lists.proofs.Laid.{length-laid, before-laid, laid-itself, behind-laid, ahead-of-laid}
 use Rattle.panels.specs.Wall.{valuesOf}
+
+-- the values of a row are as many as it has
+pub length-values : (row : ℕ) (values : List ℕ) → length values ≡ valueCount → length (valuesOf row values) ≡ byteCount row
+length-values row values e = let f = place-fits row in simp (length-take, length-drop) (omega arith)
 
 pub length-with : (row : ℕ) (vs values : List ℕ) → length vs ≡ byteCount row → length values ≡ valueCount → length (valuesWith row vs values) ≡ valueCount
 length-with row vs values n full = length-laid (place row) vs values (omega (arith, place-fits row)) ∙ full

@@ -10,7 +10,8 @@ use Rattle.host.specs.declared.Said.the-variants.{Report}
 use Rattle.host.specs.declared.Outcome.the-variants.{Report as Reported}
 use Rattle.host.specs.Heard.{wordIn}
 use Rattle.host.specs.Machine.{ending}
-use Rattle.host.proofs.Words.{report-length, rest}
+use Rattle.host.proofs.Words.{report-length}
+use Rattle.lists.proofs.Places.{rest}
 use Rattle.host.proofs.Answers.{stays, ends, reports}
 use Rattle.host.proofs.told.Statement.{statement}
 use Rattle.host.proofs.told.Tie as tie

@@ -1,13 +1,15 @@
 -- The invariant: the first k values stand behind the get code. Assumes nothing.
 use mathlib.Core.Path.{_≡_, refl, sym, ap, ap₂, _∙_}
-use Prim.Native.Nat.{ℕ, zero, suc, _+_, _-_, _≤_, _<_}
+use Prim.Native.Nat.{ℕ, suc, _+_, _-_, _≤_, _<_}
 use mathlib.Core.List.{List, _∷_, _++_}
-use native.Mathlib.Nat.{add-comm, sub-zero, zero-sub, suc-sub-suc}
+use native.Mathlib.Nat.{add-comm, suc-sub-suc}
 use native.Mathlib.Numerals.{add-one, one-add}
 use native.Mathlib.Omega.{arith}
 use borrow.Author.Needs.{needs}
 use lib.ListN.{length, getD, drop, set, replicate, length-take, length-drop}
 use lib.Seq.{paste, paste-zero, paste-suc, getD-take, getD-drop, take-all}
+use Rattle.lists.proofs.Places.{drop-replicate}
+use Rattle.panels.proofs.Values.{length-values}
 use Rattle.settings.specs.Settings.{byteCount, place, mostValues, valueCount, rowCount}
 use Rattle.settings.proofs.Laws.{place-fits, byte-count-few}
 use Rattle.packet.specs.Packet.{monitorId}
@@ -28,21 +30,13 @@ copied bytes vs row k few n m h =
     sym (getD-take (byteCount row) (drop (place row) vs) k 0 h ∙ getD-drop (place row) vs k 0) in
     rw (here, add-comm k 1) (paste-suc bytes 1 (valuesOf row vs) k 0 (omega arith) (simp (length-take, length-drop) (omega arith)) ∙ rw (add-comm 1 k, add-one))
 
-row-count : (row : ℕ) (vs : List ℕ) → length vs ≡ valueCount → length (valuesOf row vs) ≡ byteCount row
-row-count row vs m = simp (length-take, length-drop) (omega (arith, place-fits row))
-
-drop-replicate : (n m : ℕ) → drop {A = ℕ} n (replicate m 0) ≡ replicate (m - n) 0
-drop-replicate zero m = ap (λ (k : ℕ). replicate k 0) (sym (sub-zero m))
-drop-replicate (suc n) zero = ap (λ (k : ℕ). replicate k 0) (sym (zero-sub (suc n)))
-drop-replicate (suc n) (suc m) = drop-replicate n m ∙ ap (λ (k : ℕ). replicate k 0) (sym (suc-sub-suc m n))
-
 -- all values behind the get code, and nothing behind them
 reported : (code row : ℕ) (vs : List ℕ) → length vs ≡ valueCount
     → paste (code ∷ replicate mostValues 0) 1 (valuesOf row vs) (byteCount row) ≡ reportFrom (monitorId 0) (code ∷ valuesOf row vs) .bytes
 reported code row vs m =
-    let n = row-count row vs m in
+    let n = length-values row vs m in
     rw (take-all (byteCount row) (valuesOf row vs) (omega arith), one-add, n, suc-sub-suc mostValues (byteCount row))
-    (ap (λ (l : List ℕ). code ∷ (valuesOf row vs ++ l)) (drop-replicate (byteCount row) mostValues))
+    (ap (λ (l : List ℕ). code ∷ (valuesOf row vs ++ l)) (drop-replicate (byteCount row) mostValues 0))
 
 abbrev Inv-loop : tie.InvT-loop
 Inv-loop row first count id values bytes₀ k₀ bytes k = (k ≤ count) × (length values ≡ valueCount) × (bytes ≡ paste bytes₀ 1 (valuesOf row values) k)
@@ -108,7 +102,7 @@ returns c =
     let bytes = reported (code .result) (a .row) (a .p .values) (loop .loop .inv .1) in
     let all : loop .loop .k ≡ byteCount (a .row) = omega arith in
     let d = code .result ∷ valuesOf (a .row) (a .p .values) in
-    let n : length d ≡ byteCount (a .row) + 1 = ap suc (row-count (a .row) (a .p .values) (loop .loop .inv .1)) ∙ sym (add-one _) in
+    let n : length d ≡ byteCount (a .row) + 1 = ap suc (length-values (a .row) (a .p .values) (loop .loop .inv .1)) ∙ sym (add-one _) in
     ap₂ {C = Reply} (λ (l : List ℕ) (m : ℕ). record { answer = Report; id = a .p .id; bytes = l; count = m })
     ((rw all at (loop .loop .inv .2)) ∙ bytes)
     (ap (λ (m : ℕ). m + 1) count ∙ sym n)

@@ -1,17 +1,10 @@
 -- The values are what stands behind the code. Assumes nothing.
-use mathlib.Core.Path.{_≡_, sym, ap, _∙_}
-use mathlib.Core.List.{List}
-use Prim.Native.Nat.{ℕ, _-_}
-use native.Mathlib.Omega.{arith}
-use lib.ListN.{length, take, drop, length-drop}
-use lib.Seq.{take-all}
+use mathlib.Core.Path.{sym, ap, _∙_}
+use Rattle.lists.proofs.Places.{rest}
 use Rattle.settings.specs.Settings.{allowedFor}
 use borrow.Author.Needs.{needs}
 use Rattle.answers.proofs.judging.set_order.Statement.{statement}
 use Rattle.answers.proofs.judging.set_order.Tie as tie
-
-behind-code : (d : List ℕ) → take (length d - 1) (drop 1 d) ≡ drop 1 d
-behind-code d = take-all (length d - 1) (drop 1 d) (simp length-drop (omega arith))
 
 sub-allowed : tie.Need-sub-allowed
 sub-allowed c = search needs
@@ -29,14 +22,14 @@ returns : tie.Need-returns
 returns c =
     let call = c .before in
     let a = call .before .before .before .args in
-    let e = ap (allowedFor (a .row)) (sym (behind-code (a .d .now))) ∙ sym (call .allowed .ensures) ∙ c .if1 .taken in
+    let e = ap (allowedFor (a .row)) (sym (rest (a .d .now))) ∙ sym (call .allowed .ensures) ∙ c .if1 .taken in
     simp e
 
 returns-2 : tie.Need-returns-2
 returns-2 c =
     let call = c .before in
     let a = call .before .before .before .args in
-    let e = ap (allowedFor (a .row)) (sym (behind-code (a .d .now))) ∙ sym (call .allowed .ensures) ∙ c .if1 .left in
+    let e = ap (allowedFor (a .row)) (sym (rest (a .d .now))) ∙ sym (call .allowed .ensures) ∙ c .if1 .left in
     simp e
 
 pub set-order-spec : {M : Type 1} → statement M

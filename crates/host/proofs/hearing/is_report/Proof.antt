@@ -8,7 +8,8 @@ use borrow.Author.Tests.{eq-eqb, ne-eqb}
 use lib.ListN.{length}
 use Rattle.settings.specs.Settings.{allowedFor}
 use Rattle.host.specs.Heard.{isReport}
-use Rattle.host.proofs.Words.{report-some, rest}
+use Rattle.host.proofs.Words.{report-some}
+use Rattle.lists.proofs.Places.{rest}
 use borrow.Author.Needs.{needs}
 use Rattle.host.proofs.hearing.is_report.Statement.{statement}
 use Rattle.host.proofs.hearing.is_report.Tie as tie

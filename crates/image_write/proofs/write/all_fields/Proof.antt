@@ -9,7 +9,8 @@ use Rattle.settings.specs.Settings.{byteCount, rowCount}
 use Rattle.lists.specs.Lists.{laidAt}
 use Rattle.lists.proofs.Laid.{length-laid, laid-none, laid-more}
 use Rattle.image_write.specs.Written.{fieldsOf, fieldsSize}
-use Rattle.image_write.proofs.Lengths.{field-at, fields-count, fieldBytes, fields-before, bytes-fit, bytes-of-all, length-values, fields-all}
+use Rattle.image_write.proofs.Lengths.{field-at, fields-count, fieldBytes, fields-before, bytes-fit, bytes-of-all, fields-all}
+use Rattle.panels.proofs.Values.{length-values}
 use Rattle.image_write.proofs.write.all_fields.Statement.{statement}
 use Rattle.image_write.proofs.write.all_fields.Tie as tie
 

@@ -12,7 +12,7 @@ use Rattle.lists.specs.Lists.{laidAt}
 use Rattle.lists.proofs.Laid.{laid-copy, laid-then, laid-two}
 use Rattle.panels.specs.Wall.{valuesOf}
 use Rattle.image_write.specs.Written.{field}
-use Rattle.image_write.proofs.Lengths.{length-values}
+use Rattle.panels.proofs.Values.{length-values}
 use Rattle.image_write.proofs.write.one_field.Statement.{statement}
 use Rattle.image_write.proofs.write.one_field.Tie as tie
 
