@@ -1,13 +1,19 @@
-// Which requests there are, and a request's packet given out.
+// Which requests there are, and a request's packet given out, at first and again.
 ghost use mathlib.Core.Path.{_≡_};
 ghost use Prim.Native.Nat.{_≤_, _<_, min};
 ghost use mathlib.Core.List.{_∷_};
 ghost use lib.ListN.{length, take};
+ghost use Rattle.host.specs.Calls.{stateOf, Answers};
+ghost use Rattle.host.specs.Machine.{begun, again};
 ghost use Rattle.packet.specs.Packet.{longest};
 ghost use Rattle.settings.specs.Settings.{allowedFor, rowCount, mostValues};
 ghost use Rattle.lists.specs.Lists.{laidOver};
 ghost use Rattle.host.specs.Request.{isRequest, requestPacket};
+use crate::Host;
+use crate::MOST_SENDINGS;
+use crate::Outcome;
 use crate::Request;
+use crate::Step;
 use packet::SHORTEST;
 use settings::Found;
 use settings::MOST_VALUES;
@@ -77,4 +83,45 @@ pub(crate) fn send(request: Request, out: &mut [u8]) -> usize
     let n = in_use(request.count) + 1;
     packet::write_packet(out, request.id, request.group, &data[..n]);
     n + SHORTEST
+}
+
+// The packet is given out for the first time; where no answer is due, that is all.
+pub(crate) fn begin(request: Request, out: &mut [u8]) -> Step
+    requires { ⌜ longest ≤ length (now out) ⌝ }
+    ensures { λ r. ⌜ Answers (begun request) (now (out .entry)) r (now (out .exit)) ⌝ }
+{
+    let length = send(request, out);
+    if packet::is_answered(request.id, request.group) {
+        crate::plain(
+            Host {
+                request,
+                sendings: 1,
+            },
+            length,
+            Outcome::Waiting,
+        )
+    } else {
+        crate::plain(Host::idle(), length, Outcome::Unheard(1))
+    }
+}
+
+// The same packet again, or after the third sending given up.
+pub(crate) fn send_again(host: Host, out: &mut [u8]) -> Step
+    requires { ⌜ longest ≤ length (now out) ⌝ }
+    ensures { λ r. ⌜ Answers (again (stateOf host)) (now (out .entry)) r (now (out .exit)) ⌝ }
+{
+    let sendings = host.sendings;
+    if MOST_SENDINGS <= sendings {
+        return crate::plain(Host::idle(), 0, Outcome::GivenUp(sendings));
+    }
+    let request = host.request;
+    let length = send(request, out);
+    crate::plain(
+        Host {
+            request,
+            sendings: sendings + 1,
+        },
+        length,
+        Outcome::Waiting,
+    )
 }

@@ -1,9 +1,12 @@
 // The eight settings as one fixed table of numbers, which box, host and image all read.
+mod ranges;
+
 ghost use mathlib.Core.Path.{_≡_};
 ghost use Prim.Native.Nat.{_<_};
 ghost use lib.ListN.{length, drop};
 ghost use Rattle.settings.specs.Settings.{foundBy, setCode, getCode, byteCount, place, within, allowedFor, freshValues, valuesWith, rowCount, valueCount};
 ghost use Rattle.settings.specs.Private.Numbers.{inRange, rangeOf, rangesOf, firstRange, isMore, paperTable};
+pub use ranges::allowed;
 
 // How many settings there are, how many value bytes they have in all, and how many one has at most.
 pub const ROW_COUNT: usize = 8;
@@ -177,70 +180,6 @@ pub fn place_of(row: usize) -> usize
     ensures { λ r. ⌜ r ≡ place row ⌝ }
 {
     values_at(row).1 as usize
-}
-
-fn in_range(range: Span, v: u8) -> bool
-    ensures { λ r. ⌜ r ≡ inRange (rangeOf range) v ⌝ }
-{
-    range.0 <= v && v <= range.1
-}
-
-fn is_more(more: More, p: usize, v: u8) -> bool
-    ensures { λ r. ⌜ r ≡ isMore p v more ⌝ }
-{
-    if more.0 as usize != p {
-        return false;
-    }
-    in_range(Span(more.1, more.2), v)
-}
-
-// Whether v is in a range of place p behind the first.
-fn in_more(p: usize, v: u8) -> bool
-    requires { ⌜ p < valueCount ⌝ }
-    ensures { λ r. ⌜ r ≡ within (drop 1 (rangesOf p)) v ⌝ }
-{
-    let more = the_table().more;
-    let mut k = 0;
-    while k < MORE_COUNT {
-        if is_more(more[k], p, v) {
-            return true;
-        }
-        k += 1;
-    }
-    false
-}
-
-// Whether v may stand at place p, whose first range is given.
-fn allowed_at(p: usize, range: Span, v: u8) -> bool
-    requires { ⌜ (p < valueCount) × (rangeOf range ≡ firstRange p) ⌝ }
-    ensures { λ r. ⌜ r ≡ within (rangesOf p) v ⌝ }
-{
-    if in_range(range, v) {
-        return true;
-    }
-    in_more(p, v)
-}
-
-// Whether these bytes may be set in a row: as many as it has, and each of them allowed.
-pub fn allowed(row: usize, values: &[u8]) -> bool
-    requires { ⌜ row < rowCount ⌝ }
-    ensures { λ r. ⌜ r ≡ allowedFor row (now (values .entry)) ⌝ }
-{
-    let first = place_of(row);
-    let count = byte_count(row);
-    if values.len() != count {
-        return false;
-    }
-    let ranges = the_table().ranges;
-    let mut k = 0;
-    while k < count {
-        let p = first + k;
-        if !allowed_at(p, ranges[p], values[k]) {
-            return false;
-        }
-        k += 1;
-    }
-    true
 }
 
 // A row's values stored at their place among a panel's.

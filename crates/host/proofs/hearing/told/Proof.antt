@@ -13,8 +13,8 @@ use Rattle.host.specs.Machine.{ending}
 use Rattle.host.proofs.Words.{report-length}
 use Rattle.lists.proofs.Places.{rest}
 use Rattle.host.proofs.Answers.{stays, ends, reports}
-use Rattle.host.proofs.told.Statement.{statement}
-use Rattle.host.proofs.told.Tie as tie
+use Rattle.host.proofs.hearing.told.Statement.{statement}
+use Rattle.host.proofs.hearing.told.Tie as tie
 
 word : (c : tie.After-word-in) (w : Said) → c .word-in .result ≡ w
     → let a = c .before .before .before .before .args in wordIn (a .host .request .code) (a .d .now) ≡ w

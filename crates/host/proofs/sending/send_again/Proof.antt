@@ -12,8 +12,8 @@ use Rattle.host.specs.Machine.{mostSendings, over, again}
 use Rattle.host.specs.Request.{requestPacket}
 use Rattle.host.specs.Calls.{stateOf}
 use Rattle.host.proofs.Answers.{ends, gives}
-use Rattle.host.proofs.send_again.Statement.{statement}
-use Rattle.host.proofs.send_again.Tie as tie
+use Rattle.host.proofs.sending.send_again.Statement.{statement}
+use Rattle.host.proofs.sending.send_again.Tie as tie
 
 gives-up : (h : Host) → mostSendings ≤ h .sendings → again (stateOf h) ≡ over (GivenUp (h .sendings)) []
 unfolding again

@@ -16,8 +16,8 @@ use Rattle.settings.specs.declared.Span.{Span}
 use Rattle.settings.specs.declared.Table.{Table}
 use Rattle.lists.proofs.Each.{in-each}
 use Rattle.settings.proofs.Laws.{place-fits, at-place, other-count}
-use Rattle.settings.proofs.allowed.Statement.{statement}
-use Rattle.settings.proofs.allowed.Tie as tie
+use Rattle.settings.proofs.ranges.allowed.Statement.{statement}
+use Rattle.settings.proofs.ranges.allowed.Tie as tie
 
 rest : ℕ → List ℕ → ℕ → Bool
 rest row vs k = allAllowed (drop k (setting row .allowed)) (drop k vs)

@@ -13,8 +13,8 @@ use Rattle.host.specs.declared.Outcome.the-variants.{Report}
 use Rattle.host.specs.Machine.{over}
 use Rattle.host.specs.Private.Steps.{nothingWaits}
 use Rattle.host.specs.Calls.{stepOf}
-use Rattle.host.proofs.reported.Statement.{statement}
-use Rattle.host.proofs.reported.Tie as tie
+use Rattle.host.proofs.hearing.reported.Statement.{statement}
+use Rattle.host.proofs.hearing.reported.Tie as tie
 
 made : (h : Host) (n sendings : ℕ) (v values : List ℕ) → h ≡ nothingWaits → n ≡ length v
     → values ≡ take (length v) v ++ drop (length v) (replicate mostValues 0)

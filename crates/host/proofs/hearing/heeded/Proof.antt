@@ -10,8 +10,8 @@ use Rattle.packet.proofs.Verdict.{the-type}
 use Rattle.host.specs.Calls.{stateOf}
 use Rattle.host.proofs.Moves.{ignored, not-intact, other-group, other-id, addressed}
 use Rattle.host.proofs.Answers.{stays}
-use Rattle.host.proofs.heeded.Statement.{statement}
-use Rattle.host.proofs.heeded.Tie as tie
+use Rattle.host.proofs.hearing.heeded.Statement.{statement}
+use Rattle.host.proofs.hearing.heeded.Tie as tie
 
 intact : (c : tie.After-verdict)
     → let b = c .before .before .before .before .before .args .b .now in

@@ -7,8 +7,8 @@ use lib.ListN.{drop}
 use Rattle.settings.specs.Settings.{Range, within, valueCount}
 use Rattle.settings.specs.Private.Numbers.{inRange, rangeOf, rangesOf, firstRange}
 use Rattle.settings.proofs.Laws.{first-and-more}
-use Rattle.settings.proofs.allowed_at.Statement.{statement}
-use Rattle.settings.proofs.allowed_at.Tie as tie
+use Rattle.settings.proofs.ranges.allowed_at.Statement.{statement}
+use Rattle.settings.proofs.ranges.allowed_at.Tie as tie
 
 apart : {p : ℕ} (v : ℕ) {r : Range} → p < valueCount → r ≡ firstRange p → inRange r v || within (drop 1 (rangesOf p)) v ≡ within (rangesOf p) v
 unfolding within

@@ -14,8 +14,8 @@ use Rattle.settings.specs.declared.Table.{Table}
 use Rattle.settings.specs.Settings.{Range, within, settings, allowedByRow, valueCount}
 use Rattle.settings.specs.Private.Numbers.{inRange, allowedValues, rangesOf, moreFrom, isMore, paperTable}
 use Rattle.lists.proofs.Each.{alike}
-use Rattle.settings.proofs.in_more.Statement.{statement}
-use Rattle.settings.proofs.in_more.Tie as tie
+use Rattle.settings.proofs.ranges.in_more.Statement.{statement}
+use Rattle.settings.proofs.ranges.in_more.Tie as tie
 
 anyMore : ℕ → ℕ → List More → Bool
 anyMore p v [] = false

@@ -5,8 +5,8 @@ use mathlib.Core.List.{[], _∷_}
 use Rattle.host.specs.Machine.{idle, begun}
 use Rattle.host.specs.Request.{requestPacket}
 use Rattle.host.proofs.Answers.{gives}
-use Rattle.host.proofs.begin.Statement.{statement}
-use Rattle.host.proofs.begin.Tie as tie
+use Rattle.host.proofs.sending.begin.Statement.{statement}
+use Rattle.host.proofs.sending.begin.Tie as tie
 
 send-requires : tie.Need-send-requires
 send-requires c κs = search needs

@@ -1,8 +1,8 @@
 -- Both ends of the range are tested. Assumes nothing.
 use native.Mathlib.Omega.{arith}
 use borrow.Author.Tests.{le-leb, lt-leb}
-use Rattle.settings.proofs.in_range.Statement.{statement}
-use Rattle.settings.proofs.in_range.Tie as tie
+use Rattle.settings.proofs.ranges.in_range.Statement.{statement}
+use Rattle.settings.proofs.ranges.in_range.Tie as tie
 
 returns : tie.Need-returns
 returns c =

@@ -2,8 +2,8 @@
 use mathlib.Core.Path.{_∙_}
 use borrow.Author.Needs.{needs}
 use borrow.Author.Tests.{eq-eqb, ne-eqb}
-use Rattle.settings.proofs.is_more.Statement.{statement}
-use Rattle.settings.proofs.is_more.Tie as tie
+use Rattle.settings.proofs.ranges.is_more.Statement.{statement}
+use Rattle.settings.proofs.ranges.is_more.Tie as tie
 
 cast-if1 : tie.Need-cast-if1
 cast-if1 c = search needs
