@@ -17,6 +17,9 @@ endif
 rig_out := target/rig
 rig_programs := $(addprefix $(rig_out)/bin/,rig rig-stopped compare bench)
 rig_files := $(wildcard rig/*.h) include/undivarro.h rig/rig.mk
+rig_sources := $(addprefix rig/,rig.c play.c new.c show.c setup.c setup_file.c status.c names.c)
+case_sources := $(addprefix rig/,cases.c case_images.c case_bursts.c case_records.c case_values.c random.c)
+compare_sources := $(addprefix rig/,compare.c trial.c plain.c) $(case_sources)
 
 .PHONY: rig rig-test rig-tools bench
 # the program: target/rig/rig
@@ -39,17 +42,17 @@ $(rig_out)/rig: $(rig_out)/bin/rig
 target/staticlib/libundivarro.a: $(wildcard crates/*/src/*.rt crates/*/src/*/*.rt)
 	rt staticlib undivarro
 
-$(rig_out)/bin/rig: rig/rig.c rig/setup_file.c rig/names.c
-$(rig_out)/bin/rig-stopped: rig/rig.c rig/setup_file.c rig/names.c rig/stops.c
+$(rig_out)/bin/rig: $(rig_sources)
+$(rig_out)/bin/rig-stopped: $(rig_sources) rig/stops.c
 $(rig_out)/bin/rig-stopped: RIG_LINK := -Wl,--wrap=write,--wrap=fsync,--wrap=rename
-$(rig_out)/bin/compare: rig/compare.c rig/trial.c rig/cases.c rig/plain.c
+$(rig_out)/bin/compare: $(compare_sources)
 $(rig_out)/bin/bench: rig/bench.c rig/plain.c
 $(rig_programs): $(UNDIVARRO_LIB) $(rig_files) | rig-tools
 	@mkdir -p $(@D)
 	$(X86_CC) $(RIG_FLAGS) -static $(filter %.c,$^) $(UNDIVARRO_LIB) $(RIG_LINK) -o $@
 
 # The plain box alone, for the machine's own processor: the sanitizers do not run under qemu.
-$(rig_out)/bin/sanitized: rig/compare.c rig/trial.c rig/cases.c rig/plain.c $(rig_files) | rig-tools
+$(rig_out)/bin/sanitized: $(compare_sources) $(rig_files) | rig-tools
 	@mkdir -p $(@D)
 	gcc $(RIG_FLAGS) -g -fsanitize=address,undefined -fno-sanitize-recover=all -DPLAIN_ALONE $(filter %.c,$^) -o $@
 

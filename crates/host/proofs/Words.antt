@@ -6,7 +6,7 @@ use Prim.Native.Nat.{ℕ, _+_, _≤_, _<_}
 use native.Mathlib.Omega.{arith}
 use lib.Dec.{eqb}
 use lib.ListN.{length, getD, drop}
-use Rattle.settings.specs.Settings.{foundBy, getCode, setting, allowedFor, mostValues}
+use Rattle.settings.specs.Settings.{foundBy, getCode, setting, allowedFor, rowCount, mostValues}
 use Rattle.settings.specs.declared.Found.{Found}
 use Rattle.settings.specs.declared.Found.the-variants.{Set, Get, Nothing as NoSetting}
 use Rattle.lists.proofs.Both.{both}
@@ -46,7 +46,7 @@ word-found code d f nack nav e = rw (nack, nav, e)
 abbrev Fits : List ℕ → Type 0
 Fits d = (1 ≤ length d) × (length d ≤ mostValues + 1)
 
-report-fits : (row : ℕ) (d : List ℕ) → row < 8 → isReport row d ≡ true → Fits d
+report-fits : (row : ℕ) (d : List ℕ) → row < rowCount → isReport row d ≡ true → Fits d
 unfolding isReport
 report-fits row [] h e = absurd (false≢true e)
 report-fits row (c ∷ values) h e =

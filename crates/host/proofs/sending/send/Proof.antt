@@ -38,7 +38,7 @@ unfolding outputOf
 written out id group d room short = rw (le-leb _ _ room, le-leb _ _ short)
 
 done : (r : Request) (out last bytes : List ℕ) (n : ℕ)
-    → length bytes ≡ 8 → bytes ≡ r .code ∷ r .values → n ≡ min (r .count) mostValues
+    → length bytes ≡ mostValues + 1 → bytes ≡ r .code ∷ r .values → n ≡ min (r .count) mostValues
     → longest ≤ length out → last ≡ outputOf out (r .id) (r .group) (take (n + 1) bytes)
     → (n + 1 + 4 ≡ length (requestPacket r)) × (last ≡ laidOver (requestPacket r) out)
 unfolding requestPacket

@@ -1,0 +1,11 @@
+/* The commands of the rig: each gives its exit status, and has said on standard error what was wrong. */
+#ifndef COMMANDS_H
+#define COMMANDS_H
+
+#include <stddef.h>
+
+int play(const char *path);
+int make_new(const char *path, size_t count, char **panels);
+int show(const char *path);
+
+#endif

@@ -1,0 +1,108 @@
+/* A part of plain.c: the setup image, form 1, read and written. */
+#ifndef PLAIN_IMAGE_H
+#define PLAIN_IMAGE_H
+
+#include <string.h>
+
+#include "plain_panels.h"
+
+enum { FORM = 1, RECORD = 33, START = 2, TRAILER = 2 };    /* bytes of a written record, a start, n and the form byte */
+
+/* One record, put at the end of the wall; its refusal or 0. */
+static uint32_t read_record(const uint8_t *record, size_t len, const struct panel *fresh, struct wall *wall)
+{
+    if (len < 2 || record[0] == 0 || record[1] == 0 || panel_with_id(wall, record[0]))
+        return 16;
+    struct panel *panel = &wall->panels[wall->count];
+    *panel = *fresh;
+    panel->id = record[0];
+    panel->group = record[1];
+
+    unsigned seen = 0;                  /* bit k: settings[k] */
+    for (size_t at = 2; at < len;) {
+        const struct setting *s = setting_by_set_code(record[at]);
+        if (!s || (seen >> (s - settings) & 1))
+            return 17;
+        if (len - at < 2 || record[at + 1] != s->count || len - at - 2 < s->count)
+            return 17;
+        const uint8_t *values = record + at + 2;
+        if (!all_allowed(s, values))
+            return 18;
+        memcpy(panel->values + s->place, values, s->count);
+        seen |= 1u << (s - settings);
+        at += 2 + s->count;
+    }
+    wall->count++;
+    return 0;
+}
+
+static size_t start_at(const uint8_t *starts, size_t k)
+{
+    return (size_t)starts[2 * k] << 8 | starts[2 * k + 1];
+}
+
+static uint32_t read_image(const uint8_t *image, size_t len, struct wall *wall)
+{
+    wall->count = 0;
+    if (len < 2)
+        return 11;
+    if (image[len - 1] != FORM)
+        return 12;
+    size_t n = image[len - 2];
+    if (n > UNDIVARRO_MAX_PANELS)
+        return 13;
+    if (len < 2 * n + 2)
+        return 14;
+
+    size_t records_len = len - 2 - 2 * n;
+    const uint8_t *starts = image + records_len;
+    if (n == 0)
+        return records_len == 0 ? 0 : 15;
+    if (start_at(starts, 0) != 0)
+        return 15;
+    for (size_t k = 0; k < n; k++) {
+        if (start_at(starts, k) >= records_len)
+            return 15;
+        if (k > 0 && start_at(starts, k) <= start_at(starts, k - 1))
+            return 15;
+    }
+
+    struct panel fresh = fresh_panel();
+    for (size_t k = 0; k < n; k++) {
+        size_t start = start_at(starts, k);
+        size_t end = k + 1 < n ? start_at(starts, k + 1) : records_len;
+        uint32_t refusal = read_record(image + start, end - start, &fresh, wall);
+        if (refusal)
+            return refusal;
+    }
+    return 0;
+}
+
+static size_t image_len_of(const struct wall *wall)
+{
+    return (RECORD + START) * wall->count + TRAILER;
+}
+
+/* out has room for image_len_of(wall) bytes. */
+static void write_image(const struct wall *wall, uint8_t *out)
+{
+    uint8_t *to = out;
+    uint8_t *start = out + RECORD * wall->count;
+    for (size_t k = 0; k < wall->count; k++) {
+        const struct panel *panel = &wall->panels[k];
+        *start++ = (uint8_t)((to - out) >> 8);
+        *start++ = (uint8_t)(to - out);
+        *to++ = panel->id;
+        *to++ = panel->group;
+        for (const struct setting *s = settings; s < settings + SETTINGS; s++) {
+            *to++ = s->set_code;
+            *to++ = s->count;
+            memcpy(to, panel->values + s->place, s->count);
+            to += s->count;
+        }
+    }
+    *start++ = (uint8_t)wall->count;
+    *start = FORM;
+}
+
+#endif

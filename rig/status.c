@@ -1,0 +1,24 @@
+#include "status.h"
+
+#include <errno.h>
+#include <stdio.h>
+#include <string.h>
+
+#include "names.h"
+
+int refused(const char *path, uint32_t refusal)
+{
+    fprintf(stderr, "rig: %s: refusal %u: %s\n", path, (unsigned)refusal, refusal_words(refusal));
+    return REFUSED;
+}
+
+int not_done(const char *what, const char *path)
+{
+    fprintf(stderr, "rig: cannot %s %s: %s\n", what, path, strerror(errno));
+    return BAD;
+}
+
+int printed(void)
+{
+    return fflush(stdout) == 0 && !ferror(stdout) ? DONE : not_done("write to", "standard output");
+}

@@ -1,0 +1,18 @@
+/* Exit statuses, and the messages that go with them. */
+#ifndef STATUS_H
+#define STATUS_H
+
+#include <stdint.h>
+
+enum { DONE = 0, REFUSED = 1, BAD = 2 };
+
+/* The library refused the image at path. */
+int refused(const char *path, uint32_t refusal);
+
+/* A call of the system failed; errno says why. */
+int not_done(const char *what, const char *path);
+
+/* What was printed has left the program. */
+int printed(void);
+
+#endif
