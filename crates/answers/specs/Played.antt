@@ -39,13 +39,10 @@ abbrev pub playedPacket : Wall → MonitorId → GroupId → Command → Outcome
 playedPacket w i g c = record { wall = map (turned i g c) w; reply = cond (isHeard i g) (replyFrom w i c (placeOf i w)) silence }
 
 -- NACK if there are at least 3 bytes, the third is 0 and the second is a panel's ID
-abbrev pub nackTo : MonitorId → Place → Reply
-nackTo i place = ifThere place (wordFrom i Nack) silence
-
 unfoldable pub damagedReply : Wall → List ℕ → Reply
 damagedReply w burst =
     let i = monitorId (getD burst 1 0) in
-    cond (leb 3 (length burst) && eqb (getD burst 2 0) 0) (nackTo i (placeOf i w)) silence
+    cond (leb 3 (length burst) && eqb (getD burst 2 0) 0) (ifThere (placeOf i w) (wordFrom i Nack) silence) silence
 
 abbrev pub playedBy : Verdict → Wall → List ℕ → Outcome
 playedBy Empty w burst = record { wall = w; reply = silence }

@@ -4,7 +4,7 @@ use mathlib.Core.Bool.{Bool, true, false, cond, false≢true}
 use mathlib.Core.Logic.{inl, inr}
 use mathlib.Core.Path.{_≡_, refl, sym, ap, _∙_}
 use mathlib.Core.List.{List, [], _∷_, flatten}
-use lib.Dec.{leb, ltb}
+use lib.Dec.{leb, ltb, eqb}
 use lib.ListN.{length, getD, drop}
 use Rattle.lists.proofs.Laid.{behind-over}
 use Rattle.packet.specs.Answered.{isHeard}
@@ -21,7 +21,7 @@ use Rattle.panels.specs.declared.Refusal.{Refusal}
 use Rattle.panels.specs.declared.Refusal.the-variants.{Nothing, Full, IdZero, IdTaken, GroupZero, NoPanel}
 use Rattle.panels.specs.Wall.{Wall, blank, placeOf, panelsOf}
 use Rattle.panels.specs.Addressed.{reaches}
-use Rattle.panels.specs.Calls.{ifThere, addRefusal, unlessRefused, added, without, removed}
+use Rattle.panels.specs.Calls.{refusalOf as tableNumber, ifThere, addRefusal, added, without, removed}
 use Rattle.answers.specs.declared.Sent.the-variants.{Bytes, NoRoom}
 use Rattle.answers.specs.Reply.{sentBytes, sentOf, bytesSent, outputOf as answerOutput}
 use Rattle.answers.specs.Judged.{command}
@@ -52,7 +52,7 @@ pub add-refused : AddRefused
 unfolding added
 add-refused w i g refused = go (addRefusal w i g) _ refused
   where
-    go : (r : Refusal) (then : Wall) → (r ≡ Nothing → ⊥) → unlessRefused r then w ≡ w
+    go : (r : Refusal) (then : Wall) → (r ≡ Nothing → ⊥) → cond (eqb (tableNumber r) 0) then w ≡ w
     go Nothing then n = absurd (n refl)
     go Full then n = refl
     go IdZero then n = refl

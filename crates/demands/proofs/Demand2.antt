@@ -6,6 +6,7 @@ use mathlib.Core.Path.{_≡_, refl, ap, _∙_}
 use mathlib.Core.List.{List, [], map}
 use lib.Dec.{leb, eqb}
 use lib.ListN.{length, getD, length-map, List·getD-map}
+use Rattle.panels.specs.Calls.{ifThere}
 use Rattle.settings.specs.Settings.{allowedFor}
 use Rattle.packet.specs.declared.MonitorId.{MonitorId}
 use Rattle.packet.specs.declared.GroupId.{GroupId}
@@ -23,9 +24,9 @@ use Rattle.panels.specs.WellFormed.{GoodPanel, GoodWall}
 use Rattle.panels.proofs.Laws.{place-there}
 use Rattle.lists.proofs.Places.{getD-inside}
 use Rattle.panels.proofs.Formed.{empty-formed, added-formed, removed-formed, good-at}
-use Rattle.answers.specs.Reply.{silence}
+use Rattle.answers.specs.Reply.{silence, wordFrom}
 use Rattle.answers.specs.Judged.{Command, getOf, setOf, unavailable, command, judge, panelAfter, stored, taken, notAvailable, replyBy}
-use Rattle.answers.specs.Played.{turned, replyFrom, nackTo, damagedReply, playedBy, played}
+use Rattle.answers.specs.Played.{turned, replyFrom, damagedReply, playedBy, played}
 use Rattle.answers.proofs.Formed.{stored-own, stored-others, played-formed}
 use Rattle.demands.proofs.Cases.{p-cases}
 use Rattle.image_read.specs.declared.Read.{Read}
@@ -112,11 +113,11 @@ packet-answer : (w : Wall) (i : MonitorId) (c : Command) (t : Bool) → Answer·
 packet-answer w i c true = heard-answer w i c (placeOf i w) refl
 packet-answer w i c false = inl refl
 
-nack-answer : (w : Wall) (i : MonitorId) (q : Place) → Answer·Is w (nackTo i q)
+nack-answer : (w : Wall) (i : MonitorId) (q : Place) → Answer·Is w (ifThere q (wordFrom i Nack) silence)
 nack-answer w i Nowhere = inl refl
 nack-answer w i (At k) = inr (inl (i, Nack, refl))
 
-damaged-answer : (w : Wall) (i : MonitorId) (q : Place) (t : Bool) → Answer·Is w (cond t (nackTo i q) silence)
+damaged-answer : (w : Wall) (i : MonitorId) (q : Place) (t : Bool) → Answer·Is w (cond t (ifThere q (wordFrom i Nack) silence) silence)
 damaged-answer w i q true = nack-answer w i q
 damaged-answer w i q false = inl refl
 

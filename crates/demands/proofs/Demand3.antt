@@ -6,6 +6,8 @@ use mathlib.Core.Path.{_≡_, refl, sym, ap, subst, _∙_}
 use mathlib.Core.List.{List, [], _∷_, _++_, map, append-assoc, append-nil}
 use lib.Dec.{leb, eqb}
 use lib.ListN.{length, getD}
+use Rattle.packet.specs.declared.Control.the-variants.{Nack}
+use Rattle.panels.specs.Calls.{ifThere}
 use Rattle.packet.specs.declared.MonitorId.{MonitorId}
 use Rattle.packet.specs.declared.Verdict.the-variants.{Damaged}
 use Rattle.packet.specs.Packet.{monitorId, verdictOf}
@@ -15,14 +17,14 @@ use Rattle.panels.specs.declared.Place.{Place}
 use Rattle.panels.specs.declared.Place.the-variants.{At, Nowhere}
 use Rattle.panels.specs.Wall.{Wall, placeOf}
 use Rattle.answers.specs.declared.Reply.{Reply}
-use Rattle.answers.specs.Reply.{silence}
-use Rattle.answers.specs.Played.{Outcome, nackTo, damagedReply, played}
+use Rattle.answers.specs.Reply.{silence, wordFrom}
+use Rattle.answers.specs.Played.{Outcome, damagedReply, played}
 use Rattle.line.specs.Session.{byBurst, Ended, session, Event, byte, quiet, burstsAfter, receiverOf, streamed}
 use Rattle.answers.proofs.Bursts.{played-damaged}
 use Rattle.line.proofs.Streams.{stream-after}
 use Rattle.demands.specs.Demand3.{whole, spoilt, sent, kept, SilenceOrNack, AsIfNeverSent, Withstands, Demand3, onLine, Demand3·line}
 
-nack-or-silent : (i : MonitorId) (q : Place) → SilenceOrNack (nackTo i q)
+nack-or-silent : (i : MonitorId) (q : Place) → SilenceOrNack (ifThere q (wordFrom i Nack) silence)
 nack-or-silent i Nowhere = inl refl
 nack-or-silent i (At k) = inr (i, refl)
 
@@ -30,7 +32,7 @@ damaged-answer : (w : Wall) (b : List ℕ) → SilenceOrNack (damagedReply w b)
 unfolding damagedReply
 damaged-answer w b = go (leb 3 (length b) && eqb (getD b 2 0) 0)
   where
-    go : (t : Bool) → SilenceOrNack (cond t (nackTo (monitorId (getD b 1 0)) (placeOf (monitorId (getD b 1 0)) w)) silence)
+    go : (t : Bool) → SilenceOrNack (cond t (ifThere (placeOf (monitorId (getD b 1 0)) w) (wordFrom (monitorId (getD b 1 0)) Nack) silence) silence)
     go true = nack-or-silent _ (placeOf _ w)
     go false = inl refl
 

@@ -36,7 +36,13 @@ bytesOf m = flatten (m .sent)
 
 -- what a call answers for a move; behind the values of a report stand zeros
 unfoldable pub stepOf : Move → Step
-stepOf m = record { host = hostOf (m .next); length = length (bytesOf m); outcome = m .outcome; values = laidOver (m .values) (replicate mostValues 0); count = length (m .values) }
+stepOf m = record {
+  host = hostOf (m .next);
+  length = length (bytesOf m);
+  outcome = m .outcome;
+  values = laidOver (m .values) (replicate mostValues 0);
+  count = length (m .values);
+}
 
 -- A call that was lent an output answers a move: with that step, and the bytes given out at the front of the output.
 abbrev pub Answers : Move → List ℕ → Step → List ℕ → Type 0

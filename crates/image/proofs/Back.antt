@@ -21,8 +21,8 @@ use Rattle.image_read.specs.declared.Read.{Read}
 use Rattle.image_write.specs.Written.{field, fieldsOf, recordOf, recordsOf, imageOf, sizeOf, outputOf}
 use Rattle.image_read.specs.Fields.{fieldsIn}
 use Rattle.image_read.specs.Read.{Reading, headFits, recordRefusal, panelIn, readRecords, readOf, inTable}
-use Rattle.image_read.specs.Entries.{Entry, entryBytes, bytesOf, Without, givenOr, given}
-use Rattle.image_read.specs.Private.Walk.{entryOf}
+use Rattle.image_read.specs.Entries.{Entry, bytesOf, Without, givenOr, given}
+use Rattle.image_read.specs.Private.Walk.{entryBytes, entryOf}
 use Rattle.lists.proofs.Each.{each-alike, map-each}
 use Rattle.panels.proofs.Values.{length-values}
 use Rattle.image_write.proofs.Lengths.{record-at, record-length, records-long, image-length}

@@ -16,12 +16,9 @@ pub record Entry : Type 0 where
   pub code : ℕ
   pub values : List ℕ
 
-abbrev pub entryBytes : Entry → List ℕ
-entryBytes e = e .code ∷ length (e .values) ∷ e .values
-
 unfoldable pub bytesOf : List Entry → List ℕ
 unfolding flatten
-bytesOf es = flatten (map entryBytes es)
+bytesOf es = flatten (map (λ (e : Entry). e .code ∷ length (e .values) ∷ e .values) es)
 
 -- a row's field at its fresh values
 abbrev pub freshEntry : ℕ → Entry

@@ -11,19 +11,16 @@ use Rattle.panels.specs.Wall.{Wall, valuesOf}
 use Rattle.image_write.specs.declared.Written.{Written}
 use Rattle.image_write.specs.declared.Written.the-variants.{Bytes, NoRoom}
 
--- how many bytes stand before a field's values (set code and length), and before a record's fields (ID and group)
+-- how many bytes stand before a field's values: set code and length
 abbrev pub fieldHead : ℕ
 fieldHead = 2
 
-abbrev pub recordHead : ℕ
-recordHead = 2
-
--- how many the fields of a record have, the record, and a panel in all: its record and the two bytes of its start
+-- how many the fields of a record have, the record with ID and group, and a panel in all, with the two bytes of its start
 abbrev pub fieldsSize : ℕ
 fieldsSize = fieldHead * rowCount + valueCount
 
 abbrev pub recordSize : ℕ
-recordSize = recordHead + fieldsSize
+recordSize = 2 + fieldsSize
 
 abbrev pub panelSize : ℕ
 panelSize = recordSize + 2

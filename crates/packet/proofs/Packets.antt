@@ -1,14 +1,14 @@
 -- What an intact burst has, and that a packet written out is intact and reads back. Assumes nothing.
 use mathlib.Core.Path.{_≡_, refl, sym, ap, _∙_}
 use mathlib.Core.Bool.{Bool, true, false, false≢true, _&&_}
-use mathlib.Core.List.{List}
+use mathlib.Core.List.{List, _∷_}
 use Prim.Native.Nat.{ℕ, _+_, _-_, _≤_}
 use native.Mathlib.Omega.{arith}
 use borrow.Author.Tests.{leb-true, le-leb, eqb-true, eq-eqb, ne-eqb}
 use lib.ListN.{length, getD, length-append}
 use lib.Seq.{take-append-seam}
 use Rattle.packet.specs.Xor.{xorAll}
-use Rattle.packet.specs.Packet.{monitorId, groupId, isIntact, verdictOf, dataOf, unsummed, packetOf, mostData, longest}
+use Rattle.packet.specs.Packet.{monitorId, groupId, isIntact, verdictOf, dataOf, packetOf, mostData, longest, shortest}
 use Rattle.packet.specs.declared.MonitorId.{MonitorId}
 use Rattle.packet.specs.declared.GroupId.{GroupId}
 use Rattle.packet.specs.declared.Verdict.the-variants.{Intact}
@@ -54,7 +54,7 @@ module _ (id : MonitorId) (group : GroupId) (d : List ℕ) (short : length d ≤
     least = simp length-append (omega arith);
     most = simp length-append (omega arith);
     size = sym packet-length;
-    sum = xorAll-append (unsummed id group d) _ ∙ (unfold xorAll in rw ⊕-zero (⊕-self _));
+    sum = xorAll-append ((length d + shortest) ∷ id .0 ∷ group .0 ∷ d) _ ∙ (unfold xorAll in rw ⊕-zero (⊕-self _));
   })
 
   pub packet-verdict : verdictOf (packetOf id group d) ≡ Intact id group (length d)

@@ -47,11 +47,8 @@ dataOf burst Damaged = []
 dataOf burst (Intact id group n) = cond (eqb (length burst) (n + shortest)) (take n (drop 3 burst)) []
 
 -- a packet written out: size and checksum are computed
-abbrev pub unsummed : MonitorId → GroupId → List ℕ → List ℕ
-unsummed id group d = (length d + shortest) ∷ id .0 ∷ group .0 ∷ d
-
 unfoldable pub packetOf : MonitorId → GroupId → List ℕ → List ℕ
-packetOf id group d = unsummed id group d ++ xorAll (unsummed id group d) ∷ []
+packetOf id group d = let bytes = (length d + shortest) ∷ id .0 ∷ group .0 ∷ d in bytes ++ xorAll bytes ∷ []
 
 -- what writing answers: the output has room for any packet, and a packet for the data
 unfoldable pub writtenOf : List ℕ → List ℕ → Written

@@ -18,7 +18,7 @@ use Rattle.panels.specs.declared.Place.the-variants.{At, Nowhere}
 use Rattle.panels.specs.declared.Refusal.{Refusal}
 use Rattle.panels.specs.declared.Refusal.the-variants.{Nothing, Full, IdZero, IdTaken, GroupZero, NoPanel}
 use Rattle.panels.specs.Wall.{Wall, blank, freshPanel, tableOf, panelsOf, placeFrom, placeOf, mostPanels}
-use Rattle.panels.specs.Calls.{ifThere, addRefusal, unlessRefused, added, without, removed}
+use Rattle.panels.specs.Calls.{refusalOf, ifThere, addRefusal, added, without, removed}
 use Rattle.panels.specs.WellFormed.{GoodPanel, Absent, GoodWall, WellFormed}
 use Rattle.panels.proofs.Laws.{panels-of-table}
 
@@ -101,7 +101,7 @@ may-add w i g e = go (leb mostPanels (length w)) (eqb (i .0) 0) (placeOf i w) (e
         record { room = leb-false _ _ ea; named = eqb-false _ _ eb; new = eq; grouped = eqb-false _ _ ec }
 
 good-added : (w : Wall) (i : MonitorId) (g : GroupId) (r : Refusal) → length w ≤ mostPanels → GoodWall w → addRefusal w i g ≡ r
-    → WellFormed (tableOf (unlessRefused r (w ++ freshPanel i g ∷ []) w))
+    → WellFormed (tableOf (cond (eqb (refusalOf r) 0) (w ++ freshPanel i g ∷ []) w))
 good-added w i g Nothing few good e =
     let m = may-add w i g e in
     formed _ (simp length-append (omega arith)) (good-snoc w _ good (fresh-good i g (m .named) (m .grouped)) (nowhere-absent i 0 w (m .new)))

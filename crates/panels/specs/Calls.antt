@@ -31,12 +31,9 @@ addRefusal w i g =
     cond (leb mostPanels (length w)) Full
     (cond (eqb (i .0) 0) IdZero (ifThere (placeOf i w) IdTaken (cond (eqb (g .0) 0) GroupZero Nothing)))
 
-abbrev pub unlessRefused : Refusal → Wall → Wall → Wall
-unlessRefused r then w = cond (eqb (refusalOf r) 0) then w
-
--- a fresh panel at the end
+-- a fresh panel at the end, unless it is refused
 unfoldable pub added : Wall → MonitorId → GroupId → Wall
-added w i g = unlessRefused (addRefusal w i g) (w ++ freshPanel i g ∷ []) w
+added w i g = cond (eqb (refusalOf (addRefusal w i g)) 0) (w ++ freshPanel i g ∷ []) w
 
 abbrev pub addedTo : Wall → MonitorId → GroupId → Changed
 addedTo w i g = record { refusal = addRefusal w i g; table = tableOf (added w i g) }

@@ -27,18 +27,16 @@ a to b = record { low = a; high = b } ∷ []
 abbrev pub row : ℕ → ℕ → List (List Range) → List ℕ → Setting
 row s g a f = record { set = s; get = g; allowed = a; fresh = f }
 
--- 01's rows: power, video (six of 0 to 100, gamma 1 to 5), colour temperature, treble and bass, fan, cold start, APM, power
--- saving
 unfoldable pub settings : List Setting
 settings =
-    row 0x18 0x19 (1 to 2 ∷ []) (2 ∷ [])
-    ∷ row 0x32 0x33 (replicate 6 (0 to 100) ++ 1 to 5 ∷ []) (replicate 6 50 ++ 3 ∷ [])
-    ∷ row 0x34 0x35 ((0 to 1 ++ 3 to 6 ++ 9 to 10 ++ 13 to 13) ∷ []) (1 ∷ [])
-    ∷ row 0x42 0x43 (0 to 100 ∷ 0 to 100 ∷ []) (50 ∷ 50 ∷ [])
-    ∷ row 0x61 0x62 (0 to 4 ∷ []) (1 ∷ [])
-    ∷ row 0xA3 0xA4 (0 to 2 ∷ []) (2 ∷ [])
-    ∷ row 0xD0 0xD1 (0 to 3 ∷ []) (0 ∷ [])
-    ∷ row 0xDD 0xDE (0 to 3 ∷ []) (0 ∷ [])
+    row 0x18 0x19 (1 to 2 ∷ []) (2 ∷ [])  -- power
+    ∷ row 0x32 0x33 (replicate 6 (0 to 100) ++ 1 to 5 ∷ []) (replicate 6 50 ++ 3 ∷ [])  -- video: six of 0 to 100, gamma 1 to 5
+    ∷ row 0x34 0x35 ((0 to 1 ++ 3 to 6 ++ 9 to 10 ++ 13 to 13) ∷ []) (1 ∷ [])  -- colour temperature
+    ∷ row 0x42 0x43 (0 to 100 ∷ 0 to 100 ∷ []) (50 ∷ 50 ∷ [])  -- treble, bass
+    ∷ row 0x61 0x62 (0 to 4 ∷ []) (1 ∷ [])  -- fan
+    ∷ row 0xA3 0xA4 (0 to 2 ∷ []) (2 ∷ [])  -- cold start
+    ∷ row 0xD0 0xD1 (0 to 3 ∷ []) (0 ∷ [])  -- APM
+    ∷ row 0xDD 0xDE (0 to 3 ∷ []) (0 ∷ [])  -- power saving
     ∷ []
 
 -- how many they are, how many value bytes they have in all, which are a panel's, and how many one has at most

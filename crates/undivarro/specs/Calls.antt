@@ -24,7 +24,11 @@ refused number answer out = record { outcome = record { refusal = number; answer
 
 -- an answer and an image at the front of the buffers, and their lengths; the bytes past them are untouched
 abbrev pub given : List ℕ → List ℕ → List ℕ → List ℕ → After
-given sent setup answer out = record { outcome = record { refusal = 0; answered = length sent; written = length setup }; answer = laidOver sent answer; out = laidOver setup out }
+given sent setup answer out = record {
+  outcome = record { refusal = 0; answered = length sent; written = length setup };
+  answer = laidOver sent answer;
+  out = laidOver setup out;
+}
 
 -- reading faults are 11 to 18; then 19 where there is no room
 unfoldable pub refusalFor : Refusal → Bool → ℕ

@@ -1,8 +1,9 @@
--- A record on the way through the reader: a field that is taken, and the wall with its panel; a row's field among some values.
+-- A record on the way through the reader: a field that is taken, and the wall with its panel; a row's field among some values, and
+-- a field's bytes.
 use Prim.Native.Nat.{ℕ, _+_}
 use mathlib.Core.Bool.{Bool, true}
 use mathlib.Core.List.{List, [], _∷_, _++_}
-use lib.ListN.{drop, set}
+use lib.ListN.{length, drop, set}
 use Rattle.settings.specs.Settings.{setCode, byteCount}
 use Rattle.panels.specs.Wall.{Wall, valuesOf}
 use Rattle.image_read.specs.Read.{panelIn}
@@ -19,3 +20,6 @@ wallWith w bytes = w ++ panelIn bytes ∷ []
 
 abbrev pub entryOf : ℕ → List ℕ → Entry
 entryOf row values = record { code = setCode row; values = valuesOf row values }
+
+abbrev pub entryBytes : Entry → List ℕ
+entryBytes e = e .code ∷ length (e .values) ∷ e .values

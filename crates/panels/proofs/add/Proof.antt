@@ -1,11 +1,11 @@
 -- A refusal leaves the table as it is; otherwise a fresh panel stands behind the last. Assumes nothing.
 use mathlib.Core.Path.{_≡_, sym, ap, _∙_}
 use mathlib.Core.List.{_∷_, [], _++_}
-use mathlib.Core.Bool.{false}
+use mathlib.Core.Bool.{false, cond}
 use native.Mathlib.Omega.{arith}
 use borrow.Author.Needs.{needs}
 use borrow.Author.Tests.{le-leb, lt-leb, eq-eqb, ne-eqb}
-use lib.Dec.{leb}
+use lib.Dec.{leb, eqb}
 use lib.ListN.{length}
 use Rattle.packet.specs.declared.MonitorId.{MonitorId}
 use Rattle.packet.specs.declared.GroupId.{GroupId}
@@ -14,13 +14,13 @@ use Rattle.panels.specs.declared.Table.{Table}
 use Rattle.panels.specs.declared.Changed.{Changed}
 use Rattle.panels.specs.declared.Refusal.{Refusal}
 use Rattle.panels.specs.Wall.{panelsOf, tableOf, freshPanel, mostPanels}
-use Rattle.panels.specs.Calls.{addRefusal, unlessRefused, added, addedTo}
+use Rattle.panels.specs.Calls.{refusalOf, addRefusal, added, addedTo}
 use Rattle.panels.proofs.Laws.{count-is, grown}
 use Rattle.panels.proofs.add.Statement.{statement}
 use Rattle.panels.proofs.add.Tie as tie
 
 answered : (t : Table) {u : Table} (i : MonitorId) (g : GroupId) (r : Refusal) → addRefusal (panelsOf t) i g ≡ r
-    → u ≡ tableOf (unlessRefused r (panelsOf t ++ freshPanel i g ∷ []) (panelsOf t))
+    → u ≡ tableOf (cond (eqb (refusalOf r) 0) (panelsOf t ++ freshPanel i g ∷ []) (panelsOf t))
     → _≡_ {A = Changed} (record { refusal = r; table = u }) (addedTo (panelsOf t) i g)
 unfolding added
 answered t i g r e k = rw (e, k)

@@ -4,11 +4,13 @@ use mathlib.Core.List.{List}
 use Prim.Native.Nat.{ℕ, _≤_, _<_}
 use borrow.Author.Tests.{le-leb, lt-leb, eq-eqb, ne-eqb}
 use lib.ListN.{length, getD}
+use Rattle.packet.specs.declared.Control.the-variants.{Nack}
+use Rattle.panels.specs.Calls.{ifThere}
 use Rattle.packet.specs.Packet.{monitorId}
 use Rattle.panels.specs.declared.Place.{Place}
 use Rattle.panels.specs.Wall.{Wall, placeOf}
-use Rattle.answers.specs.Reply.{silence}
-use Rattle.answers.specs.Played.{nackTo, damagedReply}
+use Rattle.answers.specs.Reply.{silence, wordFrom}
+use Rattle.answers.specs.Played.{damagedReply}
 use borrow.Author.Needs.{needs}
 use Rattle.answers.proofs.playing.damaged_reply.Statement.{statement}
 use Rattle.answers.proofs.playing.damaged_reply.Tie as tie
@@ -22,7 +24,7 @@ unfolding damagedReply
 grouped w b h n = simp (le-leb _ _ h, ne-eqb _ _ n)
 
 for-panel : (w : Wall) (b : List ℕ) (q : Place) → 3 ≤ length b → getD b 2 0 ≡ 0 → placeOf (monitorId (getD b 1 0)) w ≡ q
-    → nackTo (monitorId (getD b 1 0)) q ≡ damagedReply w b
+    → ifThere q (wordFrom (monitorId (getD b 1 0)) Nack) silence ≡ damagedReply w b
 unfolding damagedReply
 for-panel w b q h e p = simp (le-leb _ _ h, eq-eqb _ _ e, p)
 
