@@ -56,8 +56,9 @@ image() {
     for byte in $*; do printf "\\x$byte"; done >"$file"
 }
 
-for part in program keeping comparison; do
+for part in comparison program keeping; do
     . "$parts/test_$part.sh" || exit 2
 done
+comparison_tests
 echo "$passed passed, $failed failed"
 [ "$failed" -eq 0 ]
