@@ -36,11 +36,12 @@ use Rattle.line.specs.Session.{byBurst, session}
 use Rattle.answers.proofs.Formed.{stored-twice, played-good}
 use Rattle.answers.proofs.Turns.{stays}
 use Rattle.answers.specs.Reply.{wordFrom, reportFrom, sentBytes}
-use Rattle.host.specs.declared.Request.{Request}
-use Rattle.host.specs.declared.Said.the-variants.{Report}
-use Rattle.host.specs.Request.{requestData, requestPacket, isTaken, isRequest}
+use Rattle.requests.specs.declared.Request.{Request}
+use Rattle.requests.specs.declared.Said.the-variants.{Report}
+use Rattle.requests.specs.Request.{requestData, requestPacket, isTaken, isRequest}
 use Rattle.lists.specs.Lists.{same}
-use Rattle.host.specs.Heard.{isControl, isReport, endedBy, wordIn, saidBy, saidTo}
+use Rattle.requests.specs.Said.{isControl, isReport, endedBy, wordIn}
+use Rattle.host.specs.Heard.{saidBy, saidTo}
 use Rattle.host.specs.Machine.{start, burst, State, idle, begun, ending, heard, step}
 use Rattle.host.proofs.Lasting.{packet-reads}
 use Rattle.demands.specs.HostAndBox.{SentAgain, EndsWith, Lossless}

@@ -16,9 +16,9 @@ use Rattle.answers.specs.Reply.{sentBytes}
 use Rattle.answers.specs.Played.{played}
 use Rattle.line.specs.Session.{session}
 use Rattle.packet.specs.Answered.{isHeard}
-use Rattle.host.specs.declared.Request.{Request}
+use Rattle.requests.specs.declared.Request.{Request}
 use Rattle.host.specs.declared.Outcome.the-variants.{Ack, Report}
-use Rattle.host.specs.Request.{requestPacket, isRequest}
+use Rattle.requests.specs.Request.{requestPacket, isRequest}
 use Rattle.host.specs.Machine.{start, burst, Move, idle, over, step}
 
 -- A burst, and so a set, leaves the same table however often it is sent.

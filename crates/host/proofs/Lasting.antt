@@ -17,10 +17,10 @@ use Rattle.packet.specs.Answered.{isHeard}
 use Rattle.packet.specs.Packet.{verdictOf, mostData}
 use Rattle.packet.specs.declared.Verdict.the-variants.{Intact}
 use Rattle.packet.proofs.Packets.{packet-verdict, packet-data}
-use Rattle.host.specs.declared.Request.{Request}
-use Rattle.host.specs.declared.Said.{Said}
-use Rattle.host.specs.declared.Said.the-variants.{Ack, Nack, Nav, Report, Nothing}
-use Rattle.host.specs.Request.{requestData, requestPacket, isRequest}
+use Rattle.requests.specs.declared.Request.{Request}
+use Rattle.requests.specs.declared.Said.{Said}
+use Rattle.requests.specs.declared.Said.the-variants.{Ack, Nack, Nav, Report, Nothing}
+use Rattle.requests.specs.Request.{requestData, requestPacket, isRequest}
 use Rattle.host.specs.Heard.{saidTo, dataIn}
 use Rattle.host.specs.Machine.{Happening, start, burst, mark, State, Move, idle, sendings, mostSendings, waits, begun, again, ending, heard, step}
 use Rattle.host.specs.Private.Lasting.{run, after, lasts, isNack, pushes, pushed, packets, countIn}

@@ -1,6 +1,5 @@
--- `Words` has what data says, `Moves` when a call answers which move, `Answers` what a call's plain answers mean; `Lasting` has
+-- `Moves` has when a call answers which move, `Answers` what a call's plain answers mean; `Lasting` has
 -- the theorems on a request's end, its packets and its count, `Runs` that calls one after the other are the machine's run.
-pub mod Words
 pub mod Moves
 pub mod Answers
 pub mod Lasting

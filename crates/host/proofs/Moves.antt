@@ -18,10 +18,11 @@ use Rattle.packet.proofs.Verdict.{the-type}
 use Rattle.host.specs.declared.Host.{Host}
 use Rattle.host.specs.declared.Refusal.the-variants.{NoRoom, Busy, NotARequest}
 use Rattle.host.specs.declared.Outcome.the-variants.{Idle, Waiting, Refused}
-use Rattle.host.specs.declared.Request.{Request}
-use Rattle.host.specs.declared.Said.the-variants.{Nothing}
-use Rattle.host.specs.Request.{isRequest}
-use Rattle.host.specs.Heard.{wordIn, saidBy, saidTo, dataIn}
+use Rattle.requests.specs.declared.Request.{Request}
+use Rattle.requests.specs.declared.Said.the-variants.{Nothing}
+use Rattle.requests.specs.Request.{isRequest}
+use Rattle.requests.specs.Said.{wordIn}
+use Rattle.host.specs.Heard.{saidBy, saidTo, dataIn}
 use Rattle.host.specs.Machine.{Happening, start, burst, mark, State, quiet, begun, again, ending, heard, step}
 use Rattle.host.specs.Calls.{stateOf, call}
 

@@ -13,7 +13,7 @@ use Rattle.host.specs.declared.Step.{Step}
 use Rattle.host.specs.declared.Refusal.{Refusal}
 use Rattle.host.specs.declared.Refusal.the-variants.{NoRoom, Busy, NotARequest}
 use Rattle.host.specs.declared.Outcome.the-variants.{Refused}
-use Rattle.host.specs.Request.{requestPacket}
+use Rattle.requests.specs.Request.{requestPacket}
 use Rattle.host.specs.Machine.{Happening, State, Move, quiet, step}
 
 -- 01's numbers

@@ -1,6 +1,5 @@
--- What is right of the host side. `Request` is a request and its packet, `Heard` what a burst says to the host that waits,
+-- What is right of the host side. `Heard` what a burst says to the host that waits,
 -- `Machine` the host as a machine over happenings, `Calls` what each call answers.
-pub mod Request
 pub mod Heard
 pub mod Machine
 pub mod Calls

@@ -7,13 +7,13 @@ use lib.Dec.{ltb}
 use Rattle.settings.specs.Settings.{mostValues}
 use Rattle.packet.specs.Answered.{isHeard}
 use Rattle.packet.specs.Packet.{monitorId, groupId}
-use Rattle.host.specs.declared.Request.{Request}
+use Rattle.requests.specs.declared.Request.{Request}
 use Rattle.host.specs.declared.Refusal.the-variants.{Busy, NotARequest}
 use Rattle.host.specs.declared.Outcome.{Outcome}
 use Rattle.host.specs.declared.Outcome.the-variants.{Idle, Waiting, Unheard, Ack as Acked, Nav as NotAvailable, Report as Reported, GivenUp, Refused}
-use Rattle.host.specs.declared.Said.{Said}
-use Rattle.host.specs.declared.Said.the-variants.{Ack, Nack, Nav, Report, Nothing}
-use Rattle.host.specs.Request.{isRequest, requestPacket}
+use Rattle.requests.specs.declared.Said.{Said}
+use Rattle.requests.specs.declared.Said.the-variants.{Ack, Nack, Nav, Report, Nothing}
+use Rattle.requests.specs.Request.{isRequest, requestPacket}
 use Rattle.host.specs.Heard.{saidTo, dataIn}
 
 -- A request is started, a burst is heard, or the mark says that 500 ms have passed.

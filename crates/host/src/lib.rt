@@ -9,19 +9,11 @@ ghost use Rattle.host.specs.Private.Steps.{plainStep};
 use packet::GroupId;
 use packet::LONGEST;
 use packet::MonitorId;
+use requests::Request;
 use settings::MOST_VALUES;
 
 // A packet is sent at most so often.
 const MOST_SENDINGS: usize = 3;
-
-// A set with its values or a get. The first count of the values are the request's; the others mean nothing.
-pub struct Request {
-    pub id: MonitorId,
-    pub group: GroupId,
-    pub code: u8,
-    pub values: [u8; MOST_VALUES],
-    pub count: usize,
-}
 
 // The request that waits and how often its packet was sent. Nothing waits where that is 0.
 pub struct Host {
@@ -56,15 +48,6 @@ pub struct Step {
     pub outcome: Outcome,
     pub values: [u8; MOST_VALUES],
     pub count: usize,
-}
-
-// What the data of a burst says to the host that waits.
-pub enum Said {
-    Ack,
-    Nack,
-    Nav,
-    Report,
-    Nothing,
 }
 
 // The paper's number for a refusal.
@@ -121,7 +104,7 @@ impl Host {
         if self.sendings != 0 {
             return plain(self, 0, Outcome::Refused(Refusal::Busy));
         }
-        if !sending::is_request(request) {
+        if !requests::is_request(request) {
             return plain(self, 0, Outcome::Refused(Refusal::NotARequest));
         }
         sending::begin(request, out)

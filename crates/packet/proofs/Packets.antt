@@ -7,8 +7,10 @@ use native.Mathlib.Omega.{arith}
 use borrow.Author.Tests.{leb-true, le-leb, eqb-true, eq-eqb, ne-eqb}
 use lib.ListN.{length, getD, length-append}
 use lib.Seq.{take-append-seam}
+use Rattle.packet.specs.declared.Written.the-variants.{Bytes}
+use Rattle.lists.specs.Lists.{laidOver}
 use Rattle.packet.specs.Xor.{xorAll}
-use Rattle.packet.specs.Packet.{monitorId, groupId, isIntact, verdictOf, dataOf, packetOf, mostData, longest, shortest}
+use Rattle.packet.specs.Packet.{monitorId, groupId, isIntact, verdictOf, dataOf, packetOf, mostData, longest, shortest, writtenOf, outputOf}
 use Rattle.packet.specs.declared.MonitorId.{MonitorId}
 use Rattle.packet.specs.declared.GroupId.{GroupId}
 use Rattle.packet.specs.declared.Verdict.the-variants.{Intact}
@@ -66,3 +68,13 @@ module _ (id : MonitorId) (group : GroupId) (d : List ℕ) (short : length d ≤
   pub packet-data : dataOf (packetOf id group d) (verdictOf (packetOf id group d)) ≡ d
   unfolding packetOf dataOf
   packet-data = rw (packet-verdict, eq-eqb _ _ packet-length) (take-append-seam d _)
+
+-- An output with room for any packet gets it, where its data fits.
+module _ (out : List ℕ) (id : MonitorId) (group : GroupId) (d : List ℕ) (room : longest ≤ length out) (short : length d ≤ mostData) where
+  pub packet-written : writtenOf out d ≡ Bytes (length d + shortest)
+  unfolding writtenOf
+  packet-written = simp (le-leb _ _ room, le-leb _ _ short)
+
+  pub packet-laid : outputOf out id group d ≡ laidOver (packetOf id group d) out
+  unfolding outputOf
+  packet-laid = simp (le-leb _ _ room, le-leb _ _ short)

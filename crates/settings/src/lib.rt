@@ -3,9 +3,9 @@ mod ranges;
 
 ghost use mathlib.Core.Path.{_≡_};
 ghost use Prim.Native.Nat.{_<_};
-ghost use lib.ListN.{length, drop};
-ghost use Rattle.settings.specs.Settings.{foundBy, setCode, getCode, byteCount, place, within, allowedFor, freshValues, valuesWith, rowCount, valueCount};
-ghost use Rattle.settings.specs.Private.Numbers.{inRange, rangeOf, rangesOf, firstRange, isMore, paperTable};
+ghost use lib.ListN.{length};
+ghost use Rattle.settings.specs.Settings.{foundBy, setCode, getCode, byteCount, place, freshValues, valuesWith, rowCount, valueCount};
+ghost use Rattle.settings.specs.Private.Numbers.{paperTable};
 pub use ranges::allowed;
 
 // How many settings there are, how many value bytes they have in all, and how many one has at most.

@@ -5,11 +5,11 @@ use mathlib.Core.Bool.{Bool, _&&_}
 use mathlib.Core.List.{List, [], _∷_, _++_}
 use Rattle.host.specs.declared.Host.{Host}
 use Rattle.host.specs.declared.Step.{Step}
-use Rattle.host.specs.declared.Request.{Request}
+use Rattle.requests.specs.declared.Request.{Request}
 use Rattle.host.specs.declared.Outcome.{Outcome}
 use Rattle.host.specs.declared.Outcome.the-variants.{Idle, Waiting, Unheard, Ack as Acked, Nav as NotAvailable, Report as Reported, GivenUp, Refused}
-use Rattle.host.specs.declared.Said.{Said}
-use Rattle.host.specs.declared.Said.the-variants.{Ack, Nack, Nav, Report, Nothing}
+use Rattle.requests.specs.declared.Said.{Said}
+use Rattle.requests.specs.declared.Said.the-variants.{Ack, Nack, Nav, Report, Nothing}
 use Rattle.host.specs.Heard.{saidTo}
 use Rattle.host.specs.Machine.{Happening, start, burst, mark, State, Move, waits, step}
 use Rattle.host.specs.Calls.{stateOf, stepOf}

@@ -5,7 +5,7 @@ use lib.ListN.{length, getD, take, drop, replicate}
 use Rattle.settings.specs.Settings.{mostValues}
 use Rattle.packet.specs.Packet.{monitorId, groupId}
 use Rattle.lists.specs.Lists.{laidOver}
-use Rattle.host.specs.declared.Request.{Request}
+use Rattle.requests.specs.declared.Request.{Request}
 
 -- how many bytes stand before the values
 abbrev pub startHead : ℕ

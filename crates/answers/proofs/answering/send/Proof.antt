@@ -1,14 +1,11 @@
 -- The packet fits, so it is written. Assumes nothing.
 use mathlib.Core.Path.{_≡_, sym, ap, _∙_}
-use mathlib.Core.List.{List}
-use Prim.Native.Nat.{ℕ, _+_, _≤_}
-use borrow.Author.Tests.{le-leb}
+use Prim.Native.Nat.{_+_}
 use lib.ListN.{length}
-use Rattle.packet.specs.declared.MonitorId.{MonitorId}
-use Rattle.packet.specs.declared.GroupId.{GroupId}
+use Rattle.packet.proofs.Packets.{packet-written, packet-laid}
 use Rattle.packet.specs.declared.Written.{Written}
 use Rattle.packet.specs.declared.Written.the-variants.{Bytes, TooLong, NoRoom}
-use Rattle.packet.specs.Packet.{groupId, writtenOf, outputOf, packetOf, mostData, longest}
+use Rattle.packet.specs.Packet.{groupId, packetOf}
 use Rattle.lists.specs.Lists.{laidOver}
 use Rattle.answers.specs.declared.Sent.{Sent}
 use Rattle.answers.specs.declared.Sent.the-variants as sent
@@ -21,15 +18,6 @@ abbrev passed-on : Written → Sent
 passed-on (Bytes n) = sent.Bytes n
 passed-on TooLong = sent.NoRoom
 passed-on NoRoom = sent.NoRoom
-
-fits : (out d : List ℕ) → longest ≤ length out → length d ≤ mostData → writtenOf out d ≡ Bytes (length d + 4)
-unfolding writtenOf
-fits out d h m = simp (le-leb _ _ h, le-leb _ _ m)
-
-laid : (out : List ℕ) (i : MonitorId) (g : GroupId) (d : List ℕ) → longest ≤ length out → length d ≤ mostData
-    → outputOf out i g d ≡ laidOver (packetOf i g d) out
-unfolding outputOf
-laid out i g d h m = simp (le-leb _ _ h, le-leb _ _ m)
 
 write-packet-requires : tie.Need-write-packet-requires
 write-packet-requires c κs = search needs
@@ -52,8 +40,8 @@ written : (c : tie.After-write-packet) (w : Written) → c .write-packet .result
     (passed-on w ≡ sent.Bytes (length (a .d .now) + 4)) × (c .write-packet .last .0 ≡ laidOver (packetOf (a .id) (groupId 0) (a .d .now)) (a .out .now))
 written c w e =
     let start = c .before .before .before .before in (
-      ap passed-on (sym e ∙ c .write-packet .ensures .0 ∙ fits _ _ (start .pre .0) (start .pre .1)),
-      c .write-packet .ensures .1 ∙ laid _ _ _ _ (start .pre .0) (start .pre .1),
+      ap passed-on (sym e ∙ c .write-packet .ensures .0 ∙ packet-written _ (start .args .id) (groupId 0) _ (start .pre .0) (start .pre .1)),
+      c .write-packet .ensures .1 ∙ packet-laid _ _ _ _ (start .pre .0) (start .pre .1),
     )
 
 returns : tie.Need-returns

@@ -5,12 +5,12 @@ use native.Mathlib.Omega.{arith}
 use Prim.Native.Nat.{_+_, _≤_}
 use lib.ListN.{length, drop, length-drop, length-replicate}
 use Rattle.settings.specs.Settings.{mostValues}
-use Rattle.host.specs.declared.Said.{Said}
-use Rattle.host.specs.declared.Said.the-variants.{Report}
+use Rattle.requests.specs.declared.Said.{Said}
+use Rattle.requests.specs.declared.Said.the-variants.{Report}
 use Rattle.host.specs.declared.Outcome.the-variants.{Report as Reported}
-use Rattle.host.specs.Heard.{wordIn}
+use Rattle.requests.specs.Said.{wordIn}
 use Rattle.host.specs.Machine.{ending}
-use Rattle.host.proofs.Words.{report-length}
+use Rattle.requests.proofs.Words.{report-length}
 use Rattle.lists.proofs.Places.{rest}
 use Rattle.host.proofs.Answers.{stays, ends, reports}
 use Rattle.host.proofs.hearing.told.Statement.{statement}

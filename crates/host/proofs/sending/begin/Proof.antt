@@ -3,7 +3,7 @@ use mathlib.Core.Path.{refl, sym, _∙_}
 use borrow.Author.Needs.{needs}
 use mathlib.Core.List.{[], _∷_}
 use Rattle.host.specs.Machine.{idle, begun}
-use Rattle.host.specs.Request.{requestPacket}
+use Rattle.requests.specs.Request.{requestPacket}
 use Rattle.host.proofs.Answers.{gives}
 use Rattle.host.proofs.sending.begin.Statement.{statement}
 use Rattle.host.proofs.sending.begin.Tie as tie

@@ -9,7 +9,7 @@ use lib.ListN.{length-replicate}
 use Rattle.host.specs.declared.Host.{Host}
 use Rattle.host.specs.declared.Outcome.the-variants.{Waiting, GivenUp}
 use Rattle.host.specs.Machine.{mostSendings, over, again}
-use Rattle.host.specs.Request.{requestPacket}
+use Rattle.requests.specs.Request.{requestPacket}
 use Rattle.host.specs.Calls.{stateOf}
 use Rattle.host.proofs.Answers.{ends, gives}
 use Rattle.host.proofs.sending.send_again.Statement.{statement}

@@ -14,10 +14,10 @@ use Rattle.settings.proofs.Laws.{IsFound, found-right, allowed-count, byte-coun
 use Rattle.packet.specs.Control.{controlByte}
 use Rattle.packet.specs.declared.Control.{Control}
 use Rattle.packet.specs.declared.Control.the-variants.{Ack as AckWord, Nack as NackWord, Nav as NavWord}
-use Rattle.host.specs.declared.Said.{Said}
-use Rattle.host.specs.declared.Said.the-variants.{Ack, Nack, Nav, Report, Nothing}
+use Rattle.requests.specs.declared.Said.{Said}
+use Rattle.requests.specs.declared.Said.the-variants.{Ack, Nack, Nav, Report, Nothing}
 use Rattle.lists.specs.Lists.{same}
-use Rattle.host.specs.Heard.{isControl, isReport, endedBy, wordIn}
+use Rattle.requests.specs.Said.{isControl, isReport, endedBy, wordIn}
 
 pub control-other : (w : Control) (d : List ℕ) → (length d ≡ 2 → ⊥) → isControl w d ≡ false
 unfolding isControl same

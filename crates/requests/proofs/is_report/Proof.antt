@@ -7,12 +7,12 @@ use native.Mathlib.Omega.{arith}
 use borrow.Author.Tests.{eq-eqb, ne-eqb}
 use lib.ListN.{length}
 use Rattle.settings.specs.Settings.{allowedFor}
-use Rattle.host.specs.Heard.{isReport}
-use Rattle.host.proofs.Words.{report-some}
+use Rattle.requests.specs.Said.{isReport}
+use Rattle.requests.proofs.Words.{report-some}
 use Rattle.lists.proofs.Places.{rest}
 use borrow.Author.Needs.{needs}
-use Rattle.host.proofs.hearing.is_report.Statement.{statement}
-use Rattle.host.proofs.hearing.is_report.Tie as tie
+use Rattle.requests.proofs.is_report.Statement.{statement}
+use Rattle.requests.proofs.is_report.Tie as tie
 
 none : (k : ℕ) (d : List ℕ) → length d ≡ 0 → false ≡ isReport k d
 unfolding isReport

@@ -9,7 +9,7 @@ use Rattle.settings.specs.declared.Found.{Found}
 use Rattle.settings.specs.declared.Found.the-variants.{Set, Get, Nothing}
 use Rattle.packet.specs.Packet.{packetOf}
 use Rattle.packet.specs.Answered.{isHeard}
-use Rattle.host.specs.declared.Request.{Request}
+use Rattle.requests.specs.declared.Request.{Request}
 
 -- the values that count; the others mean nothing
 abbrev pub valuesOf : Request → List ℕ

@@ -3,10 +3,10 @@ use mathlib.Core.Path.{_≡_, sym, subst, _∙_}
 use borrow.Author.Needs.{needs}
 use Rattle.settings.specs.declared.Found.{Found}
 use Rattle.settings.proofs.Laws.{IsFound, found-right}
-use Rattle.host.specs.Heard.{endedBy, wordIn}
-use Rattle.host.proofs.Words.{word-found}
-use Rattle.host.proofs.hearing.word_in.Statement.{statement}
-use Rattle.host.proofs.hearing.word_in.Tie as tie
+use Rattle.requests.specs.Said.{endedBy, wordIn}
+use Rattle.requests.proofs.Words.{word-found}
+use Rattle.requests.proofs.word_in.Statement.{statement}
+use Rattle.requests.proofs.word_in.Tie as tie
 
 -- past both tests the code decides
 past : (c : tie.After-find-setting) (f : Found) → c .find-setting .result ≡ f

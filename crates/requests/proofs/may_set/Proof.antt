@@ -3,8 +3,8 @@ use mathlib.Core.Path.{sym}
 use native.Mathlib.Omega.{arith}
 use borrow.Author.Needs.{needs}
 use lib.Seq.{length-take-le}
-use Rattle.host.proofs.sending.may_set.Statement.{statement}
-use Rattle.host.proofs.sending.may_set.Tie as tie
+use Rattle.requests.proofs.may_set.Statement.{statement}
+use Rattle.requests.proofs.may_set.Tie as tie
 
 array-share-prefix-v : tie.Need-array-share-prefix-v
 array-share-prefix-v c = search needs

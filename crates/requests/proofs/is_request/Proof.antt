@@ -7,10 +7,10 @@ use borrow.Author.Tests.{le-leb, lt-leb, eq-eqb, ne-eqb}
 use Rattle.settings.specs.Settings.{foundBy, mostValues}
 use Rattle.settings.specs.declared.Found.{Found}
 use Rattle.settings.proofs.Laws.{IsFound, found-right}
-use Rattle.host.specs.declared.Request.{Request}
-use Rattle.host.specs.Request.{isTaken, isRequest}
-use Rattle.host.proofs.sending.is_request.Statement.{statement}
-use Rattle.host.proofs.sending.is_request.Tie as tie
+use Rattle.requests.specs.declared.Request.{Request}
+use Rattle.requests.specs.Request.{isTaken, isRequest}
+use Rattle.requests.proofs.is_request.Statement.{statement}
+use Rattle.requests.proofs.is_request.Tie as tie
 
 few : (r : Request) (f : Found) → r .count ≤ mostValues → foundBy (r .code) ≡ f → isRequest r ≡ isTaken r f
 unfolding isRequest

@@ -1,10 +1,10 @@
 -- A control word has two bytes: 0 and its own. Assumes nothing.
 use mathlib.Core.Path.{sym, _∙_}
 use borrow.Author.Tests.{eq-eqb, ne-eqb}
-use Rattle.host.proofs.Words.{control-other, control-two}
+use Rattle.requests.proofs.Words.{control-other, control-two}
 use borrow.Author.Needs.{needs}
-use Rattle.host.proofs.hearing.is_control.Statement.{statement}
-use Rattle.host.proofs.hearing.is_control.Tie as tie
+use Rattle.requests.proofs.is_control.Statement.{statement}
+use Rattle.requests.proofs.is_control.Tie as tie
 
 returns : tie.Need-returns
 returns c = sym (control-other _ _ (c .if1 .taken))

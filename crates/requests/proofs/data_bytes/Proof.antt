@@ -6,8 +6,8 @@ use lib.ListN.{length, getD}
 use native.Mathlib.Omega.{arith}
 use borrow.Author.Needs.{needs}
 use Rattle.settings.specs.Settings.{mostValues}
-use Rattle.host.proofs.sending.data_bytes.Statement.{statement}
-use Rattle.host.proofs.sending.data_bytes.Tie as tie
+use Rattle.requests.proofs.data_bytes.Statement.{statement}
+use Rattle.requests.proofs.data_bytes.Tie as tie
 
 behind : (c : ℕ) (v : List ℕ) → length v ≡ mostValues
     → c ∷ getD v 0 0 ∷ getD v 1 0 ∷ getD v 2 0 ∷ getD v 3 0 ∷ getD v 4 0 ∷ getD v 5 0 ∷ getD v 6 0 ∷ [] ≡ c ∷ v

@@ -1,0 +1,34 @@
+-- What data says to the host that waits for a request. 01, "Host side": for a set ACK, for a get its report with the right
+-- length and allowed values, for either NAV or NACK.
+use Prim.Native.Nat.{ℕ}
+use mathlib.Core.Bool.{Bool, false, cond, _&&_}
+use mathlib.Core.List.{List, [], _∷_}
+use lib.Dec.{eqb}
+use Rattle.lists.specs.Lists.{same}
+use Rattle.settings.specs.Settings.{foundBy, getCode, allowedFor}
+use Rattle.settings.specs.declared.Found.{Found}
+use Rattle.settings.specs.declared.Found.the-variants.{Set, Get, Nothing as NoSetting}
+use Rattle.packet.specs.Control.{controlData}
+use Rattle.packet.specs.declared.Control.{Control}
+use Rattle.packet.specs.declared.Control.the-variants.{Ack as AckWord, Nack as NackWord, Nav as NavWord}
+use Rattle.requests.specs.declared.Said.{Said}
+use Rattle.requests.specs.declared.Said.the-variants.{Ack, Nack, Nav, Report, Nothing}
+
+-- the data of a control word
+unfoldable pub isControl : Control → List ℕ → Bool
+isControl word d = same d (controlData word)
+
+-- a report of row k: its get code, then as many values as it has, each allowed
+unfoldable pub isReport : ℕ → List ℕ → Bool
+isReport k [] = false
+isReport k (c ∷ values) = eqb c (getCode k) && allowedFor k values
+
+-- an ACK ends a set, a report a get
+unfoldable pub endedBy : Found → List ℕ → Said
+endedBy (Set row) d = cond (isControl AckWord d) Ack Nothing
+endedBy (Get row) d = cond (isReport row d) Report Nothing
+endedBy NoSetting d = Nothing
+
+-- what data says to a host that asked with this code
+unfoldable pub wordIn : ℕ → List ℕ → Said
+wordIn code d = cond (isControl NackWord d) Nack (cond (isControl NavWord d) Nav (endedBy (foundBy code) d))

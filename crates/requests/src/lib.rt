@@ -1,0 +1,151 @@
+// A request of the host, its packet, and what data says in answer to it.
+ghost use mathlib.Core.Path.{_≡_};
+ghost use Prim.Native.Nat.{_≤_, _<_, min};
+ghost use mathlib.Core.List.{_∷_};
+ghost use lib.ListN.{take};
+ghost use Rattle.settings.specs.Settings.{allowedFor, rowCount, mostValues};
+ghost use Rattle.packet.specs.Packet.{writtenOf, outputOf};
+ghost use Rattle.requests.specs.Request.{isRequest, requestData};
+ghost use Rattle.requests.specs.Said.{isControl, isReport, wordIn};
+use packet::Control;
+use packet::GroupId;
+use packet::MonitorId;
+use packet::Written;
+use settings::Found;
+use settings::MOST_VALUES;
+
+// A set with its values or a get. The first count of the values are the request's; the others mean nothing.
+pub struct Request {
+    pub id: MonitorId,
+    pub group: GroupId,
+    pub code: u8,
+    pub values: [u8; MOST_VALUES],
+    pub count: usize,
+}
+
+// What data says to the host that waits.
+pub enum Said {
+    Ack,
+    Nack,
+    Nav,
+    Report,
+    Nothing,
+}
+
+// Whether the first count of these values may be set in a row.
+fn may_set(row: usize, v: [u8; MOST_VALUES], count: usize) -> bool
+    requires { ⌜ (row < rowCount) × (count ≤ mostValues) ⌝ }
+    ensures { λ r. ⌜ r ≡ allowedFor row (take count v) ⌝ }
+{
+    settings::allowed(row, &v[..count])
+}
+
+// Whether the table has this request.
+pub fn is_request(request: Request) -> bool
+    ensures { λ r. ⌜ r ≡ isRequest request ⌝ }
+{
+    let count = request.count;
+    if MOST_VALUES < count {
+        return false;
+    }
+    let group = request.group;
+    let found = settings::find_setting(request.code);
+    match found {
+        Found::Set(row) => {
+            if group.0 == 255 {
+                return false;
+            }
+            let values = request.values;
+            may_set(row, values, count)
+        }
+        Found::Get(_) => {
+            if count != 0 {
+                return false;
+            }
+            packet::is_answered(request.id, group)
+        }
+        Found::Nothing => false,
+    }
+}
+
+// The code, and behind it the values.
+fn data_bytes(code: u8, v: [u8; MOST_VALUES]) -> [u8; MOST_VALUES + 1]
+    ensures { λ r. ⌜ r ≡ code ∷ v ⌝ }
+{
+    [code, v[0], v[1], v[2], v[3], v[4], v[5], v[6]]
+}
+
+// How many of a request's values count.
+fn in_use(count: usize) -> usize
+    ensures { λ r. ⌜ r ≡ min count mostValues ⌝ }
+{
+    if count < MOST_VALUES {
+        count
+    } else {
+        MOST_VALUES
+    }
+}
+
+// The request's packet at the front of out, of which the rest stays as it was.
+pub fn write_request(request: Request, out: &mut [u8]) -> Written
+    ensures { λ r. ⌜ r ≡ writtenOf (now (out .entry)) (requestData request) ⌝ }
+    ensures { λ _. ⌜ now (out .exit) ≡ outputOf (now (out .entry)) (request .id) (request .group) (requestData request) ⌝ }
+{
+    let values = request.values;
+    let data = data_bytes(request.code, values);
+    let n = in_use(request.count) + 1;
+    packet::write_packet(out, request.id, request.group, &data[..n])
+}
+
+// Whether the data is this control word: 0x00 and its byte.
+fn is_control(d: &[u8], word: Control) -> bool
+    ensures { λ r. ⌜ r ≡ isControl word (now (d .entry)) ⌝ }
+{
+    if d.len() != 2 {
+        return false;
+    }
+    if d[0] != 0 {
+        return false;
+    }
+    d[1] == packet::control_byte(word)
+}
+
+// Whether the data is a report of this row: its get code, and behind it values that it allows.
+fn is_report(row: usize, d: &[u8]) -> bool
+    requires { ⌜ row < rowCount ⌝ }
+    ensures { λ r. ⌜ r ≡ isReport row (now (d .entry)) ⌝ }
+{
+    if d.len() == 0 {
+        return false;
+    }
+    if d[0] != settings::get_code(row) {
+        return false;
+    }
+    settings::allowed(row, &d[1..])
+}
+
+// What the data of a burst from the panel that was asked says: an ACK to a set, a report to a get, NACK or NAV to either.
+pub fn word_in(code: u8, d: &[u8]) -> Said
+    ensures { λ r. ⌜ r ≡ wordIn code (now (d .entry)) ⌝ }
+{
+    if is_control(d, Control::Nack) {
+        return Said::Nack;
+    }
+    if is_control(d, Control::Nav) {
+        return Said::Nav;
+    }
+    let found = settings::find_setting(code);
+    match found {
+        Found::Set(_) => if is_control(d, Control::Ack) {
+            Said::Ack
+        } else {
+            Said::Nothing
+        },
+        Found::Get(row) => if is_report(row, d) {
+            Said::Report
+        } else {
+            Said::Nothing
+        },
+        Found::Nothing => Said::Nothing,
+    }
+}
