@@ -34,7 +34,7 @@ use Rattle.image_read.specs.declared.Refusal.{Refusal as ImageRefusal}
 use Rattle.image_read.specs.declared.Refusal.the-variants.{Nothing as Sound}
 use Rattle.image_read.specs.Whole.{wholeRefusal, recordsIn}
 use Rattle.image_read.specs.Read.{Reading, isSound, refused, recordRefusal, readRecords, readOf}
-use Rattle.image_read.specs.Private.Walk.{wallWith}
+use Rattle.image_read.proofs.OnTheWay.{wallWith}
 use Rattle.image.proofs.Back.{image-size}
 use Rattle.host.specs.declared.Refusal.{Refusal as HostRefusal}
 use Rattle.requests.specs.declared.Request.{Request}

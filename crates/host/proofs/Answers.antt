@@ -7,9 +7,9 @@ use Rattle.lists.specs.Lists.{laidOver}
 use Rattle.host.specs.declared.Host.{Host}
 use Rattle.host.specs.declared.Step.{Step}
 use Rattle.host.specs.declared.Outcome.{Outcome}
-use Rattle.host.specs.Machine.{Move, State, quiet, over}
+use Rattle.host.specs.Machine.{Move, State, quiet, over, idle}
 use Rattle.host.specs.Calls.{hostOf, stateOf, stepOf, Answers}
-use Rattle.host.specs.Private.Steps.{nothingWaits, plainStep}
+use Rattle.host.specs.Private.Steps.{plainStep}
 
 -- a host is what its state says
 pub host-back : (h : Host) → hostOf (stateOf h) ≡ h
@@ -22,7 +22,7 @@ module _ {m : Move} {r : Step} where
   stays h o out e f = rw (e, f) (rw length-replicate, refl)
 
   -- nothing is given out and nothing waits any more
-  pub ends : (h : Host) (o : Outcome) (out : List ℕ) → h ≡ nothingWaits → m ≡ over o [] → r ≡ plainStep h 0 o → Answers m out r out
+  pub ends : (h : Host) (o : Outcome) (out : List ℕ) → h ≡ hostOf idle → m ≡ over o [] → r ≡ plainStep h 0 o → Answers m out r out
   unfolding stepOf laidOver flatten
   ends h o out w e f = rw (e, f, w) (refl, refl)
 

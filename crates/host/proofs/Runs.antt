@@ -12,7 +12,6 @@ use Rattle.requests.specs.Request.{requestPacket, isRequest}
 use Rattle.host.specs.Heard.{saidTo, dataIn}
 use Rattle.host.specs.Machine.{Happening, start, burst, mark, State, Move, idle, sendings, mostSendings, waits, begun, again, ending, heard, step}
 use Rattle.host.specs.Private.Lasting.{run, calls}
-use Rattle.host.specs.Private.Steps.{nothingWaits}
 use Rattle.host.specs.Calls.{hostOf, stateOf, stepOf}
 
 -- the packets given out are all the request's own
@@ -54,5 +53,5 @@ unfolding calls run stepOf
 calls-from s [] a = refl
 calls-from s (h ∷ hs) a = rw (state-back s a) (ap (λ l. stepOf (step s h) ∷ l) (calls-from (step s h .next) hs (step-alike s h a .alike)))
 
-pub calls-run : (hs : List Happening) → calls nothingWaits hs ≡ map stepOf (run idle hs)
+pub calls-run : (hs : List Happening) → calls (hostOf idle) hs ≡ map stepOf (run idle hs)
 calls-run hs = calls-from idle hs refl

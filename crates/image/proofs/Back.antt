@@ -22,7 +22,7 @@ use Rattle.image_write.specs.Written.{field, fieldsOf, recordOf, recordsOf, ima
 use Rattle.image_read.specs.Fields.{fieldsIn}
 use Rattle.image_read.specs.Read.{Reading, headFits, recordRefusal, panelIn, readRecords, readOf, inTable}
 use Rattle.image_read.specs.Entries.{Entry, bytesOf, Without, givenOr, given}
-use Rattle.image_read.specs.Private.Walk.{entryBytes, entryOf}
+use Rattle.image_read.proofs.OnTheWay.{entryBytes, entryOf}
 use Rattle.lists.proofs.Each.{each-alike, map-each}
 use Rattle.panels.proofs.Values.{length-values}
 use Rattle.image_write.proofs.Lengths.{record-at, record-length, records-long, image-length}

@@ -16,7 +16,7 @@ use Rattle.image_read.specs.declared.Step.{Step}
 use Rattle.image_read.specs.declared.Step.the-variants.{Field, NotAllowed, Broken, End}
 use Rattle.image_read.specs.declared.Fields.{Fields}
 use Rattle.image_read.specs.Fields.{valuesIn, misfits, fieldBy, stepAt, fieldsFrom}
-use Rattle.image_read.specs.Private.Walk.{seenWith, behind}
+use Rattle.image_read.proofs.OnTheWay.{seenWith, behind}
 use Rattle.image_read.specs.Entries.{Entry, bytesOf, Without}
 use Rattle.image_read.proofs.Steps.{Takes, takes, takes-it, fields-step}
 

@@ -1,5 +1,7 @@
--- `Steps` is the walk over a record's fields, `Edges` where records begin and end, `Marked` the IDs seen before. The theorems:
--- `Sound` that reading gives only well-formed tables, `Entries`, `ByCode` and `Order` that fields go by code and not by place.
+-- `OnTheWay` has names for a record on its way through the reader, `Steps` is the walk over its fields, `Edges` where records begin
+-- and end, `Marked` the IDs seen before. The theorems: `Sound` that reading gives only well-formed tables, `Entries`, `ByCode`
+-- and `Order` that fields go by code and not by place.
+pub mod OnTheWay
 pub mod Steps
 pub mod Edges
 pub mod Sound

@@ -16,7 +16,7 @@ use Rattle.image_read.specs.declared.Fields.{Fields}
 use Rattle.image_read.specs.Whole.{wholeRefusal, recordsIn}
 use Rattle.image_read.specs.Fields.{fieldsIn}
 use Rattle.image_read.specs.Read.{isSound, headFits, recordRefusal, panelIn, refused, readRecords, readOf}
-use Rattle.image_read.specs.Private.Walk.{wallWith}
+use Rattle.image_read.proofs.OnTheWay.{wallWith}
 use Rattle.image_read.specs.Entries.{Entry, bytesOf, freshEntry, Permuted, same, swapped, kept, twice, Without, givenOr, given, GiveAlike, SameHead}
 use Rattle.image_read.proofs.Edges.{sound-nothing}
 use Rattle.image_read.proofs.Entries.{rowOf, row-is, Good, GoodEntries, Unseen, stored, all-taken, no-fault}

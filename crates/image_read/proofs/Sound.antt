@@ -26,7 +26,7 @@ use Rattle.image_read.specs.declared.Step.{Step}
 use Rattle.image_read.specs.declared.Step.the-variants.{Field, NotAllowed, Broken, End}
 use Rattle.image_read.specs.Whole.{countOf, recordIn, recordsIn, wholeRefusal}
 use Rattle.image_read.specs.Fields.{stepAt, valuesIn, afterStep, gathered, fieldsFrom, fieldsIn}
-use Rattle.image_read.specs.Private.Walk.{seenWith, behind, wallWith}
+use Rattle.image_read.proofs.OnTheWay.{seenWith, behind, wallWith}
 use Rattle.image_read.specs.Read.{isSound, headFits, recordRefusal, panelIn, refused, readRecords, readOf, inTable}
 use Rattle.image_read.proofs.Steps.{takes}
 use Rattle.image_read.proofs.Edges.{fits}

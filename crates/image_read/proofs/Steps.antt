@@ -15,7 +15,7 @@ use Rattle.settings.proofs.Laws.{IsFound, found-right, set-found}
 use Rattle.image_read.specs.declared.Step.{Step}
 use Rattle.image_read.specs.declared.Step.the-variants.{Field, NotAllowed, Broken, End}
 use Rattle.image_read.specs.Fields.{valuesIn, fieldBy, stepAt, afterStep, gathered, fieldsFrom}
-use Rattle.image_read.specs.Private.Walk.{seenWith, behind}
+use Rattle.image_read.proofs.OnTheWay.{seenWith, behind}
 
 -- what stands at the front where a field is taken
 pub record Takes (seen : List Bool) (left : List ℕ) (row : ℕ) : Type 0 where

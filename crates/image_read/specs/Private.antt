@@ -1,3 +1,2 @@
--- What only this crate's contracts and theorems cite: `Marked` is a record as the code reads it, `Walk` a record on the way.
+-- What only this crate's contracts cite: `Marked` is a record as the code reads it.
 pub mod Marked
-pub mod Walk

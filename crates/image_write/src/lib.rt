@@ -9,18 +9,22 @@ use panels::Table;
 use settings::ROW_COUNT;
 use settings::VALUE_COUNT;
 
-// How many bytes stand before a field's values, before a record's fields, in a start, and behind the starts.
+// The bytes before a field's values: set code and length.
 const FIELD_HEAD: usize = 2;
 
+// The bytes before a record's fields: ID and group.
 const RECORD_HEAD: usize = 2;
 
+// The bytes of a start.
 const START_SIZE: usize = 2;
 
+// The bytes behind the starts: count and form.
 pub const TRAILER_SIZE: usize = 2;
 
-// How many a record has, and a panel in all: its record and its start.
+// The bytes of a record with all its fields.
 const RECORD_SIZE: usize = RECORD_HEAD + FIELD_HEAD * ROW_COUNT + VALUE_COUNT;
 
+// The bytes of a panel in all: its record and its start.
 pub const PANEL_SIZE: usize = RECORD_SIZE + START_SIZE;
 
 // An image's size, once it is written; or the output has no room for it.

@@ -5,11 +5,13 @@ ghost use Rattle.packet.specs.Control.{controlByte};
 ghost use Rattle.packet.specs.Answered.{isHeard};
 ghost use Rattle.packet.specs.Packet.{isIntact, verdictOf, dataOf, writtenOf, outputOf};
 
-// A packet without data, the longest packet, and the data that has room in it.
+// The bytes of a packet without data.
 pub const SHORTEST: usize = 4;
 
+// The bytes of the longest packet.
 pub const LONGEST: usize = 40;
 
+// The data that has room in it.
 pub const MOST_DATA: usize = LONGEST - SHORTEST;
 
 pub struct MonitorId(pub u8);

@@ -11,11 +11,15 @@ use lib.ListN.{length, getD, take, drop, List·getD-map}
 use lib.Seq.{drop-cons}
 use Rattle.settings.specs.declared.Found.{Found}
 use Rattle.settings.specs.declared.Found.the-variants.{Set, Get, Nothing}
-use Rattle.settings.specs.Settings.{Range, Setting, settings, setting, foundFrom, foundBy, setCode, getCode, byteCount, place, within, allAllowed, allowedFor, allowedByRow, freshValues, rowCount, mostValues, valueCount}
-use Rattle.settings.specs.Private.Numbers.{noSetting, allowedValues, rangesOf, firstRange}
+use Rattle.settings.specs.Settings.{Range, Setting, settings, setting, foundFrom, foundBy, setCode, getCode, byteCount, place, within, allAllowed, allowedFor, allowedByRow, freshValues, rowCount, mostValues, valueCount, row}
+use Rattle.settings.specs.Private.Numbers.{allowedValues, rangesOf, firstRange}
 use Rattle.lists.proofs.Both.{both}
 use Rattle.lists.proofs.Each.{alike}
 use Rattle.lists.proofs.Flat.{in-flat, flat-fits, flat-apart}
+
+-- what stands past the last row
+abbrev noSetting : Setting
+noSetting = row 0 0 [] []
 
 -- Codes are distinct, and no get code is a set code: each code of a row finds that row.
 pub set-found : {row : ℕ} → row < rowCount → foundBy (setCode row) ≡ Set row

@@ -8,11 +8,13 @@ ghost use Rattle.settings.specs.Settings.{foundBy, setCode, getCode, byt
 ghost use Rattle.settings.specs.Private.Numbers.{paperTable};
 pub use ranges::allowed;
 
-// How many settings there are, how many value bytes they have in all, and how many one has at most.
+// How many settings there are.
 pub const ROW_COUNT: usize = 8;
 
+// How many value bytes they have in all, which are a panel's.
 pub const VALUE_COUNT: usize = 15;
 
+// How many one has at most.
 pub const MOST_VALUES: usize = 7;
 
 // How many ranges there are beyond the first of each value byte.

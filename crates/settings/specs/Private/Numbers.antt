@@ -5,15 +5,12 @@ use mathlib.Core.List.{List, [], _∷_, _++_, map, flatten}
 use lib.Dec.{leb, eqb}
 use lib.ListN.{getD, drop}
 use Rattle.lists.specs.Lists.{each}
-use Rattle.settings.specs.Settings.{Range, Setting, row, setCode, getCode, byteCount, place, allowedByRow, freshValues, rowCount, valueCount}
+use Rattle.settings.specs.Settings.{Range, setCode, getCode, byteCount, place, allowedByRow, freshValues, rowCount, valueCount}
 use Rattle.settings.specs.declared.Codes.{Codes}
 use Rattle.settings.specs.declared.Values.{Values}
 use Rattle.settings.specs.declared.Span.{Span}
 use Rattle.settings.specs.declared.More.{More}
 use Rattle.settings.specs.declared.Table.{Table}
-
-abbrev pub noSetting : Setting
-noSetting = row 0 0 [] []
 
 abbrev pub inRange : Range → ℕ → Bool
 inRange r v = leb (r .low) v && leb v (r .high)

@@ -10,13 +10,12 @@ use Rattle.lists.specs.Lists.{laidOver}
 use Rattle.host.specs.declared.Host.{Host}
 use Rattle.host.specs.declared.Step.{Step}
 use Rattle.host.specs.declared.Outcome.the-variants.{Report}
-use Rattle.host.specs.Machine.{over}
-use Rattle.host.specs.Private.Steps.{nothingWaits}
-use Rattle.host.specs.Calls.{stepOf}
+use Rattle.host.specs.Machine.{over, idle}
+use Rattle.host.specs.Calls.{stepOf, hostOf}
 use Rattle.host.proofs.hearing.reported.Statement.{statement}
 use Rattle.host.proofs.hearing.reported.Tie as tie
 
-made : (h : Host) (n sendings : ℕ) (v values : List ℕ) → h ≡ nothingWaits → n ≡ length v
+made : (h : Host) (n sendings : ℕ) (v values : List ℕ) → h ≡ hostOf idle → n ≡ length v
     → values ≡ take (length v) v ++ drop (length v) (replicate mostValues 0)
     → _≡_ {A = Step} (record { host = h; length = 0; outcome = Report sendings; values = values; count = n }) (stepOf (over (Report sendings) v))
 unfolding stepOf laidOver flatten

@@ -21,7 +21,7 @@ use Rattle.image_read.specs.declared.Read.{Read}
 use Rattle.image_read.specs.declared.ReadPanel.{ReadPanel}
 use Rattle.image_read.specs.Whole.{countOf, edge, recordIn, recordsIn}
 use Rattle.image_read.specs.Read.{isSound, readRefusalOf, recordRefusal, refused, readRecords, inTable}
-use Rattle.image_read.specs.Private.Walk.{wallWith}
+use Rattle.image_read.proofs.OnTheWay.{wallWith}
 use Rattle.lists.proofs.Each.{length-each}
 use Rattle.image_read.specs.Private.Marked.{Marks, panelBy}
 use Rattle.image_read.proofs.Edges.{fits, first-edge, edge-less, edge-inside}

@@ -14,7 +14,7 @@ use Rattle.panels.proofs.Values.{length-with}
 use Rattle.image_read.specs.declared.Step.{Step}
 use Rattle.image_read.specs.declared.Step.the-variants.{Field}
 use Rattle.image_read.specs.Fields.{stepAt, fieldsFrom, fieldsIn, valuesIn, afterStep}
-use Rattle.image_read.specs.Private.Walk.{seenWith, behind}
+use Rattle.image_read.proofs.OnTheWay.{seenWith, behind}
 use Rattle.image_read.proofs.Steps.{Takes, takes, fields-step}
 use Rattle.image_read.proofs.walk.fields_of.Statement.{statement}
 use Rattle.image_read.proofs.walk.fields_of.Tie as tie

@@ -1,5 +1,5 @@
--- A record on the way through the reader: a field that is taken, and the wall with its panel; a row's field among some values, and
--- a field's bytes.
+-- Names for a record on its way through the reader: a row that is seen, what is behind its field, the wall with the panel; and
+-- for a row's field among some values, and a field's bytes. Assumes nothing.
 use Prim.Native.Nat.{ℕ, _+_}
 use mathlib.Core.Bool.{Bool, true}
 use mathlib.Core.List.{List, [], _∷_, _++_}
