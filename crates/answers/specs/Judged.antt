@@ -1,4 +1,4 @@
--- What one panel makes of a packet's data. 01, "Answering a burst", steps 4 and 5; "The settings".
+-- What one panel makes of a packet's data. 01, "Answering a burst", steps 4 and 5; "The settings"; 02, A1: by its own profile.
 use Prim.Native.Nat.{ℕ}
 use mathlib.Core.Bool.{cond}
 use mathlib.Core.List.{List, [], _∷_}
@@ -35,12 +35,12 @@ pub data Judged : Type 0 where
 
 -- the panel with a row's values stored, and all else as it was
 unfoldable pub stored : ℕ → List ℕ → Panel → Panel
-stored row values p = record { id = p .id; group = p .group; values = valuesWith row values (p .values) }
+stored row values p = record { id = p .id; group = p .group; profile = p .profile; values = valuesWith row values (p .values) }
 
 -- one panel decides for itself
 unfoldable pub judge : Command → Panel → Judged
 judge (getOf row) p = reported (getCode row ∷ valuesOf row (p .values))
-judge (setOf row values) p = cond (allowedFor row values) (taken (stored row values p)) notAvailable
+judge (setOf row values) p = cond (allowedFor (p .profile) row values) (taken (stored row values p)) notAvailable
 judge unavailable p = notAvailable
 
 abbrev pub panelAfter : Judged → Panel → Panel

@@ -1,7 +1,8 @@
--- The sample wall. 01, "Bursts to try": panels 1 and 2, both in group 9, fresh.
+-- The sample wall. 01, "Bursts to try": panels 1 and 2, both in group 9, fresh; both are general.
 use mathlib.Core.List.{[], _∷_}
+use Rattle.settings.specs.declared.Profile.the-variants.{General}
 use Rattle.packet.specs.Packet.{monitorId, groupId}
 use Rattle.panels.specs.Wall.{Wall, freshPanel}
 
 unfoldable pub twoPanels : Wall
-twoPanels = freshPanel (monitorId 1) (groupId 9) ∷ freshPanel (monitorId 2) (groupId 9) ∷ []
+twoPanels = freshPanel (monitorId 1) (groupId 9) General ∷ freshPanel (monitorId 2) (groupId 9) General ∷ []

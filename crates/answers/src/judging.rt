@@ -3,10 +3,10 @@ ghost use mathlib.Core.Path.{_≡_};
 ghost use mathlib.Core.List.{_∷_};
 ghost use Prim.Native.Nat.{_+_, _<_};
 ghost use lib.ListN.{length, drop};
-ghost use Rattle.settings.specs.Settings.{getCode, byteCount, rowCount};
+ghost use Rattle.settings.specs.Settings.{getCode, byteCount, allowedFor, rowCount};
 ghost use Rattle.panels.specs.Wall.{valuesOf};
 ghost use Rattle.answers.specs.Reply.{reportFrom};
-ghost use Rattle.answers.specs.Judged.{setOf, command, stored};
+ghost use Rattle.answers.specs.Judged.{command, stored};
 ghost use Rattle.answers.specs.Private.Orders.{orderOf};
 use crate::Answer;
 use crate::MOST_REPORTED;
@@ -14,16 +14,6 @@ use crate::Order;
 use crate::Reply;
 use panels::Panel;
 use settings::Found;
-
-fn set_order(row: usize, d: &[u8]) -> Order
-    requires { ⌜ (row < rowCount) × (0 < length (now d)) ⌝ }
-    ensures { λ r. ⌜ r ≡ orderOf (setOf row (drop 1 (now (d .entry)))) ⌝ }
-{
-    if settings::allowed(row, &d[1..]) {
-        return Order::Store(row);
-    }
-    Order::NotAvailable
-}
 
 // What these data bytes ask.
 pub fn order_of(d: &[u8]) -> Order
@@ -35,7 +25,7 @@ pub fn order_of(d: &[u8]) -> Order
     }
     let found = settings::find_setting(d[0]);
     match found {
-        Found::Set(row) => set_order(row, d),
+        Found::Set(row) => Order::Store(row),
         Found::Get(row) => {
             if n == 1 {
                 Order::Report(row)
@@ -47,6 +37,15 @@ pub fn order_of(d: &[u8]) -> Order
     }
 }
 
+// Whether a panel takes the values behind the set code, in its own profile.
+pub fn takes(p: Panel, row: usize, d: &[u8]) -> bool
+    requires { ⌜ (row < rowCount) × (0 < length (now d)) ⌝ }
+    ensures { λ r. ⌜ r ≡ allowedFor (p .profile) row (drop 1 (now (d .entry))) ⌝ }
+{
+    let profile = p.profile;
+    settings::allowed(profile, row, &d[1..])
+}
+
 // The panel with the values behind the set code stored in a row.
 pub fn with_values(p: Panel, row: usize, d: &[u8]) -> Panel
     requires { ⌜ (row < rowCount) × (length (now d) ≡ byteCount row + 1) ⌝ }
@@ -54,9 +53,15 @@ pub fn with_values(p: Panel, row: usize, d: &[u8]) -> Panel
 {
     let id = p.id;
     let group = p.group;
+    let profile = p.profile;
     let mut values = p.values;
     settings::store(row, &d[1..], &mut values);
-    Panel { id, group, values }
+    Panel {
+        id,
+        group,
+        profile,
+        values,
+    }
 }
 
 // A panel's report of a row: the get code, and then its values.

@@ -28,8 +28,8 @@ pub struct Reply {
     pub count: usize,
 }
 
-// What a packet asks of every addressed panel alike: a report of a row, its values to be stored in a row, or nothing
-// that is available.
+// What a packet asks of every addressed panel: a report of a row, its values to be stored in a row if the panel takes them,
+// or nothing that is available.
 enum Order {
     Report(usize),
     Store(usize),

@@ -1,10 +1,10 @@
 // A burst played on the table.
 ghost use mathlib.Core.Path.{_≡_};
-ghost use mathlib.Core.Bool.{true, false};
+ghost use mathlib.Core.Bool.{false};
 ghost use mathlib.Core.List.{map};
-ghost use Prim.Native.Nat.{_+_, _<_};
+ghost use Prim.Native.Nat.{_<_};
 ghost use lib.ListN.{length, drop};
-ghost use Rattle.settings.specs.Settings.{byteCount, allowedFor, rowCount};
+ghost use Rattle.settings.specs.Settings.{rowCount};
 ghost use Rattle.packet.specs.Packet.{groupId};
 ghost use Rattle.panels.specs.Wall.{tableOf, panelsOf};
 ghost use Rattle.packet.specs.Answered.{isHeard};
@@ -38,6 +38,10 @@ fn play_one(t: Table, k: usize, order: Order, d: &[u8]) -> Played
             Played { table: t, reply }
         }
         Order::Store(row) => {
+            if !judging::takes(p, row, d) {
+                let reply = answering::word_from(id, Control::Nav);
+                return Played { table: t, reply };
+            }
             let mut after = t;
             let q = judging::with_values(p, row, d);
             after.panels[k] = q;
@@ -54,20 +58,23 @@ fn play_one(t: Table, k: usize, order: Order, d: &[u8]) -> Played
     }
 }
 
-// The panel after a set: with the values, if it is addressed.
+// The panel after a set: with the values, if it is addressed and takes them.
 fn store_in(p: Panel, id: MonitorId, group: GroupId, row: usize, d: &[u8]) -> Panel
-    requires { ⌜ (row < rowCount) × (length (now d) ≡ byteCount row + 1) × (allowedFor row (drop 1 (now d)) ≡ true) ⌝ }
+    requires { ⌜ (row < rowCount) × (0 < length (now d)) ⌝ }
     ensures { λ r. ⌜ r ≡ turned id group (setOf row (drop 1 (now (d .entry)))) p ⌝ }
 {
-    if panels::addresses(id, group, p) {
-        return judging::with_values(p, row, d);
+    if !panels::addresses(id, group, p) {
+        return p;
     }
-    p
+    if !judging::takes(p, row, d) {
+        return p;
+    }
+    judging::with_values(p, row, d)
 }
 
-// The values are stored in every panel that is addressed.
+// The values are stored in every panel that is addressed and takes them.
 fn store_in_all(t: Table, id: MonitorId, group: GroupId, row: usize, d: &[u8]) -> Table
-    requires { ⌜ WellFormed t × (row < rowCount) × (length (now d) ≡ byteCount row + 1) × (allowedFor row (drop 1 (now d)) ≡ true) ⌝ }
+    requires { ⌜ WellFormed t × (row < rowCount) × (0 < length (now d)) ⌝ }
     ensures { λ r. ⌜ r ≡ tableOf (map (turned id group (setOf row (drop 1 (now (d .entry))))) (panelsOf t)) ⌝ }
 {
     let n = t.count;
@@ -95,7 +102,7 @@ fn play_heard(t: Table, id: MonitorId, d: &[u8]) -> Played
     play_one(t, k, order, d)
 }
 
-// A packet to all or to a group: a set is stored where it is allowed, and nobody answers.
+// A packet to all or to a group: each panel takes a set or keeps what it had, and nobody answers.
 fn play_unheard(t: Table, id: MonitorId, group: GroupId, d: &[u8]) -> Played
     requires { ⌜ WellFormed t × (isHeard id group ≡ false) ⌝ }
     ensures { λ r. ⌜ r ≡ inTable (playedPacket (panelsOf t) id group (command (now (d .entry)))) ⌝ }

@@ -1,6 +1,6 @@
 -- Demand 1. Assumes nothing.
 use Prim.Native.Nat.{ℕ, _<_}
-use mathlib.Core.Bool.{Bool, true, false, cond, false≢true}
+use mathlib.Core.Bool.{Bool, true, false, cond, false≢true, _&&_}
 use mathlib.Core.Logic.{inl, inr}
 use mathlib.Core.Path.{_≡_, refl, sym, ap, _∙_}
 use mathlib.Core.List.{List, [], _∷_, flatten}
@@ -18,7 +18,7 @@ use Rattle.panels.specs.declared.Panel.{Panel}
 use Rattle.panels.specs.declared.Place.{Place}
 use Rattle.panels.specs.declared.Place.the-variants.{At, Nowhere}
 use Rattle.panels.specs.declared.Refusal.{Refusal}
-use Rattle.panels.specs.declared.Refusal.the-variants.{Nothing, Full, IdZero, IdTaken, GroupZero, NoPanel}
+use Rattle.panels.specs.declared.Refusal.the-variants.{Nothing, Full, IdZero, IdTaken, GroupZero, UnknownProfile, NoPanel}
 use Rattle.panels.specs.Wall.{Wall, blank, placeOf, panelsOf}
 use Rattle.panels.specs.Addressed.{reaches}
 use Rattle.panels.specs.Calls.{refusalOf as tableNumber, ifThere, addRefusal, added, without, removed}
@@ -28,8 +28,8 @@ use Rattle.answers.specs.Judged.{command}
 use Rattle.answers.specs.Played.{turned, playedBy, played}
 use Rattle.lists.proofs.Mapped.{map-same}
 use Rattle.answers.proofs.Turns.{stays}
-use Rattle.image_write.specs.declared.Written.the-variants.{Bytes as WrittenBytes, NoRoom as NotWritten}
-use Rattle.image_write.specs.Written.{imageOf, recordsOf, sizeOf, writtenOf, bytesWritten, outputOf as imageOutput}
+use Rattle.image_write.specs.declared.Written.the-variants.{Bytes as WrittenBytes, WouldLose, NoRoom as NotWritten}
+use Rattle.image_write.specs.Written.{imageOf, recordsOf, sizeOf, losesNothing, writtenOf, bytesWritten, outputOf as imageOutput}
 use Rattle.image_read.specs.declared.Refusal.{Refusal as ImageRefusal}
 use Rattle.image_read.specs.declared.Refusal.the-variants.{Nothing as Sound}
 use Rattle.image_read.specs.Whole.{wholeRefusal, recordsIn}
@@ -50,7 +50,7 @@ use Rattle.demands.specs.Demand1.{AddRefused, RemoveRefused, ReadRefused
 
 pub add-refused : AddRefused
 unfolding added
-add-refused w i g refused = go (addRefusal w i g) _ refused
+add-refused w i g n refused = go (addRefusal w i g n) _ refused
   where
     go : (r : Refusal) (then : Wall) → (r ≡ Nothing → ⊥) → cond (eqb (tableNumber r) 0) then w ≡ w
     go Nothing then n = absurd (n refl)
@@ -58,6 +58,7 @@ add-refused w i g refused = go (addRefusal w i g) _ refused
     go IdZero then n = refl
     go IdTaken then n = refl
     go GroupZero then n = refl
+    go UnknownProfile then n = refl
     go NoPanel then n = refl
 
 pub remove-refused : RemoveRefused
@@ -96,13 +97,14 @@ answer-alone out r = go (leb longest (length out))
 
 pub image-alone : ImageAlone
 unfolding writtenOf imageOutput
-image-alone t f out = go (leb (sizeOf (panelsOf t)) (length out))
+image-alone t f out = go (losesNothing (panelsOf t)) (leb (sizeOf (panelsOf t)) (length out))
   where
-    go : (b : Bool)
-        → let n = bytesWritten (cond b (WrittenBytes (sizeOf (panelsOf t))) NotWritten) in
-        drop n (cond b (laidOver (imageOf (recordsOf (panelsOf t))) out) out) ≡ drop n out
-    go true = rw (← image-size (panelsOf t) (f .good)) (behind-over (imageOf (recordsOf (panelsOf t))) out)
-    go false = refl
+    go : (a b : Bool)
+        → let n = bytesWritten (cond a (cond b (WrittenBytes (sizeOf (panelsOf t))) NotWritten) WouldLose) in
+        drop n (cond (a && b) (laidOver (imageOf (recordsOf (panelsOf t))) out) out) ≡ drop n out
+    go true true = rw (← image-size (panelsOf t) (f .good)) (behind-over (imageOf (recordsOf (panelsOf t))) out)
+    go true false = refl
+    go false b = refl
 
 -- a refusal gives no panel
 abbrev NoneRefused : Reading → Type 0

@@ -32,13 +32,14 @@ use Rattle.demands.proofs.Cases.{p-cases}
 use Rattle.image_read.specs.declared.Read.{Read}
 use Rattle.image_read.proofs.Sound.{read-formed}
 use Rattle.image_read.proofs.Order.{read-any-order, read-by-code, left-out}
+use Rattle.image_write.proofs.Losing.{was-written}
 use Rattle.image.proofs.Back.{front-is-image, table-back}
 use Rattle.line.proofs.Streams.{stream-after}
 use Rattle.demands.specs.Demand2.{SetBy, OnlyAddressed, Answer·Is, Answers, Received, empty, add, remove, image, burst, InRange, ReadsBack, AnyOrder, ByCode, LeftOut, Cases}
 
 pub in-range : InRange
 in-range t empty = empty-formed
-in-range t (add c i g) = added-formed (in-range _ c) i g
+in-range t (add c i g n) = added-formed (in-range _ c) i g n
 in-range t (remove c i) = removed-formed (in-range _ c) i
 in-range t (image bytes) = read-formed bytes
 in-range t (burst c b) = played-formed (in-range _ c) b
@@ -50,9 +51,9 @@ module _ (b : List ℕ) (i : MonitorId) (g : GroupId) (n : ℕ) (e : verdictOf b
   unfolding judge
   set-by (getOf row) d r = inl refl
   set-by unavailable d r = inl refl
-  set-by (setOf row vs) d r = go (allowedFor row vs) refl
+  set-by (setOf row vs) d r = go (allowedFor (p .profile) row vs) refl
     where
-      go : (t : Bool) → allowedFor row vs ≡ t
+      go : (t : Bool) → allowedFor (p .profile) row vs ≡ t
           → (panelAfter (cond t (taken (stored row vs p)) notAvailable) p ≡ p)
           ⊎ SetBy b p (panelAfter (cond t (taken (stored row vs p)) notAvailable) p)
       go false a = inl refl
@@ -66,7 +67,7 @@ module _ (b : List ℕ) (i : MonitorId) (g : GroupId) (n : ℕ) (e : verdictOf b
         addressed = r;
         named = d;
         inRange = a;
-        same = unfold stored in (refl, refl);
+        same = unfold stored in (refl, refl, refl);
         stored = stored-own row vs p a (ok .full);
         others = stored-others row vs p a (ok .full);
       })
@@ -99,7 +100,7 @@ judged-answer : (w : Wall) (i : MonitorId) (k : ℕ) (c : Command) → k < lengt
 unfolding judge
 judged-answer w i k (getOf row) h e = inr (inr (i, k, row, h, e, refl))
 judged-answer w i k unavailable h e = inr (inl (i, Nav, refl))
-judged-answer w i k (setOf row vs) h e = go (allowedFor row vs)
+judged-answer w i k (setOf row vs) h e = go (allowedFor (getD w k blank .profile) row vs)
   where
     go : (t : Bool) → Answer·Is w (replyBy i (cond t (taken (stored row vs (getD w k blank))) notAvailable))
     go true = inr (inl (i, Ack, refl))
@@ -141,9 +142,9 @@ received w events = stream-after [] w events
 
 -- The image.
 pub reads-back : ReadsBack
-reads-back t f out room =
-    let back = table-back f in
-    rw (front-is-image (panelsOf t) (f .good) out room) (ap (λ (r : Read). r .refusal) back, ap (λ (r : Read). r .table) back)
+reads-back t f out n written =
+    let back = table-back f (was-written (panelsOf t) out n written .0) in
+    rw (front-is-image (panelsOf t) (f .good) out n written) (ap (λ (r : Read). r .refusal) back, ap (λ (r : Read). r .table) back)
 
 pub any-order : AnyOrder
 any-order = read-any-order

@@ -8,6 +8,7 @@ use borrow.Author.Tests.{eqb-true, eq-eqb}
 use lib.Dec.{eqb, leb}
 use lib.ListN.{length, getD, replicate, length-take}
 use lib.Seq.{take-append-seam}
+use Rattle.settings.specs.declared.Profile.{Profile}
 use Rattle.settings.specs.declared.Found.{Found}
 use Rattle.settings.specs.declared.Found.the-variants.{Set, Get, Nothing}
 use Rattle.settings.specs.Settings.{settings, foundBy, getCode, allowedFor, rowCount, mostValues}
@@ -38,7 +39,7 @@ use Rattle.answers.proofs.Turns.{stays}
 use Rattle.answers.specs.Reply.{wordFrom, reportFrom, sentBytes}
 use Rattle.requests.specs.declared.Request.{Request}
 use Rattle.requests.specs.declared.Said.the-variants.{Report}
-use Rattle.requests.specs.Request.{requestData, requestPacket, isTaken, isRequest}
+use Rattle.requests.specs.Request.{valuesOf as requestValues, requestData, requestPacket, isTaken, isRequest}
 use Rattle.lists.specs.Lists.{same}
 use Rattle.requests.specs.Said.{isControl, isReport, endedBy, wordIn}
 use Rattle.host.specs.Heard.{saidBy, saidTo}
@@ -55,15 +56,16 @@ module _ (i : MonitorId) (g : GroupId) (p : Panel) (good : GoodPanel p) where
   unfolding turned judge
   asked-again (getOf row) r = unmoved (getOf row) (rw r)
   asked-again unavailable r = unmoved unavailable (rw r)
-  asked-again (setOf row vs) r = go (allowedFor row vs) refl
+  asked-again (setOf row vs) r = go (allowedFor (p .profile) row vs) refl
     where
-      go : (t : Bool) → allowedFor row vs ≡ t → turned i g (setOf row vs) (turned i g (setOf row vs) p) ≡ turned i g (setOf row vs) p
+      go : (t : Bool) → allowedFor (p .profile) row vs ≡ t → turned i g (setOf row vs) (turned i g (setOf row vs) p) ≡ turned i g (setOf row vs) p
       go false a = unmoved (setOf row vs) (rw (r, a))
       go true a =
           let q = stored row vs p in
           let once : turned i g (setOf row vs) p ≡ q = rw (r, a) in
           let there : reaches i g q ≡ true = unfold stored reaches in r in
-          let again : turned i g (setOf row vs) q ≡ q = rw (there, a) (stored-twice row vs p a (good .full)) in
+          let allowed : allowedFor (q .profile) row vs ≡ true = unfold stored in a in
+          let again : turned i g (setOf row vs) q ≡ q = rw (there, allowed) (stored-twice row vs p a (good .full)) in
           ap (turned i g (setOf row vs)) once ∙ again ∙ sym once
 
   turned-again : (c : Command) → turned i g c (turned i g c p) ≡ turned i g c p
@@ -95,12 +97,13 @@ pub sent-again : SentAgain
 sent-again t f b n = sent-often (panelsOf t) b n (f .good)
 
 -- The box answers a request to a panel that is there as that panel judges it.
-word-report : (code row : ℕ) (values : List ℕ) → foundBy code ≡ Get row → eqb (getCode row) 0 ≡ false → allowedFor row values ≡ true
-    → wordIn code (getCode row ∷ values) ≡ Report
+word-report : (profile : Profile) (code row : ℕ) (values : List ℕ) → foundBy code ≡ Get row → eqb (getCode row) 0 ≡ false
+    → allowedFor profile row values ≡ true → wordIn profile code (getCode row ∷ values) ≡ Report
 unfolding wordIn isControl same endedBy isReport
-word-report code row values found notZero allowed = rw (notZero, found, eq-eqb (getCode row) _ refl, allowed)
+word-report profile code row values found notZero allowed = rw (notZero, found, eq-eqb (getCode row) _ refl, allowed)
 
-module _ (w : Wall) (r : Request) (k : ℕ) (asked : isRequest r ≡ true) (due : isHeard (r .id) (r .group) ≡ true) (there : placeOf (r .id) w ≡ At k) where
+module _ (w : Wall) (r : Request) (k : ℕ) (asked : isRequest r ≡ true) (due : isHeard (r .id) (r .group) ≡ true) (there : placeOf (r .id) w ≡ At k)
+    (told : getD w k blank .profile ≡ r .profile) where
   abbrev panel : Panel
   panel = getD w k blank
 
@@ -116,7 +119,7 @@ module _ (w : Wall) (r : Request) (k : ℕ) (asked : isRequest r ≡ true) (due 
   waiting = record { request = r; given = requestPacket r ∷ [] }
 
   hears : (d : List ℕ) → length d ≤ mostData
-      → step (step idle (start r) .next) (burst (packetOf (r .id) (groupId 0) d)) ≡ ending waiting d (wordIn (r .code) d)
+      → step (step idle (start r) .next) (burst (packetOf (r .id) (groupId 0) d)) ≡ ending waiting d (wordIn (r .profile) (r .code) d)
   unfolding step begun heard saidTo saidBy
   hears d short =
       rw (asked, due, packet-data (r .id) (groupId 0) d short, packet-verdict (r .id) (groupId 0) d short, eq-eqb (r .id .0) _ refl)
@@ -126,7 +129,7 @@ module _ (w : Wall) (r : Request) (k : ℕ) (asked : isRequest r ≡ true) (due 
   unfolding isTaken command judge sentBytes ending
   ends good Nothing found t = absurd (false≢true t)
   ends good (Set row) found t =
-      let allowed = both (not (eqb (r .group .0) 255)) _ t .1 in
+      let allowed : allowedFor (panel .profile) row (requestValues r) ≡ true = rw told (both (not (eqb (r .group .0) 255)) _ t .1) in
       let reply : played w (requestPacket r) .reply ≡ wordFrom (r .id) AckWord = box-answers ∙ rw (found, allowed) in
       rw reply (hears (controlData AckWord) (omega arith) ∙ (unfold wordIn isControl same endedBy in rw found))
   ends good (Get row) found t =
@@ -138,10 +141,10 @@ module _ (w : Wall) (r : Request) (k : ℕ) (asked : isRequest r ≡ true) (due 
       let sent : sentBytes (reportFrom (r .id) d) ≡ packetOf (r .id) (groupId 0) d = ap (packetOf (r .id) (groupId 0)) (take-append-seam d _) in
       let notZero = alike (λ j. eqb (getCode j) 0) (λ j. false) rowCount (unfold settings in refl) inTable in
       rw (reply, sent)
-      (hears d short ∙ ap (ending waiting d) (word-report (r .code) row (valuesOf row (panel .values)) found notZero (good .inRange row inTable)))
+      (hears d short ∙ ap (ending waiting d) (word-report (r .profile) (r .code) row (valuesOf row (panel .values)) found notZero (rw (← told) (good .inRange row inTable))))
 
 pub lossless : Lossless
 unfolding isRequest
-lossless t f r k asked due there =
+lossless t f r k asked due there told =
     let h = place-there (r .id) (panelsOf t) k there .0 in
-    ends (panelsOf t) r k asked due there (good-at (panelsOf t) (f .good) k h) (foundBy (r .code)) refl (both (leb (r .count) mostValues) _ asked .1)
+    ends (panelsOf t) r k asked due there told (good-at (panelsOf t) (f .good) k h) (foundBy (r .code)) refl (both (leb (r .count) mostValues) _ asked .1)

@@ -3,5 +3,6 @@ pub mod Cases
 pub mod Demand1
 pub mod Demand2
 pub mod Demand3
+pub mod Profiles
 pub mod WrongBoxes
 pub mod HostAndBox

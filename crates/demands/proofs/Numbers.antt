@@ -1,33 +1,41 @@
 -- The numbers that calls refuse by. Assumes nothing.
 use Prim.Native.Nat.{_+_}
 use mathlib.Core.Path.{_≡_, refl}
-use mathlib.Core.Bool.{Bool, true, false, cond, _&&_}
+use mathlib.Core.Bool.{Bool, true, false, cond, _&&_, _||_}
 use lib.Dec.{leb, eqb}
 use lib.ListN.{length}
+use Rattle.settings.specs.declared.Profile.the-variants.{General, Phoenix}
+use Rattle.settings.specs.declared.Numbered.the-variants.{Known, Unknown}
+use Rattle.settings.specs.Profiles.{profileWith}
 use Rattle.packet.specs.declared.Written.the-variants.{Bytes as PacketBytes, TooLong, NoRoom as NoPacket}
 use Rattle.packet.specs.Packet.{writtenOf as packetWritten}
 use Rattle.panels.specs.declared.Place.{Place}
 use Rattle.panels.specs.declared.Place.the-variants.{At, Nowhere}
-use Rattle.panels.specs.declared.Refusal.the-variants.{Nothing, Full, IdZero, IdTaken, GroupZero, NoPanel}
+use Rattle.panels.specs.declared.Refusal.the-variants.{Nothing, Full, IdZero, IdTaken, GroupZero, UnknownProfile, NoPanel}
 use Rattle.panels.specs.Wall.{placeOf}
-use Rattle.panels.specs.Calls.{refusalOf as tableNumber, ifThere, addRefusal}
+use Rattle.panels.specs.Calls.{refusalOf as tableNumber, ifThere, ifKnown, addRefusal}
 use Rattle.answers.specs.declared.Sent.the-variants.{Bytes as AnswerBytes, NoRoom as NoAnswer}
 use Rattle.answers.specs.Reply.{sentBytes, sentOf}
-use Rattle.image_write.specs.declared.Written.the-variants.{Bytes as ImageBytes, NoRoom as NoImage}
-use Rattle.image_write.specs.Written.{sizeOf, writtenOf as imageWritten}
+use Rattle.image_write.specs.declared.Written.the-variants.{Bytes as ImageBytes, WouldLose, NoRoom as NoImage}
+use Rattle.image_write.specs.Written.{sizeOf, losesNothing, writtenOf as imageWritten}
 use Rattle.demands.specs.Numbers.{Add, Remove, imageNumber, answerNumber, packetNumber, Image, Answer, Packet}
 
 pub add-number : Add
-unfolding addRefusal
-add-number w i g = go (leb 32 (length w)) (eqb (i .0) 0) (placeOf i w) (eqb (g .0) 0)
+unfolding addRefusal profileWith
+add-number w i g n = go (leb 32 (length w)) (eqb (i .0) 0) (placeOf i w) (eqb (g .0) 0) (eqb n 0) (eqb n 1)
   where
-    go : (a b : Bool) (q : Place) (c : Bool)
-        → tableNumber (cond a Full (cond b IdZero (ifThere q IdTaken (cond c GroupZero Nothing)))) ≡ cond a 1 (cond b 2 (ifThere q 3 (cond c 4 0)))
-    go true b q c = refl
-    go false true q c = refl
-    go false false (At k) c = refl
-    go false false Nowhere true = refl
-    go false false Nowhere false = refl
+    go : (a b : Bool) (q : Place) (c d e : Bool)
+        → tableNumber
+        (cond a Full
+        (cond b IdZero (ifThere q IdTaken (cond c GroupZero (ifKnown (cond d (Known General) (cond e (Known Phoenix) Unknown)) Nothing UnknownProfile)))))
+        ≡ cond a 1 (cond b 2 (ifThere q 3 (cond c 4 (cond (d || e) 0 5))))
+    go true b q c d e = refl
+    go false true q c d e = refl
+    go false false (At k) c d e = refl
+    go false false Nowhere true d e = refl
+    go false false Nowhere false true e = refl
+    go false false Nowhere false false true = refl
+    go false false Nowhere false false false = refl
 
 pub remove-number : Remove
 remove-number w i = go (placeOf i w)
@@ -38,11 +46,12 @@ remove-number w i = go (placeOf i w)
 
 pub image-number : Image
 unfolding imageWritten imageNumber
-image-number w out = go (leb (sizeOf w) (length out))
+image-number w out = go (losesNothing w) (leb (sizeOf w) (length out))
   where
-    go : (t : Bool) → imageNumber (cond t (ImageBytes (sizeOf w)) NoImage) ≡ cond t 0 19
-    go true = refl
-    go false = refl
+    go : (a b : Bool) → imageNumber (cond a (cond b (ImageBytes (sizeOf w)) NoImage) WouldLose) ≡ cond a (cond b 0 19) 31
+    go true true = refl
+    go true false = refl
+    go false b = refl
 
 pub answer-number : Answer
 unfolding sentOf answerNumber

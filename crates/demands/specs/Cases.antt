@@ -1,6 +1,7 @@
 -- 01, "Bursts to try", the cases marked P: panels 1 and 2, both in group 9, fresh before each line.
 use Prim.Native.Nat.{ℕ}
 use mathlib.Core.List.{List, [], _∷_}
+use Rattle.settings.specs.declared.Profile.the-variants.{General}
 use Rattle.packet.specs.Packet.{monitorId, groupId}
 use Rattle.panels.specs.declared.Panel.{Panel}
 use Rattle.panels.specs.Wall.{Wall, freshPanel}
@@ -11,7 +12,7 @@ use Rattle.answers.specs.Played.{played}
 
 -- a fresh panel whose fan is v; the fan is row 4
 abbrev pub fanAt : ℕ → ℕ → Panel
-fanAt i v = stored 4 (v ∷ []) (freshPanel (monitorId i) (groupId 9))
+fanAt i v = stored 4 (v ∷ []) (freshPanel (monitorId i) (groupId 9) General)
 
 -- a burst, the bytes of its answer, and the wall after it
 pub record Case : Type 0 where

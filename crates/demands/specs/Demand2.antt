@@ -1,6 +1,6 @@
 -- Demand 2. Each burst gets exactly the answer that 01 gives: that is `played`, to which `line::play` is proved equal. What
 -- it never does is said here.
-use Prim.Native.Nat.{ℕ, _<_, _≤_}
+use Prim.Native.Nat.{ℕ, _<_}
 use mathlib.Core.Bool.{true}
 use mathlib.Core.Logic.{_⊎_}
 use mathlib.Core.Path.{_≡_}
@@ -25,13 +25,15 @@ use Rattle.answers.specs.Played.{played}
 use Rattle.demands.specs.Cases.{Case, tried, cases}
 use Rattle.line.specs.Session.{Event, session, burstsAfter, receiverOf, streamed}
 use Rattle.image_read.specs.declared.Refusal.the-variants.{Nothing as Sound}
-use Rattle.image_write.specs.Written.{sizeOf, outputOf}
+use Rattle.image_write.specs.declared.Written.the-variants.{Bytes}
+use Rattle.image_write.specs.Written.{writtenOf, outputOf}
 use Rattle.image_read.specs.Whole.{wholeRefusal, recordsIn}
 use Rattle.image_read.specs.Fields.{fieldsIn}
 use Rattle.image_read.specs.Read.{isSound, readOf, inTable}
 use Rattle.image_read.specs.Entries.{Entry, bytesOf, freshEntry, Permuted, Without, GiveAlike, SameHead}
 
--- a panel that a set changed: it was addressed, and only the row that the set code names is another, with allowed values
+-- a panel that a set changed: it was addressed, and only the row that the set code names is another, with values that the
+-- panel's own profile allows
 pub record SetBy (b : List ℕ) (p q : Panel) : Type 0 where
   pub id : MonitorId
   pub group : GroupId
@@ -41,8 +43,8 @@ pub record SetBy (b : List ℕ) (p q : Panel) : Type 0 where
   pub intact : verdictOf b ≡ Intact id group count
   pub addressed : reaches id group p ≡ true
   pub named : command (dataOf b (Intact id group count)) ≡ setOf row values
-  pub inRange : allowedFor row values ≡ true
-  pub same : (q .id ≡ p .id) × (q .group ≡ p .group)
+  pub inRange : allowedFor (p .profile) row values ≡ true
+  pub same : (q .id ≡ p .id) × (q .group ≡ p .group) × (q .profile ≡ p .profile)
   pub stored : valuesOf row (q .values) ≡ values
   pub others : (other : ℕ) → (other ≡ row → ⊥) → valuesOf other (q .values) ≡ valuesOf other (p .values)
 
@@ -71,7 +73,7 @@ Received = (w : Wall) (events : List Event) → streamed (receiverOf []) w event
 -- tables come from the empty one by add, remove and bursts, or from an image
 pub data Comes : Table → Type 0 where
   empty : Comes (tableOf [])
-  add : {t : Table} → Comes t → (i : MonitorId) (g : GroupId) → Comes (tableOf (added (panelsOf t) i g))
+  add : {t : Table} → Comes t → (i : MonitorId) (g : GroupId) (n : ℕ) → Comes (tableOf (added (panelsOf t) i g n))
   remove : {t : Table} → Comes t → (i : MonitorId) → Comes (tableOf (removed (panelsOf t) i))
   image : (bytes : List ℕ) → Comes (inTable (readOf bytes) .table)
   burst : {t : Table} → Comes t → (b : List ℕ) → Comes (tableOf (played (panelsOf t) b .wall))
@@ -79,11 +81,11 @@ pub data Comes : Table → Type 0 where
 abbrev pub InRange : Type 0
 InRange = (t : Table) → Comes t → WellFormed t
 
--- A written setup reads back as the same table.
+-- A written setup reads back as the same table: all that is not refused, by 31 or 19.
 abbrev pub ReadsBack : Type 0
 ReadsBack =
-    (t : Table) → WellFormed t → (out : List ℕ) → sizeOf (panelsOf t) ≤ length out
-    → let image = take (sizeOf (panelsOf t)) (outputOf (panelsOf t) out) in
+    (t : Table) → WellFormed t → (out : List ℕ) (n : ℕ) → writtenOf (panelsOf t) out ≡ Bytes n
+    → let image = take n (outputOf (panelsOf t) out) in
     (inTable (readOf image) .refusal ≡ Sound) × (inTable (readOf image) .table ≡ t)
 
 -- Fields go by code: an image without fault, and another whose records hold the same fields in any order, read as the same wall

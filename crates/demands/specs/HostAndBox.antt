@@ -33,10 +33,10 @@ EndsWith (Set row) p m = m ≡ over (Ack 1) []
 EndsWith (Get row) p m = m ≡ over (Report 1) (valuesOf row (p .values))
 EndsWith Nothing p m = ⊥
 
--- On a line that loses nothing, a request to a panel that is there ends so.
+-- On a line that loses nothing, a request to a panel that is there, and of the profile that the request says, ends so.
 abbrev pub Lossless : Type 0
 Lossless =
     (t : Table) → WellFormed t → (r : Request) (k : ℕ) → isRequest r ≡ true → isHeard (r .id) (r .group) ≡ true
-    → placeOf (r .id) (panelsOf t) ≡ At k
+    → placeOf (r .id) (panelsOf t) ≡ At k → getD (panelsOf t) k blank .profile ≡ r .profile
     → let answer = sentBytes (played (panelsOf t) (requestPacket r) .reply) in
     EndsWith (foundBy (r .code)) (getD (panelsOf t) k blank) (step (step idle (start r) .next) (burst answer))

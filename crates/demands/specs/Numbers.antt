@@ -1,7 +1,7 @@
 -- The numbers that calls refuse by, 0 where nothing is refused. 01, "Table calls and numbers": each is given exactly when its
 -- row says, lower numbers first. 11 to 18 go with the order of reading, in `image_read`; 21 and 22 with the machine, in `host`.
 use Prim.Native.Nat.{ℕ, _+_, _*_}
-use mathlib.Core.Bool.{cond, _&&_}
+use mathlib.Core.Bool.{cond, _&&_, _||_}
 use mathlib.Core.Path.{_≡_}
 use mathlib.Core.List.{List}
 use lib.Dec.{leb, eqb}
@@ -18,15 +18,16 @@ use Rattle.answers.specs.declared.Sent.{Sent}
 use Rattle.answers.specs.declared.Sent.the-variants.{Bytes as AnswerBytes, NoRoom as NoAnswerRoom}
 use Rattle.answers.specs.Reply.{sentOf}
 use Rattle.image_write.specs.declared.Written.{Written as ImageWritten}
-use Rattle.image_write.specs.declared.Written.the-variants.{Bytes as ImageBytes, NoRoom as NoImageRoom}
-use Rattle.image_write.specs.Written.{writtenOf as imageWritten}
+use Rattle.image_write.specs.declared.Written.the-variants.{Bytes as ImageBytes, WouldLose, NoRoom as NoImageRoom}
+use Rattle.image_write.specs.Written.{losesNothing, writtenOf as imageWritten}
 
--- 32 panels are there, ID 0, ID in the table, group 0
+-- 32 panels are there, ID 0, ID in the table, group 0, a profile that is neither 0 nor 1
 abbrev pub Add : Type 0
 Add =
-    (w : Wall) (i : MonitorId) (g : GroupId)
-    → tableNumber (addRefusal w i g)
-    ≡ cond (leb 32 (length w)) 1 (cond (eqb (i .0) 0) 2 (ifThere (placeOf i w) 3 (cond (eqb (g .0) 0) 4 0)))
+    (w : Wall) (i : MonitorId) (g : GroupId) (n : ℕ)
+    → tableNumber (addRefusal w i g n)
+    ≡ cond (leb 32 (length w)) 1
+    (cond (eqb (i .0) 0) 2 (ifThere (placeOf i w) 3 (cond (eqb (g .0) 0) 4 (cond (eqb n 0 || eqb n 1) 0 5))))
 
 -- no panel has that ID
 abbrev pub Remove : Type 0
@@ -35,6 +36,7 @@ Remove = (w : Wall) (i : MonitorId) → tableNumber (removedFrom w i .refusal) �
 -- the number of what writing answers: an image, an answer, a packet
 unfoldable pub imageNumber : ImageWritten → ℕ
 imageNumber (ImageBytes n) = 0
+imageNumber WouldLose = 31
 imageNumber NoImageRoom = 19
 
 unfoldable pub answerNumber : Sent → ℕ
@@ -46,9 +48,11 @@ packetNumber (PacketBytes n) = 0
 packetNumber TooLong = 19
 packetNumber NoPacketRoom = 19
 
--- lent output too short: image under 35n + 2 bytes, answer or packet under 40; data that fits no packet is refused so too
+-- 31 where a panel is Phoenix; then 19, lent output too short: image under 35n + 2 bytes, answer or packet under 40; data that
+-- fits no packet is refused so too
 abbrev pub Image : Type 0
-Image = (w : Wall) (out : List ℕ) → imageNumber (imageWritten w out) ≡ cond (leb (35 * length w + 2) (length out)) 0 19
+Image = (w : Wall) (out : List ℕ)
+    → imageNumber (imageWritten w out) ≡ cond (losesNothing w) (cond (leb (35 * length w + 2) (length out)) 0 19) 31
 
 abbrev pub Answer : Type 0
 Answer = (out : List ℕ) (r : Reply) → answerNumber (sentOf out r) ≡ cond (leb 40 (length out)) 0 19

@@ -91,6 +91,6 @@ module _ (s : State) (b : List ℕ) where
     unfolding saidTo saidBy
     other-id g h = rw (e, eq-eqb _ _ g, ne-eqb _ _ h)
 
-    pub addressed : group .0 ≡ 0 → id .0 ≡ s .request .id .0 → heard s b ≡ ending s (dataIn b) (wordIn (s .request .code) (dataIn b))
+    pub addressed : group .0 ≡ 0 → id .0 ≡ s .request .id .0 → heard s b ≡ ending s (dataIn b) (wordIn (s .request .profile) (s .request .code) (dataIn b))
     unfolding heard saidTo saidBy
     addressed g i = rw (e, eq-eqb _ _ g, eq-eqb _ _ i)

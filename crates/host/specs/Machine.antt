@@ -4,6 +4,7 @@ use mathlib.Core.Bool.{Bool, cond}
 use mathlib.Core.List.{List, [], _∷_}
 use lib.ListN.{length, drop, replicate}
 use lib.Dec.{ltb}
+use Rattle.settings.specs.declared.Profile.the-variants.{General}
 use Rattle.settings.specs.Settings.{mostValues}
 use Rattle.packet.specs.Answered.{isHeard}
 use Rattle.packet.specs.Packet.{monitorId, groupId}
@@ -36,7 +37,7 @@ pub record Move : Type 0 where
 
 -- nothing waits, and a fixed blank stands in the place of a request
 abbrev pub idle : State
-idle = record { request = record { id = monitorId 0; group = groupId 0; code = 0; values = replicate mostValues 0; count = 0 }; given = [] }
+idle = record { request = record { profile = General; id = monitorId 0; group = groupId 0; code = 0; values = replicate mostValues 0; count = 0 }; given = [] }
 
 -- how many times the packet was sent: the number given out since start
 abbrev pub sendings : State → ℕ

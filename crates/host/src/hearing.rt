@@ -36,10 +36,11 @@ fn reported(sendings: usize, v: &[u8]) -> Step
 // The panel that was asked has sent this data.
 fn told(host: Host, d: &[u8], out: &mut [u8]) -> Step
     requires { ⌜ longest ≤ length (now out) ⌝ }
-    ensures { λ r. ⌜ Answers (ending (stateOf host) (now (d .entry)) (wordIn (host .request .code) (now (d .entry)))) (now (out .entry)) r (now (out .exit)) ⌝ }
+    ensures { λ r. ⌜ Answers (ending (stateOf host) (now (d .entry)) (wordIn (host .request .profile) (host .request .code) (now (d .entry)))) (now (out .entry)) r (now (out .exit)) ⌝ }
 {
     let request = host.request;
-    let word = requests::word_in(request.code, d);
+    let profile = request.profile;
+    let word = requests::word_in(profile, request.code, d);
     match word {
         Said::Ack => crate::plain(Host::idle(), 0, Outcome::Ack(host.sendings)),
         Said::Nack => sending::send_again(host, out),

@@ -11,6 +11,7 @@ use packet::LONGEST;
 use packet::MonitorId;
 use requests::Request;
 use settings::MOST_VALUES;
+use settings::Profile;
 
 // A packet is sent at most so often.
 const MOST_SENDINGS: usize = 3;
@@ -82,6 +83,7 @@ impl Host {
     {
         let values = [0u8; MOST_VALUES];
         let request = Request {
+            profile: Profile::General,
             id: MonitorId(0),
             group: GroupId(0),
             code: 0,

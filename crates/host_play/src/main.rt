@@ -11,25 +11,28 @@ use packet::LONGEST;
 use packet::MonitorId;
 use requests::Request;
 use settings::MOST_VALUES;
+use settings::Numbered;
+use settings::Profile;
 use text::LONGEST_STEP;
 use text::Read;
 
-// How many bytes stand before a start's values: its kind, ID, group and code.
-const START_HEAD: usize = 4;
+// How many bytes stand before a start's values: ID, group and code.
+const START_HEAD: usize = 3;
 
 // A start's ID, group, code and values, of which those are kept that a request has room for; a request with more is refused by its count.
-fn request_of(step: &[u8]) -> Request
-    requires { ⌜ startHead ≤ length (now step) ⌝ }
-    ensures { λ r. ⌜ r ≡ requestOf (now (step .entry)) ⌝ }
+fn request_of(profile: Profile, asked: &[u8]) -> Request
+    requires { ⌜ startHead ≤ length (now asked) ⌝ }
+    ensures { λ r. ⌜ r ≡ requestOf profile (now (asked .entry)) ⌝ }
 {
     let mut values = [0u8; MOST_VALUES];
-    bytes::copy(text::front(&step[START_HEAD..], MOST_VALUES), &mut values);
+    bytes::copy(text::front(&asked[START_HEAD..], MOST_VALUES), &mut values);
     Request {
-        id: MonitorId(step[1]),
-        group: GroupId(step[2]),
-        code: step[3],
+        profile,
+        id: MonitorId(asked[0]),
+        group: GroupId(asked[1]),
+        code: asked[2],
         values,
-        count: step.len() - START_HEAD,
+        count: asked.len() - START_HEAD,
     }
 }
 
@@ -86,13 +89,35 @@ fn show(step: Step, out: &[u8]) -> Host {
     step.host
 }
 
-// Says that a step is none of the three.
+// Says that a step is none of the four.
 fn unknown(host: Host) -> Host {
     io::write_all(1, b"- unknown\n");
     host
 }
 
-// One step: its kind, 1 for a start, 2 for a burst, 3 for the mark, and what stands behind it.
+// A request of a panel with this profile is started.
+fn play_start(host: Host, profile: Profile, asked: &[u8]) -> Host {
+    if asked.len() < START_HEAD {
+        return unknown(host);
+    }
+    let mut out = [0u8; LONGEST];
+    let step = host.start(request_of(profile, asked), &mut out);
+    show(step, &out)
+}
+
+// A start behind which the profile's number stands first.
+fn play_profiled(host: Host, step: &[u8]) -> Host {
+    if step.len() == 0 {
+        return unknown(host);
+    }
+    let numbered = settings::profile_with(step[0]);
+    let Numbered::Known(profile) = numbered else {
+        return unknown(host);
+    };
+    play_start(host, profile, &step[1..])
+}
+
+// One step: its kind, 1 for a start, 2 for a burst, 3 for the mark, 4 for a start with a profile, and what stands behind it.
 fn play(host: Host, step: &[u8]) -> Host {
     let n = step.len();
     if n == 0 {
@@ -100,13 +125,7 @@ fn play(host: Host, step: &[u8]) -> Host {
     }
     let mut out = [0u8; LONGEST];
     match step[0] {
-        1 => {
-            if n < START_HEAD {
-                return unknown(host);
-            }
-            let step = host.start(request_of(step), &mut out);
-            show(step, &out)
-        }
+        1 => play_start(host, Profile::General, &step[1..]),
         2 => {
             let step = host.hear(&step[1..], &mut out);
             show(step, &out)
@@ -118,6 +137,7 @@ fn play(host: Host, step: &[u8]) -> Host {
             let step = host.mark(&mut out);
             show(step, &out)
         }
+        4 => play_profiled(host, &step[1..]),
         _ => unknown(host),
     }
 }

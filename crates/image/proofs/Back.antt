@@ -1,5 +1,6 @@
 -- Reading what was written gives that table. Assumes nothing.
-use mathlib.Core.Path.{_≡_, refl, sym, ap, _∙_}
+use mathlib.Core.Path.{_≡_, refl, sym, ap, ap₂, _∙_}
+use mathlib.Core.Bool.{true}
 use mathlib.Core.List.{List, [], _∷_, _++_, flatten, append-nil}
 use Prim.Native.Nat.{ℕ, zero, suc, _≤_, _<_}
 use native.Mathlib.Nat.{not-suc-le-zero, le-of-suc-le-suc}
@@ -7,7 +8,9 @@ use native.Mathlib.Omega.{arith}
 use borrow.Author.Tests.{le-leb, eq-eqb, ne-eqb}
 use lib.ListN.{length, getD, take, drop, length-map}
 use lib.Seq.{append-snoc, take-at}
-use Rattle.settings.specs.Settings.{setCode, rowCount, valueCount}
+use Rattle.settings.specs.declared.Profile.{Profile}
+use Rattle.settings.specs.declared.Profile.the-variants.{General}
+use Rattle.settings.specs.Settings.{setCode, allowedFor, rowCount, valueCount}
 use Rattle.lists.specs.Lists.{each, laidOver}
 use Rattle.packet.specs.declared.MonitorId.{MonitorId}
 use Rattle.panels.specs.declared.Panel.{Panel}
@@ -18,7 +21,8 @@ use Rattle.panels.specs.WellFormed.{GoodPanel, Absent, GoodWall, WellFormed}
 use Rattle.panels.proofs.Formed.{absent-snoc, good-at}
 use Rattle.image_read.specs.declared.Refusal.the-variants.{Nothing}
 use Rattle.image_read.specs.declared.Read.{Read}
-use Rattle.image_write.specs.Written.{field, fieldsOf, recordOf, recordsOf, imageOf, sizeOf, outputOf}
+use Rattle.image_write.specs.declared.Written.the-variants.{Bytes}
+use Rattle.image_write.specs.Written.{field, fieldsOf, recordOf, recordsOf, imageOf, sizeOf, losesNothing, writtenOf, outputOf}
 use Rattle.image_read.specs.Fields.{fieldsIn}
 use Rattle.image_read.specs.Read.{Reading, headFits, recordRefusal, panelIn, readRecords, readOf, inTable}
 use Rattle.image_read.specs.Entries.{Entry, bytesOf, Without, givenOr, given}
@@ -26,6 +30,7 @@ use Rattle.image_read.proofs.OnTheWay.{entryBytes, entryOf}
 use Rattle.lists.proofs.Each.{each-alike, map-each}
 use Rattle.panels.proofs.Values.{length-values}
 use Rattle.image_write.proofs.Lengths.{record-at, record-length, records-long, image-length}
+use Rattle.image_write.proofs.Losing.{first-general, was-written}
 use Rattle.image_read.proofs.Entries.{rowOf, row-is, Good, GoodEntries}
 use Rattle.image_read.proofs.ByCode.{stored-is}
 use Rattle.image_read.proofs.Order.{codes-apart, good-read}
@@ -70,14 +75,17 @@ absent-nowhere i k [] a = refl
 absent-nowhere i k (p ∷ w) (n, a) = rw (ne-eqb (p .id .0) (i .0) n) (absent-nowhere i (suc k) w a)
 
 -- a panel's own entries are good, and give each row its values
-module _ (p : Panel) (good : GoodPanel p) where
+module _ (p : Panel) (good : GoodPanel p) (general : p .profile ≡ General) where
   own-row : {row : ℕ} → row < rowCount → rowOf (entryOf row (p .values)) ≡ row
   own-row {row} h = row-is (entryOf row (p .values)) h refl
+
+  in-general : (row : ℕ) → row < rowCount → allowedFor General row (valuesOf row (p .values)) ≡ true
+  in-general row h = ap (λ (profile : Profile). allowedFor profile row (valuesOf row (p .values))) (sym general) ∙ good .inRange row h
 
   own-good : GoodEntries (entriesOf (p .values))
   own-good =
       good-each (λ row. entryOf row (p .values)) rowCount
-      (λ row h. let e = own-row h in record { in-table = rw e h; code = ap setCode e; allowed = rw e (good .inRange row h) })
+      (λ row h. let e = own-row h in record { in-table = rw e h; code = ap setCode e; allowed = rw e (in-general row h) })
       (λ j k l h e. let s = codes-apart h (omega arith) e in omega arith)
 
   own-given : (row : ℕ) → row < rowCount → given row (entriesOf (p .values)) ≡ valuesOf row (p .values)
@@ -95,7 +103,8 @@ module _ (p : Panel) (good : GoodPanel p) where
 
   panel-back : panelIn (recordOf p) ≡ p
   unfolding panelIn recordOf
-  panel-back = ap {B = Panel} (λ (vs : List ℕ). record { id = p .id; group = p .group; values = vs }) fields-back
+  panel-back =
+      ap₂ {C = Panel} (λ (profile : Profile) (vs : List ℕ). record { id = p .id; group = p .group; profile = profile; values = vs }) (sym general) fields-back
 
   record-back : (w : Wall) → Absent (p .id) w → recordRefusal w (recordOf p) ≡ Nothing
   unfolding recordRefusal headFits recordOf
@@ -116,15 +125,16 @@ apart-snoc : (w v : Wall) (p : Panel) → Apart w v → Absent (p .id) v → Apa
 apart-snoc w [] p a b = tt
 apart-snoc w (q ∷ v) p (a, apart) (n, b) = (absent-snoc (q .id) w p a (λ e. n (sym e)), apart-snoc w v p apart b)
 
-records-back : (w v : Wall) → GoodWall v → Apart w v → readRecords w (recordsOf v) ≡ record { refusal = Nothing; wall = w ++ v }
+records-back : (w v : Wall) → GoodWall v → losesNothing v ≡ true → Apart w v → readRecords w (recordsOf v) ≡ record { refusal = Nothing; wall = w ++ v }
 unfolding readRecords
-records-back w [] good a = ap {B = Reading} (λ (u : Wall). record { refusal = Nothing; wall = u }) (sym (append-nil w))
-records-back w (p ∷ v) (g, b, good) (a, apart) =
-    rw (record-back p g w a, panel-back p g)
-    (records-back (w ++ p ∷ []) v good (apart-snoc w v p apart b) ∙ ap {B = Reading} (λ (u : Wall). record { refusal = Nothing; wall = u }) (append-snoc w p v))
+records-back w [] good held a = ap {B = Reading} (λ (u : Wall). record { refusal = Nothing; wall = u }) (sym (append-nil w))
+records-back w (p ∷ v) (g, b, good) held (a, apart) =
+    let (general, rest) = first-general p v held in
+    rw (record-back p g general w a, panel-back p g general)
+    (records-back (w ++ p ∷ []) v good rest (apart-snoc w v p apart b) ∙ ap {B = Reading} (λ (u : Wall). record { refusal = Nothing; wall = u }) (append-snoc w p v))
 
--- The image of a good wall is sound and reads as that wall.
-module _ (w : Wall) (good : GoodWall w) (few : length w ≤ mostPanels) where
+-- The image of a good wall that the form holds is sound and reads as that wall.
+module _ (w : Wall) (good : GoodWall w) (few : length w ≤ mostPanels) (held : losesNothing w ≡ true) where
   not-empty : (k : ℕ) → k < length (recordsOf w) → 0 < length (getD (recordsOf w) k [])
   not-empty k h =
       let h′ : k < length w = omega (arith, length-map w recordOf) in
@@ -134,7 +144,7 @@ module _ (w : Wall) (good : GoodWall w) (few : length w ≤ mostPanels) where
   unfolding readOf
   reads-back =
       let n : length (recordsOf w) ≤ mostPanels = omega (arith, length-map w recordOf) in
-      rw (whole-sound (recordsOf w) not-empty n, records-in (recordsOf w) not-empty n) (records-back [] w good (apart-none w))
+      rw (whole-sound (recordsOf w) not-empty n, records-in (recordsOf w) not-empty n) (records-back [] w good held (apart-none w))
     where
       apart-none : (v : Wall) → Apart [] v
       apart-none [] = tt
@@ -144,10 +154,12 @@ module _ (w : Wall) (good : GoodWall w) (few : length w ≤ mostPanels) where
 pub image-size : (w : Wall) → GoodWall w → length (imageOf (recordsOf w)) ≡ sizeOf w
 image-size w good = image-length (recordsOf w) ∙ rw (records-long w good, length-map w recordOf) (omega arith)
 
-pub front-is-image : (w : Wall) → GoodWall w → (out : List ℕ) → sizeOf w ≤ length out → take (sizeOf w) (outputOf w out) ≡ imageOf (recordsOf w)
+pub front-is-image : (w : Wall) → GoodWall w → (out : List ℕ) (n : ℕ) → writtenOf w out ≡ Bytes n → take n (outputOf w out) ≡ imageOf (recordsOf w)
 unfolding outputOf laidOver
-front-is-image w good out room = rw (le-leb (sizeOf w) (length out) room) (take-at (imageOf (recordsOf w)) _ (sizeOf w) (image-size w good))
+front-is-image w good out n e =
+    let (held, room, size) = was-written w out n e in
+    rw (held, le-leb (sizeOf w) (length out) room, size) (take-at (imageOf (recordsOf w)) _ (sizeOf w) (image-size w good))
 
 -- Reading a written table gives that table.
-pub table-back : {t : Table} → WellFormed t → _≡_ {A = Read} (inTable (readOf (imageOf (recordsOf (panelsOf t))))) (record { refusal = Nothing; table = t })
-table-back {t} f = ap inTable (reads-back (panelsOf t) (f .good) (f .few)) ∙ ap {B = Read} (λ (u : Table). record { refusal = Nothing; table = u }) (sym (f .held))
+pub table-back : {t : Table} → WellFormed t → losesNothing (panelsOf t) ≡ true → _≡_ {A = Read} (inTable (readOf (imageOf (recordsOf (panelsOf t))))) (record { refusal = Nothing; table = t })
+table-back {t} f held = ap inTable (reads-back (panelsOf t) (f .good) (f .few) held) ∙ ap {B = Read} (λ (u : Table). record { refusal = Nothing; table = u }) (sym (f .held))

@@ -6,6 +6,7 @@ use Prim.Native.Nat.{ℕ, _<_}
 use borrow.Author.Tests.{eqb-true, eqb-false}
 use lib.Dec.{eqb}
 use lib.ListN.{length}
+use Rattle.settings.specs.declared.Profile.the-variants.{General}
 use Rattle.settings.specs.Settings.{setCode, freshValues, valuesWith, valueCount, rowCount}
 use Rattle.settings.proofs.Laws.{fresh-count}
 use Rattle.panels.specs.Wall.{valuesOf}
@@ -51,11 +52,11 @@ stored-full (e ∷ es) values (g, w, good) full =
 
 -- what is stored over fresh values is known by what each row is given
 pub stored-is : (es : List Entry) (values : List ℕ) → GoodEntries es → length values ≡ valueCount
-    → ((row : ℕ) → row < rowCount → given row es ≡ valuesOf row values) → stored es freshValues ≡ values
+    → ((row : ℕ) → row < rowCount → given row es ≡ valuesOf row values) → stored es (freshValues General) ≡ values
 stored-is es values good full same =
-    by-rows (stored es freshValues) values (stored-full es freshValues good fresh-count) full (λ row h. by-code es freshValues good fresh-count h ∙ same row h)
+    by-rows (stored es (freshValues General)) values (stored-full es (freshValues General) good (fresh-count General)) full (λ row h. by-code es (freshValues General) good (fresh-count General) h ∙ same row h)
 
 pub stored-alike : (es fs : List Entry) → GoodEntries es → GoodEntries fs → ((row : ℕ) → row < rowCount → given row es ≡ given row fs)
-    → stored es freshValues ≡ stored fs freshValues
+    → stored es (freshValues General) ≡ stored fs (freshValues General)
 stored-alike es fs good also same =
-    stored-is es (stored fs freshValues) good (stored-full fs freshValues also fresh-count) (λ row h. same row h ∙ sym (by-code fs freshValues also fresh-count h))
+    stored-is es (stored fs (freshValues General)) good (stored-full fs (freshValues General) also (fresh-count General)) (λ row h. same row h ∙ sym (by-code fs (freshValues General) also (fresh-count General) h))

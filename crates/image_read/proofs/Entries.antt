@@ -7,10 +7,11 @@ use native.Mathlib.Omega.{arith}
 use borrow.Author.Tests.{ne-eqb}
 use lib.ListN.{length, getD, length-append, length-set}
 use lib.Seq.{take-at, drop-at, getD-set-same, getD-set-other}
+use Rattle.settings.specs.declared.Profile.the-variants.{General}
 use Rattle.settings.specs.declared.Found.{Found}
 use Rattle.settings.specs.declared.Found.the-variants.{Set, Get, Nothing}
 use Rattle.settings.specs.Settings.{foundBy, setCode, byteCount, allowedFor, valuesWith, rowCount}
-use Rattle.settings.proofs.Laws.{set-found, allowed-count}
+use Rattle.settings.proofs.Laws.{set-found, allowed-many}
 use Rattle.image_read.specs.declared.Refusal.the-variants.{Nothing as Sound}
 use Rattle.image_read.specs.declared.Step.{Step}
 use Rattle.image_read.specs.declared.Step.the-variants.{Field, NotAllowed, Broken, End}
@@ -38,7 +39,7 @@ row-is e h c = ap rowFound (ap foundBy (sym c) ∙ set-found h)
 pub record Good (e : Entry) : Type 0 where
   pub in-table : rowOf e < rowCount
   pub code : setCode (rowOf e) ≡ e .code
-  pub allowed : allowedFor (rowOf e) (e .values) ≡ true
+  pub allowed : allowedFor General (rowOf e) (e .values) ≡ true
 
 -- every entry is good, and no later one has its code
 abbrev pub GoodEntries : List Entry → Type 0
@@ -59,7 +60,7 @@ unfolding bytesOf flatten
 bytes-cons e es = refl
 
 pub count-of : {e : Entry} → Good e → length (e .values) ≡ byteCount (rowOf e)
-count-of {e} g = allowed-count _ (e .values) (g .allowed)
+count-of {e} g = allowed-many General _ (e .values) (g .allowed)
 
 -- the front of the bytes, where an entry with its row's count stands there
 module _ (e : Entry) (rest : List ℕ) (row : ℕ) (n : length (e .values) ≡ byteCount row) where
@@ -122,7 +123,7 @@ never-end seen left h e = by-found (foundBy (getD left 0 0)) (rw (ne-eqb (length
     by-tests r false false e = let z : _≡_ {A = ℕ} 0 1 = cc in omega arith
 
     by-found : (f : Found) → fieldBy f seen left ≡ End → ⊥
-    by-found (Set r) e = by-tests r (getD seen r false || misfits r left) (allowedFor r (valuesIn r left)) e
+    by-found (Set r) e = by-tests r (getD seen r false || misfits r left) (allowedFor General r (valuesIn r left)) e
     by-found (Get r) e = let z : _≡_ {A = ℕ} 0 1 = cc in omega arith
     by-found Nothing e = let z : _≡_ {A = ℕ} 0 1 = cc in omega arith
 

@@ -7,6 +7,7 @@ use native.Mathlib.Omega.{arith}
 use borrow.Author.Tests.{le-leb, ne-eqb, eqb-true}
 use lib.Dec.{eqb}
 use lib.ListN.{length, drop, replicate, getD-replicate}
+use Rattle.settings.specs.declared.Profile.the-variants.{General}
 use Rattle.settings.specs.declared.Found.the-variants.{Set}
 use Rattle.settings.specs.Settings.{foundBy, setCode, freshValues, rowCount}
 use Rattle.settings.proofs.Laws.{set-found, fresh-allowed}
@@ -52,11 +53,11 @@ none-seen : (es : List Entry) → GoodEntries es → Unseen (replicate rowCount 
 none-seen [] good = tt
 none-seen (e ∷ es) (g, w, good) = (getD-replicate rowCount (rowOf e) false false (g .in-table), none-seen es good)
 
-pub good-read : (es : List Entry) → GoodEntries es → fieldsIn (bytesOf es) ≡ record { refusal = Sound; values = stored es freshValues }
-good-read es good = all-taken es (replicate rowCount false) freshValues good (none-seen es good)
+pub good-read : (es : List Entry) → GoodEntries es → fieldsIn (bytesOf es) ≡ record { refusal = Sound; values = stored es (freshValues General) }
+good-read es good = all-taken es (replicate rowCount false) (freshValues General) good (none-seen es good)
 
 read-good : (es : List Entry) → fieldsIn (bytesOf es) .refusal ≡ Sound → GoodEntries es
-read-good es sound = no-fault es (replicate rowCount false) freshValues refl sound .0
+read-good es sound = no-fault es (replicate rowCount false) (freshValues General) refl sound .0
 
 -- Good fields that give each row the same read as the same values.
 given-alike : (es fs : List Entry) → GoodEntries es → GoodEntries fs → ((row : ℕ) → row < rowCount → given row es ≡ given row fs)
@@ -80,7 +81,7 @@ without-gives fresh row (e ∷ es) (ne, w) = rw (ne-eqb _ _ ne) (without-gives f
 fresh-gives : (row : ℕ) (es : List Entry) → row < rowCount → Without (setCode row) es → (r : ℕ) → r < rowCount → given r (freshEntry row ∷ es) ≡ given r es
 fresh-gives row es h w r k = go (eqb (setCode row) (setCode r)) refl
   where
-    go : (t : Bool) → eqb (setCode row) (setCode r) ≡ t → cond t (valuesOf row freshValues) (given r es) ≡ given r es
+    go : (t : Bool) → eqb (setCode row) (setCode r) ≡ t → cond t (valuesOf row (freshValues General)) (given r es) ≡ given r es
     go true e = let s = codes-apart h k (eqb-true _ _ e) in rw (← s) (sym (without-gives _ row es w))
     go false e = refl
 
@@ -89,7 +90,7 @@ pub left-out : (row : ℕ) (es : List Entry) → row < rowCount → Without (set
 left-out row es h w sound =
     let good = read-good es sound in
     let r = row-is (freshEntry row) h refl in
-    let g : Good (freshEntry row) = record { in-table = rw r h; code = ap setCode r; allowed = rw r (fresh-allowed h) } in
+    let g : Good (freshEntry row) = record { in-table = rw r h; code = ap setCode r; allowed = rw r (fresh-allowed General h) } in
     given-alike (freshEntry row ∷ es) es (g, w, good) good (fresh-gives row es h w)
 
 -- A record's fields decide what it comes to, and not its bytes.

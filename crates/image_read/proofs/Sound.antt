@@ -8,6 +8,7 @@ use native.Mathlib.Omega.{arith}
 use borrow.Author.Tests.{eqb-false, not-true, leb-true}
 use lib.ListN.{length, getD, drop, replicate, length-append}
 use lib.Seq.{drop-cons}
+use Rattle.settings.specs.declared.Profile.the-variants.{General}
 use Rattle.settings.specs.Settings.{freshValues, valuesWith, rowCount}
 use Rattle.lists.specs.Lists.{each}
 use Rattle.lists.proofs.Both.{both}
@@ -32,24 +33,24 @@ use Rattle.image_read.proofs.Steps.{takes}
 use Rattle.image_read.proofs.Edges.{fits}
 
 -- the values gathered are in range
-gathered-in-range : (n : ℕ) (seen : List Bool) (values left : List ℕ) → InRange values → InRange (gathered n seen values left .values)
+gathered-in-range : (n : ℕ) (seen : List Bool) (values left : List ℕ) → InRange General values → InRange General (gathered n seen values left .values)
 unfolding gathered
 gathered-in-range zero seen values left i = i
 gathered-in-range (suc n) seen values left i =
     go (stepAt seen left) refl (λ row. gathered-in-range n (seenWith row seen) (valuesWith row (valuesIn row left) values) (behind row left))
   where
     go : (s : Step) → stepAt seen left ≡ s
-        → ((row : ℕ) → InRange (valuesWith row (valuesIn row left) values)
-        → InRange (gathered n (seenWith row seen) (valuesWith row (valuesIn row left) values) (behind row left) .values))
-        → InRange (afterStep s values (λ row. gathered n (seenWith row seen) (valuesWith row (valuesIn row left) values) (behind row left)) .values)
+        → ((row : ℕ) → InRange General (valuesWith row (valuesIn row left) values)
+        → InRange General (gathered n (seenWith row seen) (valuesWith row (valuesIn row left) values) (behind row left) .values))
+        → InRange General (afterStep s values (λ row. gathered n (seenWith row seen) (valuesWith row (valuesIn row left) values) (behind row left)) .values)
     go (Field row) e ih = ih row (with-in-range i row (valuesIn row left) (takes seen left row e .allowed))
     go NotAllowed e ih = i
     go Broken e ih = i
     go End e ih = i
 
-fields-in-range : (left : List ℕ) → InRange (fieldsIn left .values)
+fields-in-range : (left : List ℕ) → InRange General (fieldsIn left .values)
 unfolding fieldsFrom
-fields-in-range left = gathered-in-range (suc (length left)) (replicate rowCount false) freshValues left fresh-in-range
+fields-in-range left = gathered-in-range (suc (length left)) (replicate rowCount false) (freshValues General) left (fresh-in-range General)
 
 -- a record that is not refused
 pub record HeadFits (w : Wall) (bytes : List ℕ) : Type 0 where

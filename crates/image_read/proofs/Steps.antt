@@ -8,6 +8,7 @@ use native.Mathlib.Omega.{arith}
 use borrow.Author.Tests.{ltb-false, eqb-true, eq-eqb, ne-eqb, le-ltb}
 use lib.Dec.{ltb, eqb}
 use lib.ListN.{length, getD, length-drop}
+use Rattle.settings.specs.declared.Profile.the-variants.{General}
 use Rattle.settings.specs.declared.Found.{Found}
 use Rattle.settings.specs.declared.Found.the-variants.{Set, Get, Nothing}
 use Rattle.settings.specs.Settings.{foundBy, setCode, byteCount, allowedFor, valuesWith, rowCount}
@@ -24,14 +25,14 @@ pub record Takes (seen : List Bool) (left : List ℕ) (row : ℕ) : Type 0 where
   pub new : getD seen row false ≡ false
   pub whole : 2 + byteCount row ≤ length left
   pub count : getD left 1 0 ≡ byteCount row
-  pub allowed : allowedFor row (valuesIn row left) ≡ true
+  pub allowed : allowedFor General row (valuesIn row left) ≡ true
 
 pub takes : (seen : List Bool) (left : List ℕ) (row : ℕ) → stepAt seen left ≡ Field row → Takes seen left row
 unfolding stepAt
 takes seen left row e = by-length (eqb (length left) 0) e
   where
     by-tests : (r : ℕ) → foundBy (getD left 0 0) ≡ Set r → (a b d g : Bool) → getD seen r false ≡ a → ltb (length left) (2 + byteCount r) ≡ b
-        → eqb (getD left 1 0) (byteCount r) ≡ d → allowedFor r (valuesIn r left) ≡ g
+        → eqb (getD left 1 0) (byteCount r) ≡ d → allowedFor General r (valuesIn r left) ≡ g
         → cond (a || (b || not d)) Broken (cond g (Field r) NotAllowed) ≡ Field row → Takes seen left row
     by-tests r found true b d g ea eb ed eg e = let z : _≡_ {A = ℕ} 0 1 = cc in absurd (omega arith)
     by-tests r found false true d g ea eb ed eg e = let z : _≡_ {A = ℕ} 0 1 = cc in absurd (omega arith)

@@ -6,6 +6,7 @@ use mathlib.Core.Bool.{cond}
 use mathlib.Core.List.{List, [], _∷_, map, flatten}
 use lib.Dec.{eqb}
 use lib.ListN.{length}
+use Rattle.settings.specs.declared.Profile.the-variants.{General}
 use Rattle.settings.specs.Settings.{setCode, freshValues, rowCount}
 use Rattle.panels.specs.Wall.{valuesOf}
 use Rattle.image_read.specs.declared.Refusal.the-variants.{Nothing as Sound}
@@ -22,7 +23,7 @@ bytesOf es = flatten (map (λ (e : Entry). e .code ∷ length (e .values) ∷ e 
 
 -- a row's field at its fresh values
 abbrev pub freshEntry : ℕ → Entry
-freshEntry row = record { code = setCode row; values = valuesOf row freshValues }
+freshEntry row = record { code = setCode row; values = valuesOf row (freshValues General) }
 
 -- the same fields in another order
 pub data Permuted : List Entry → List Entry → Type 0 where
@@ -42,7 +43,7 @@ givenOr fresh row [] = fresh
 givenOr fresh row (e ∷ es) = cond (eqb (e .code) (setCode row)) (e .values) (givenOr fresh row es)
 
 abbrev pub given : ℕ → List Entry → List ℕ
-given row es = givenOr (valuesOf row freshValues) row es
+given row es = givenOr (valuesOf row (freshValues General)) row es
 
 -- the second fields have no fault, and give each row what the first give it
 pub record GiveAlike (these those : List Entry) : Type 0 where

@@ -4,6 +4,7 @@ use mathlib.Core.Bool.{Bool, true, false, cond, not, _||_}
 use mathlib.Core.List.{List}
 use lib.Dec.{ltb, eqb}
 use lib.ListN.{length, getD, take, drop, set, replicate}
+use Rattle.settings.specs.declared.Profile.the-variants.{General}
 use Rattle.settings.specs.declared.Found.{Found}
 use Rattle.settings.specs.declared.Found.the-variants.{Set, Get, Nothing}
 use Rattle.settings.specs.Settings.{foundBy, byteCount, allowedFor, freshValues, valuesWith, rowCount}
@@ -25,7 +26,7 @@ abbrev pub fieldBy : Found → List Bool → List ℕ → Step
 fieldBy (Set row) seen left =
     cond (getD seen row false || misfits row left)
     Broken
-    (cond (allowedFor row (valuesIn row left)) (Field row) NotAllowed)
+    (cond (allowedFor General row (valuesIn row left)) (Field row) NotAllowed)
 fieldBy (Get row) seen left = Broken
 fieldBy Nothing seen left = Broken
 
@@ -53,4 +54,4 @@ fieldsFrom seen values left = gathered (suc (length left)) seen values left
 
 -- a record's fields: none seen, and a code not there means its fresh value
 abbrev pub fieldsIn : List ℕ → Fields
-fieldsIn left = fieldsFrom (replicate rowCount false) freshValues left
+fieldsIn left = fieldsFrom (replicate rowCount false) (freshValues General) left

@@ -5,6 +5,7 @@ use mathlib.Core.Bool.{Bool, true, false, cond, not, _&&_}
 use mathlib.Core.List.{List, [], _∷_, _++_}
 use lib.Dec.{leb, eqb}
 use lib.ListN.{length, getD, drop}
+use Rattle.settings.specs.declared.Profile.the-variants.{General}
 use Rattle.packet.specs.Packet.{monitorId, groupId}
 use Rattle.panels.specs.declared.Panel.{Panel}
 use Rattle.panels.specs.Wall.{Wall, tableOf, placeOf}
@@ -50,8 +51,10 @@ headFits w bytes = headStands bytes && ifThere (placeOf (monitorId (getD bytes 0
 unfoldable pub recordRefusal : Wall → List ℕ → Refusal
 recordRefusal w bytes = cond (headFits w bytes) (fieldsIn (drop 2 bytes) .refusal) Record
 
+-- form 1 has no room for a profile: what is read is general
 unfoldable pub panelIn : List ℕ → Panel
-panelIn bytes = record { id = monitorId (getD bytes 0 0); group = groupId (getD bytes 1 0); values = fieldsIn (drop 2 bytes) .values }
+panelIn bytes =
+    record { id = monitorId (getD bytes 0 0); group = groupId (getD bytes 1 0); profile = General; values = fieldsIn (drop 2 bytes) .values }
 
 -- records in order, each a panel at the end of the wall
 unfoldable pub readRecords : Wall → List (List ℕ) → Reading

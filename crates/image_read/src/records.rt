@@ -14,6 +14,7 @@ use crate::whole;
 use packet::GroupId;
 use packet::MonitorId;
 use panels::Panel;
+use settings::Profile;
 use settings::VALUE_COUNT;
 
 // At least 2 bytes, neither ID nor group 0, and an ID not seen before.
@@ -43,6 +44,7 @@ fn panel_of(bytes: &[u8], seen: &[bool]) -> ReadPanel
         let panel = Panel {
             id: MonitorId(0),
             group: GroupId(0),
+            profile: Profile::General,
             values: [0u8; VALUE_COUNT],
         };
         return ReadPanel {
@@ -56,6 +58,7 @@ fn panel_of(bytes: &[u8], seen: &[bool]) -> ReadPanel
     let panel = Panel {
         id: MonitorId(bytes[0]),
         group: GroupId(bytes[1]),
+        profile: Profile::General,
         values,
     };
     ReadPanel { refusal, panel }

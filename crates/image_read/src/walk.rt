@@ -8,6 +8,7 @@ use crate::Fields;
 use crate::Refusal;
 use crate::Step;
 use settings::Found;
+use settings::Profile;
 use settings::ROW_COUNT;
 
 // What stands at the front of the bytes that are left, where some rows were seen before.
@@ -33,7 +34,7 @@ fn step_at(left: &[u8], seen: &[bool]) -> Step
     if left[1] as usize != count {
         return Step::Broken;
     }
-    if !settings::allowed(row, &left[2..2 + count]) {
+    if !settings::allowed(Profile::General, row, &left[2..2 + count]) {
         return Step::NotAllowed;
     }
     Step::Field(row)
@@ -43,7 +44,7 @@ fn step_at(left: &[u8], seen: &[bool]) -> Step
 pub fn fields_of(bytes: &[u8]) -> Fields
     ensures { λ r. ⌜ r ≡ fieldsIn (now (bytes .entry)) ⌝ }
 {
-    let mut values = settings::fresh();
+    let mut values = settings::fresh(Profile::General);
     let mut seen = [false; ROW_COUNT];
     let mut at = 0;
     loop {

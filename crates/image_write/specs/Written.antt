@@ -1,15 +1,16 @@
--- The setup image of a wall. 01, "Setup image, form 1".
+-- The setup image of a wall. 01, "Setup image, form 1"; 02, A1: refusal 31.
 use Prim.Native.Nat.{ℕ, _+_, _*_, _/_, _%_}
-use mathlib.Core.Bool.{cond}
+use mathlib.Core.Bool.{Bool, true, cond, _&&_}
 use mathlib.Core.List.{List, [], _∷_, _++_, map, flatten}
-use lib.Dec.{leb}
+use lib.Dec.{leb, eqb}
 use lib.ListN.{length}
+use Rattle.settings.specs.Profiles.{profileNumber}
 use Rattle.settings.specs.Settings.{setCode, byteCount, rowCount, valueCount}
 use Rattle.lists.specs.Lists.{startOf, each, laidOver}
 use Rattle.panels.specs.declared.Panel.{Panel}
 use Rattle.panels.specs.Wall.{Wall, valuesOf}
 use Rattle.image_write.specs.declared.Written.{Written}
-use Rattle.image_write.specs.declared.Written.the-variants.{Bytes, NoRoom}
+use Rattle.image_write.specs.declared.Written.the-variants.{Bytes, WouldLose, NoRoom}
 
 -- how many bytes stand before a field's values: set code and length
 abbrev pub fieldHead : ℕ
@@ -59,15 +60,21 @@ recordsOf w = map recordOf w
 abbrev pub sizeOf : Wall → ℕ
 sizeOf w = panelSize * length w + 2
 
--- what writing answers
+-- form 1 has no room for a profile: it holds general panels, whose number is 0, and would lose that another is not
+unfoldable pub losesNothing : Wall → Bool
+losesNothing [] = true
+losesNothing (p ∷ w) = eqb (profileNumber (p .profile)) 0 && losesNothing w
+
+-- what writing answers: 31 comes before 19
 unfoldable pub writtenOf : Wall → List ℕ → Written
-writtenOf w out = cond (leb (sizeOf w) (length out)) (Bytes (sizeOf w)) NoRoom
+writtenOf w out = cond (losesNothing w) (cond (leb (sizeOf w) (length out)) (Bytes (sizeOf w)) NoRoom) WouldLose
 
 -- how many bytes were written, none on a refusal
 abbrev pub bytesWritten : Written → ℕ
 bytesWritten (Bytes n) = n
+bytesWritten WouldLose = 0
 bytesWritten NoRoom = 0
 
 -- the output after it: past the image it is untouched, and on a refusal it is as before
 unfoldable pub outputOf : Wall → List ℕ → List ℕ
-outputOf w out = cond (leb (sizeOf w) (length out)) (laidOver (imageOf (recordsOf w)) out) out
+outputOf w out = cond (losesNothing w && leb (sizeOf w) (length out)) (laidOver (imageOf (recordsOf w)) out) out

@@ -1,13 +1,17 @@
 -- Tables stay well-formed. Assumes nothing.
 use mathlib.Core.Path.{_≡_, refl, sym, ap, subst, _∙_}
 use mathlib.Core.Bool.{Bool, true, false, cond}
-use mathlib.Core.List.{[], _∷_, _++_, map}
+use mathlib.Core.List.{[], _∷_, _++_, map, append-nil}
 use Prim.Native.Nat.{ℕ, zero, suc, _≤_, _<_}
 use native.Mathlib.Nat.{le-of-suc-le-suc, not-suc-le-zero}
 use native.Mathlib.Omega.{arith}
 use borrow.Author.Tests.{eqb-false, leb-false}
 use lib.Dec.{eqb, leb}
 use lib.ListN.{length, getD, length-append, length-take, length-drop}
+use Rattle.settings.specs.declared.Profile.{Profile}
+use Rattle.settings.specs.declared.Numbered.{Numbered}
+use Rattle.settings.specs.declared.Numbered.the-variants.{Known, Unknown}
+use Rattle.settings.specs.Profiles.{profileWith}
 use Rattle.settings.proofs.Laws.{fresh-allowed, fresh-count}
 use Rattle.packet.specs.declared.MonitorId.{MonitorId}
 use Rattle.packet.specs.declared.GroupId.{GroupId}
@@ -16,9 +20,9 @@ use Rattle.panels.specs.declared.Table.{Table}
 use Rattle.panels.specs.declared.Place.{Place}
 use Rattle.panels.specs.declared.Place.the-variants.{At, Nowhere}
 use Rattle.panels.specs.declared.Refusal.{Refusal}
-use Rattle.panels.specs.declared.Refusal.the-variants.{Nothing, Full, IdZero, IdTaken, GroupZero, NoPanel}
+use Rattle.panels.specs.declared.Refusal.the-variants.{Nothing, Full, IdZero, IdTaken, GroupZero, UnknownProfile, NoPanel}
 use Rattle.panels.specs.Wall.{Wall, blank, freshPanel, tableOf, panelsOf, placeFrom, placeOf, mostPanels}
-use Rattle.panels.specs.Calls.{refusalOf, ifThere, addRefusal, added, without, removed}
+use Rattle.panels.specs.Calls.{refusalOf, ifThere, freshOf, addRefusal, added, without, removed}
 use Rattle.panels.specs.WellFormed.{GoodPanel, Absent, GoodWall, WellFormed}
 use Rattle.panels.proofs.Laws.{panels-of-table}
 
@@ -74,8 +78,9 @@ good-at [] good k h = absurd (not-suc-le-zero h)
 good-at (p ∷ w) (g, a, good) zero h = g
 good-at (p ∷ w) (g, a, good) (suc k) h = good-at w good k (le-of-suc-le-suc h)
 
-pub fresh-good : (i : MonitorId) (g : GroupId) → (i .0 ≡ 0 → ⊥) → (g .0 ≡ 0 → ⊥) → GoodPanel (freshPanel i g)
-fresh-good i g named grouped = record { named = named; grouped = grouped; full = fresh-count; inRange = λ row h. fresh-allowed h }
+pub fresh-good : (i : MonitorId) (g : GroupId) (profile : Profile) → (i .0 ≡ 0 → ⊥) → (g .0 ≡ 0 → ⊥) → GoodPanel (freshPanel i g profile)
+fresh-good i g profile named grouped =
+    record { named = named; grouped = grouped; full = fresh-count profile; inRange = λ row h. fresh-allowed profile h }
 
 pub empty-formed : WellFormed (tableOf [])
 empty-formed = formed [] (omega arith) tt
@@ -87,33 +92,39 @@ pub record MayAdd (w : Wall) (i : MonitorId) (g : GroupId) : Type 0 where
   pub new : placeOf i w ≡ Nowhere
   pub grouped : g .0 ≡ 0 → ⊥
 
-pub may-add : (w : Wall) (i : MonitorId) (g : GroupId) → addRefusal w i g ≡ Nothing → MayAdd w i g
+pub may-add : (w : Wall) (i : MonitorId) (g : GroupId) (n : ℕ) → addRefusal w i g n ≡ Nothing → MayAdd w i g
 unfolding addRefusal
-may-add w i g e = go (leb mostPanels (length w)) (eqb (i .0) 0) (placeOf i w) (eqb (g .0) 0) refl refl refl refl e
+may-add w i g n e = go (leb mostPanels (length w)) (eqb (i .0) 0) (placeOf i w) (eqb (g .0) 0) _ refl refl refl refl e
   where
-    go : (a b : Bool) (q : Place) (c : Bool) → leb mostPanels (length w) ≡ a → eqb (i .0) 0 ≡ b → placeOf i w ≡ q → eqb (g .0) 0 ≡ c
-        → cond a Full (cond b IdZero (ifThere q IdTaken (cond c GroupZero Nothing))) ≡ Nothing → MayAdd w i g
-    go true b q c ea eb eq ec n = let z : _≡_ {A = ℕ} 0 1 = cc in absurd (omega arith)
-    go false true q c ea eb eq ec n = let z : _≡_ {A = ℕ} 0 1 = cc in absurd (omega arith)
-    go false false (At k) c ea eb eq ec n = let z : _≡_ {A = ℕ} 0 1 = cc in absurd (omega arith)
-    go false false Nowhere true ea eb eq ec n = let z : _≡_ {A = ℕ} 0 1 = cc in absurd (omega arith)
-    go false false Nowhere false ea eb eq ec n =
+    go : (a b : Bool) (q : Place) (c : Bool) (r : Refusal) → leb mostPanels (length w) ≡ a → eqb (i .0) 0 ≡ b → placeOf i w ≡ q → eqb (g .0) 0 ≡ c
+        → cond a Full (cond b IdZero (ifThere q IdTaken (cond c GroupZero r))) ≡ Nothing → MayAdd w i g
+    go true b q c r ea eb eq ec n = let z : _≡_ {A = ℕ} 0 1 = cc in absurd (omega arith)
+    go false true q c r ea eb eq ec n = let z : _≡_ {A = ℕ} 0 1 = cc in absurd (omega arith)
+    go false false (At k) c r ea eb eq ec n = let z : _≡_ {A = ℕ} 0 1 = cc in absurd (omega arith)
+    go false false Nowhere true r ea eb eq ec n = let z : _≡_ {A = ℕ} 0 1 = cc in absurd (omega arith)
+    go false false Nowhere false r ea eb eq ec n =
         record { room = leb-false _ _ ea; named = eqb-false _ _ eb; new = eq; grouped = eqb-false _ _ ec }
 
-good-added : (w : Wall) (i : MonitorId) (g : GroupId) (r : Refusal) → length w ≤ mostPanels → GoodWall w → addRefusal w i g ≡ r
-    → WellFormed (tableOf (cond (eqb (refusalOf r) 0) (w ++ freshPanel i g ∷ []) w))
-good-added w i g Nothing few good e =
-    let m = may-add w i g e in
-    formed _ (simp length-append (omega arith)) (good-snoc w _ good (fresh-good i g (m .named) (m .grouped)) (nowhere-absent i 0 w (m .new)))
-good-added w i g Full few good e = formed w few good
-good-added w i g IdZero few good e = formed w few good
-good-added w i g IdTaken few good e = formed w few good
-good-added w i g GroupZero few good e = formed w few good
-good-added w i g NoPanel few good e = formed w few good
+-- a panel more, or none
+good-more : (w : Wall) (i : MonitorId) (g : GroupId) (numbered : Numbered) → length w ≤ mostPanels → GoodWall w → MayAdd w i g
+    → WellFormed (tableOf (w ++ freshOf numbered i g))
+good-more w i g (Known profile) few good m =
+    formed _ (simp length-append (omega arith)) (good-snoc w _ good (fresh-good i g profile (m .named) (m .grouped)) (nowhere-absent i 0 w (m .new)))
+good-more w i g Unknown few good m = rw append-nil (formed w few good)
 
-pub added-formed : {t : Table} → WellFormed t → (i : MonitorId) (g : GroupId) → WellFormed (tableOf (added (panelsOf t) i g))
+good-added : (w : Wall) (i : MonitorId) (g : GroupId) (n : ℕ) (r : Refusal) → length w ≤ mostPanels → GoodWall w → addRefusal w i g n ≡ r
+    → WellFormed (tableOf (cond (eqb (refusalOf r) 0) (w ++ freshOf (profileWith n) i g) w))
+good-added w i g n Nothing few good e = good-more w i g (profileWith n) few good (may-add w i g n e)
+good-added w i g n Full few good e = formed w few good
+good-added w i g n IdZero few good e = formed w few good
+good-added w i g n IdTaken few good e = formed w few good
+good-added w i g n GroupZero few good e = formed w few good
+good-added w i g n UnknownProfile few good e = formed w few good
+good-added w i g n NoPanel few good e = formed w few good
+
+pub added-formed : {t : Table} → WellFormed t → (i : MonitorId) (g : GroupId) (n : ℕ) → WellFormed (tableOf (added (panelsOf t) i g n))
 unfolding added
-added-formed f i g = good-added _ i g _ (f .few) (f .good) refl
+added-formed f i g n = good-added _ i g n _ (f .few) (f .good) refl
 
 good-removed : (w : Wall) (q : Place) → length w ≤ mostPanels → GoodWall w → WellFormed (tableOf (without q w))
 good-removed w Nowhere few good = formed w few good

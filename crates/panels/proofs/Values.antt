@@ -10,8 +10,9 @@ use borrow.Author.Tests.{ltb-true, ltb-false, eqb-true, eqb-false}
 use lib.Dec.{ltb, eqb}
 use lib.ListN.{length, take, length-take, length-drop}
 use lib.Seq.{take-add, take-all}
+use Rattle.settings.specs.declared.Profile.{Profile}
 use Rattle.settings.specs.Settings.{settings, allowedByRow, byteCount, place, allowedFor, freshValues, valuesWith, valueCount, rowCount}
-use Rattle.settings.proofs.Laws.{place-fits, places-apart, allowed-count, fresh-allowed, fresh-count}
+use Rattle.settings.proofs.Laws.{place-fits, places-apart, allowed-many, fresh-allowed, fresh-count}
 use Rattle.lists.proofs.Each.{alike}
 use Rattle.lists.specs.Lists.{laidAt}
 use Rattle.lists.proofs.Laid.{length-laid, before-laid, laid-itself, behind-laid, ahead-of-laid}
@@ -71,19 +72,20 @@ by-rows v w ev ew same =
     sym (take-all (place rowCount) v (omega (arith, all-places))) ∙ e ∙ take-all (place rowCount) w (omega (arith, all-places))
 
 -- values in range stay so
-pub record InRange (values : List ℕ) : Type 0 where
+pub record InRange (profile : Profile) (values : List ℕ) : Type 0 where
   pub full : length values ≡ valueCount
-  pub rows : (row : ℕ) → row < rowCount → allowedFor row (valuesOf row values) ≡ true
+  pub rows : (row : ℕ) → row < rowCount → allowedFor profile row (valuesOf row values) ≡ true
 
-pub fresh-in-range : InRange freshValues
-fresh-in-range = record { full = fresh-count; rows = λ row h. fresh-allowed h }
+pub fresh-in-range : (profile : Profile) → InRange profile (freshValues profile)
+fresh-in-range profile = record { full = fresh-count profile; rows = λ row h. fresh-allowed profile h }
 
-pub with-in-range : {values : List ℕ} → InRange values → (row : ℕ) (vs : List ℕ) → allowedFor row vs ≡ true → InRange (valuesWith row vs values)
-with-in-range {values} i row vs a = record { full = length-with row vs values n (i .full); rows = λ r h. go r h (eqb r row) refl }
+pub with-in-range : {profile : Profile} {values : List ℕ} → InRange profile values → (row : ℕ) (vs : List ℕ) → allowedFor profile row vs ≡ true
+    → InRange profile (valuesWith row vs values)
+with-in-range {profile} {values} i row vs a = record { full = length-with row vs values n (i .full); rows = λ r h. go r h (eqb r row) refl }
   where
     n : length vs ≡ byteCount row
-    n = allowed-count _ vs a
+    n = allowed-many profile row vs a
 
-    go : (r : ℕ) → r < rowCount → (t : Bool) → eqb r row ≡ t → allowedFor r (valuesOf r (valuesWith row vs values)) ≡ true
+    go : (r : ℕ) → r < rowCount → (t : Bool) → eqb r row ≡ t → allowedFor profile r (valuesOf r (valuesWith row vs values)) ≡ true
     go r h true e = let same = eqb-true r row e in rw (same, set-row row vs values n (i .full)) a
     go r h false e = rw (other-row row vs values n (i .full) r (eqb-false r row e)) (i .rows r h)

@@ -1,15 +1,18 @@
--- Add and remove. 01, "Table calls and numbers": lower numbers first, and a refusal changes nothing.
+-- Add and remove. 01, "Table calls and numbers": lower numbers first, and a refusal changes nothing. 02, A1: a profile, and 5.
 use Prim.Native.Nat.{ℕ, suc}
 use mathlib.Core.Bool.{cond}
 use mathlib.Core.List.{[], _∷_, _++_}
 use lib.Dec.{eqb, leb}
 use lib.ListN.{length, take, drop}
+use Rattle.settings.specs.declared.Numbered.{Numbered}
+use Rattle.settings.specs.declared.Numbered.the-variants.{Known, Unknown}
+use Rattle.settings.specs.Profiles.{profileWith}
 use Rattle.packet.specs.declared.MonitorId.{MonitorId}
 use Rattle.packet.specs.declared.GroupId.{GroupId}
 use Rattle.panels.specs.declared.Place.{Place}
 use Rattle.panels.specs.declared.Place.the-variants.{At, Nowhere}
 use Rattle.panels.specs.declared.Refusal.{Refusal}
-use Rattle.panels.specs.declared.Refusal.the-variants.{Nothing, Full, IdZero, IdTaken, GroupZero, NoPanel}
+use Rattle.panels.specs.declared.Refusal.the-variants.{Nothing, Full, IdZero, IdTaken, GroupZero, UnknownProfile, NoPanel}
 use Rattle.panels.specs.declared.Changed.{Changed}
 use Rattle.panels.specs.Wall.{Wall, freshPanel, tableOf, placeOf, mostPanels}
 
@@ -20,23 +23,34 @@ refusalOf Full = 1
 refusalOf IdZero = 2
 refusalOf IdTaken = 3
 refusalOf GroupZero = 4
+refusalOf UnknownProfile = 5
 refusalOf NoPanel = 6
 
 abbrev pub ifThere : {A : Type 0} → Place → A → A → A
 ifThere (At k) a b = a
 ifThere Nowhere a b = b
 
-unfoldable pub addRefusal : Wall → MonitorId → GroupId → Refusal
-addRefusal w i g =
+abbrev pub ifKnown : {A : Type 0} → Numbered → A → A → A
+ifKnown (Known profile) a b = a
+ifKnown Unknown a b = b
+
+unfoldable pub addRefusal : Wall → MonitorId → GroupId → ℕ → Refusal
+addRefusal w i g n =
     cond (leb mostPanels (length w)) Full
-    (cond (eqb (i .0) 0) IdZero (ifThere (placeOf i w) IdTaken (cond (eqb (g .0) 0) GroupZero Nothing)))
+    (cond (eqb (i .0) 0) IdZero
+    (ifThere (placeOf i w) IdTaken (cond (eqb (g .0) 0) GroupZero (ifKnown (profileWith n) Nothing UnknownProfile))))
 
--- a fresh panel at the end, unless it is refused
-unfoldable pub added : Wall → MonitorId → GroupId → Wall
-added w i g = cond (eqb (refusalOf (addRefusal w i g)) 0) (w ++ freshPanel i g ∷ []) w
+-- the fresh panel of a profile, if there is one
+abbrev pub freshOf : Numbered → MonitorId → GroupId → Wall
+freshOf (Known profile) i g = freshPanel i g profile ∷ []
+freshOf Unknown i g = []
 
-abbrev pub addedTo : Wall → MonitorId → GroupId → Changed
-addedTo w i g = record { refusal = addRefusal w i g; table = tableOf (added w i g) }
+-- that panel at the end, unless it is refused
+unfoldable pub added : Wall → MonitorId → GroupId → ℕ → Wall
+added w i g n = cond (eqb (refusalOf (addRefusal w i g n)) 0) (w ++ freshOf (profileWith n) i g) w
+
+abbrev pub addedTo : Wall → MonitorId → GroupId → ℕ → Changed
+addedTo w i g n = record { refusal = addRefusal w i g n; table = tableOf (added w i g n) }
 
 -- later panels move up
 abbrev pub without : Place → Wall → Wall

@@ -4,7 +4,10 @@ use mathlib.Core.Bool.{cond}
 use mathlib.Core.List.{List, [], _∷_, _++_}
 use lib.Dec.{eqb}
 use lib.ListN.{length, take, drop, replicate}
-use Rattle.settings.specs.Settings.{byteCount, place, freshValues, valueCount}
+use Rattle.settings.specs.declared.Profile.{Profile}
+use Rattle.settings.specs.declared.Profile.the-variants.{General, Phoenix}
+use Rattle.settings.specs.Settings.{byteCount, place, freshValues, valueCount, videoRow}
+use Rattle.settings.specs.Phoenix.{phoenixVideo}
 use Rattle.packet.specs.declared.MonitorId.{MonitorId}
 use Rattle.packet.specs.declared.GroupId.{GroupId}
 use Rattle.packet.specs.Packet.{monitorId, groupId}
@@ -12,6 +15,8 @@ use Rattle.panels.specs.declared.Panel.{Panel}
 use Rattle.panels.specs.declared.Table.{Table}
 use Rattle.panels.specs.declared.Place.{Place}
 use Rattle.panels.specs.declared.Place.the-variants.{At, Nowhere}
+use Rattle.panels.specs.declared.Video.{Video}
+use Rattle.panels.specs.declared.Video.the-variants.{Phoenix as PhoenixVideo, General as GeneralVideo}
 
 abbrev pub Wall : Type 0
 Wall = List Panel
@@ -21,16 +26,24 @@ abbrev pub mostPanels : ℕ
 mostPanels = 32
 
 -- a panel before anything is set
-abbrev pub freshPanel : MonitorId → GroupId → Panel
-freshPanel i g = record { id = i; group = g; values = freshValues }
+abbrev pub freshPanel : MonitorId → GroupId → Profile → Panel
+freshPanel i g profile = record { id = i; group = g; profile = profile; values = freshValues profile }
 
 -- the values of a row among a panel's
 abbrev pub valuesOf : ℕ → List ℕ → List ℕ
 valuesOf row values = take (byteCount row) (drop (place row) values)
 
+-- a Phoenix panel's video, with its tint's sign; of another panel nothing is said
+abbrev pub videoBy : Profile → List ℕ → Video
+videoBy General values = GeneralVideo
+videoBy Phoenix values = PhoenixVideo (phoenixVideo (valuesOf videoRow values))
+
+unfoldable pub videoOf : Panel → Video
+videoOf p = videoBy (p .profile) (p .values)
+
 -- what stands in a place that no panel has
 unfoldable pub blank : Panel
-blank = record { id = monitorId 0; group = groupId 0; values = replicate valueCount 0 }
+blank = record { id = monitorId 0; group = groupId 0; profile = General; values = replicate valueCount 0 }
 
 -- a wall in a table
 unfoldable pub tableOf : Wall → Table

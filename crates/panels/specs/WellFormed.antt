@@ -1,5 +1,5 @@
 -- Tables come only from the empty one by add, remove, image reading and bursts. 01, "The settings": every setting of every
--- panel is in its allowed range at all times.
+-- panel is in its allowed range at all times; 02, A1: in that of its own profile.
 use Prim.Native.Nat.{ℕ, _≤_, _<_}
 use mathlib.Core.Bool.{true}
 use mathlib.Core.List.{[], _∷_}
@@ -15,7 +15,7 @@ pub record GoodPanel (p : Panel) : Type 0 where
   pub named : p .id .0 ≡ 0 → ⊥
   pub grouped : p .group .0 ≡ 0 → ⊥
   pub full : length (p .values) ≡ valueCount
-  pub inRange : (row : ℕ) → row < rowCount → allowedFor row (valuesOf row (p .values)) ≡ true
+  pub inRange : (row : ℕ) → row < rowCount → allowedFor (p .profile) row (valuesOf row (p .values)) ≡ true
 
 -- no panel has the ID
 abbrev pub Absent : MonitorId → Wall → Type 0

@@ -2,12 +2,15 @@
 ghost use mathlib.Core.Path.{_≡_};
 ghost use mathlib.Core.List.{[]};
 ghost use Prim.Native.Nat.{_<_};
-ghost use Rattle.panels.specs.Wall.{freshPanel, blank, tableOf, panelsOf, placeOf};
+ghost use Rattle.panels.specs.Wall.{freshPanel, blank, tableOf, panelsOf, placeOf, videoOf};
 ghost use Rattle.panels.specs.Addressed.{reaches};
 ghost use Rattle.panels.specs.Calls.{refusalOf, addedTo, without, removedFrom};
 ghost use Rattle.panels.specs.WellFormed.{WellFormed};
 use packet::GroupId;
 use packet::MonitorId;
+use settings::Numbered;
+use settings::PhoenixVideo;
+use settings::Profile;
 use settings::VALUE_COUNT;
 
 // How many panels a table has places for.
@@ -16,6 +19,7 @@ pub const MOST_PANELS: usize = 32;
 pub struct Panel {
     pub id: MonitorId,
     pub group: GroupId,
+    pub profile: Profile,
     pub values: [u8; VALUE_COUNT],
 }
 
@@ -37,7 +41,14 @@ pub enum Refusal {
     IdZero,
     IdTaken,
     GroupZero,
+    UnknownProfile,
     NoPanel,
+}
+
+// A panel's video as a caller sees it: with the tint's sign, if it is a Phoenix panel's.
+pub enum Video {
+    Phoenix(PhoenixVideo),
+    General,
 }
 
 pub struct Changed {
@@ -51,8 +62,16 @@ fn blank_panel() -> Panel
     Panel {
         id: MonitorId(0),
         group: GroupId(0),
+        profile: Profile::General,
         values: [0u8; VALUE_COUNT],
     }
+}
+
+// A refusal, which leaves the table as it is.
+fn refused(t: Table, refusal: Refusal) -> Changed
+    ensures { λ r. ⌜ r ≡ record { refusal = refusal; table = t } ⌝ }
+{
+    Changed { refusal, table: t }
 }
 
 pub fn empty_table() -> Table
@@ -90,46 +109,43 @@ pub fn addresses(id: MonitorId, group: GroupId, p: Panel) -> bool
     group.0 != 255 && p.group.0 == group.0
 }
 
-fn fresh_panel(id: MonitorId, group: GroupId) -> Panel
-    ensures { λ r. ⌜ r ≡ freshPanel id group ⌝ }
+fn fresh_panel(id: MonitorId, group: GroupId, profile: Profile) -> Panel
+    ensures { λ r. ⌜ r ≡ freshPanel id group profile ⌝ }
 {
-    let values = settings::fresh();
-    Panel { id, group, values }
+    let values = settings::fresh(profile);
+    Panel {
+        id,
+        group,
+        profile,
+        values,
+    }
 }
 
-// A fresh panel at the end.
-pub fn add(t: Table, id: MonitorId, group: GroupId) -> Changed
+// A fresh panel at the end, with the profile that has this number.
+pub fn add(t: Table, id: MonitorId, group: GroupId, number: u8) -> Changed
     requires { ⌜ WellFormed t ⌝ }
-    ensures { λ r. ⌜ r ≡ addedTo (panelsOf t) id group ⌝ }
+    ensures { λ r. ⌜ r ≡ addedTo (panelsOf t) id group number ⌝ }
 {
     let n = t.count;
     if MOST_PANELS <= n {
-        return Changed {
-            refusal: Refusal::Full,
-            table: t,
-        };
+        return refused(t, Refusal::Full);
     }
     if id.0 == 0 {
-        return Changed {
-            refusal: Refusal::IdZero,
-            table: t,
-        };
+        return refused(t, Refusal::IdZero);
     }
     let place = find_panel(t, id);
     if let Place::At(_) = place {
-        return Changed {
-            refusal: Refusal::IdTaken,
-            table: t,
-        };
+        return refused(t, Refusal::IdTaken);
     }
     if group.0 == 0 {
-        return Changed {
-            refusal: Refusal::GroupZero,
-            table: t,
-        };
+        return refused(t, Refusal::GroupZero);
     }
+    let numbered = settings::profile_with(number);
+    let Numbered::Known(profile) = numbered else {
+        return refused(t, Refusal::UnknownProfile);
+    };
     let mut next = t;
-    let p = fresh_panel(id, group);
+    let p = fresh_panel(id, group, profile);
     next.panels[n] = p;
     next.count = n + 1;
     Changed {
@@ -148,6 +164,7 @@ pub fn refusal_number(r: Refusal) -> u8
         Refusal::IdZero => 2,
         Refusal::IdTaken => 3,
         Refusal::GroupZero => 4,
+        Refusal::UnknownProfile => 5,
         Refusal::NoPanel => 6,
     }
 }
@@ -177,14 +194,24 @@ pub fn remove(t: Table, id: MonitorId) -> Changed
 {
     let place = find_panel(t, id);
     let Place::At(k) = place else {
-        return Changed {
-            refusal: Refusal::NoPanel,
-            table: t,
-        };
+        return refused(t, Refusal::NoPanel);
     };
     let table = closed_up(t, k);
     Changed {
         refusal: Refusal::Nothing,
         table,
     }
+}
+
+// A Phoenix panel's video.
+pub fn video_of(p: Panel) -> Video
+    ensures { λ r. ⌜ r ≡ videoOf p ⌝ }
+{
+    let profile = p.profile;
+    let Profile::Phoenix = profile else {
+        return Video::General;
+    };
+    let v = p.values;
+    let video = settings::phoenix_video([v[1], v[2], v[3], v[4], v[5], v[6], v[7]]);
+    Video::Phoenix(video)
 }

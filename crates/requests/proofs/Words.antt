@@ -6,11 +6,12 @@ use Prim.Native.Nat.{ℕ, _+_, _≤_, _<_}
 use native.Mathlib.Omega.{arith}
 use lib.Dec.{eqb}
 use lib.ListN.{length, getD, drop}
-use Rattle.settings.specs.Settings.{foundBy, getCode, setting, allowedFor, rowCount, mostValues}
+use Rattle.settings.specs.declared.Profile.{Profile}
+use Rattle.settings.specs.Settings.{foundBy, getCode, allowedFor, rowCount, mostValues}
 use Rattle.settings.specs.declared.Found.{Found}
 use Rattle.settings.specs.declared.Found.the-variants.{Set, Get, Nothing as NoSetting}
 use Rattle.lists.proofs.Both.{both}
-use Rattle.settings.proofs.Laws.{IsFound, found-right, allowed-count, byte-count-few}
+use Rattle.settings.proofs.Laws.{IsFound, found-right, allowed-many, byte-count-few}
 use Rattle.packet.specs.Control.{controlByte}
 use Rattle.packet.specs.declared.Control.{Control}
 use Rattle.packet.specs.declared.Control.the-variants.{Ack as AckWord, Nack as NackWord, Nav as NavWord}
@@ -33,24 +34,25 @@ control-two w (x ∷ []) h = absurd (omega arith)
 control-two w (x ∷ y ∷ []) h = rw (and-true (eqb y (controlByte w)))
 control-two w (x ∷ y ∷ z ∷ d) h = absurd (omega arith)
 
-pub report-some : (k : ℕ) (d : List ℕ) → 0 < length d → isReport k d ≡ eqb (getD d 0 0) (getCode k) && allowedFor k (drop 1 d)
+pub report-some : (profile : Profile) (k : ℕ) (d : List ℕ) → 0 < length d
+    → isReport profile k d ≡ eqb (getD d 0 0) (getCode k) && allowedFor profile k (drop 1 d)
 unfolding isReport
-report-some k [] h = absurd (omega arith)
-report-some k (c ∷ values) h = refl
+report-some profile k [] h = absurd (omega arith)
+report-some profile k (c ∷ values) h = refl
 
-pub word-found : (code : ℕ) (d : List ℕ) (f : Found)
-    → isControl NackWord d ≡ false → isControl NavWord d ≡ false → foundBy code ≡ f → wordIn code d ≡ endedBy f d
+pub word-found : (profile : Profile) (code : ℕ) (d : List ℕ) (f : Found)
+    → isControl NackWord d ≡ false → isControl NavWord d ≡ false → foundBy code ≡ f → wordIn profile code d ≡ endedBy profile f d
 unfolding wordIn
-word-found code d f nack nav e = rw (nack, nav, e)
+word-found profile code d f nack nav e = rw (nack, nav, e)
 
 abbrev Fits : List ℕ → Type 0
 Fits d = (1 ≤ length d) × (length d ≤ mostValues + 1)
 
-report-fits : (row : ℕ) (d : List ℕ) → row < rowCount → isReport row d ≡ true → Fits d
+report-fits : (profile : Profile) (row : ℕ) (d : List ℕ) → row < rowCount → isReport profile row d ≡ true → Fits d
 unfolding isReport
-report-fits row [] h e = absurd (false≢true e)
-report-fits row (c ∷ values) h e =
-    let n = allowed-count (setting row .allowed) values (both (eqb c (getCode row)) _ e .1) in
+report-fits profile row [] h e = absurd (false≢true e)
+report-fits profile row (c ∷ values) h e =
+    let n = allowed-many profile row values (both (eqb c (getCode row)) _ e .1) in
     let most = byte-count-few h in
     (omega arith, omega arith)
 
@@ -59,9 +61,10 @@ only-report true h e = refl
 only-report false h e = absurd (h e)
 
 -- Data that is taken for a report has the code and at most seven values.
-pub report-length : (code : ℕ) (d : List ℕ) → wordIn code d ≡ Report → Fits d
+pub report-length : (profile : Profile) (code : ℕ) (d : List ℕ) → wordIn profile code d ≡ Report → Fits d
 unfolding wordIn endedBy
-report-length code d e = by-found (foundBy code) (found-right code) (by-word (isControl NackWord d) (isControl NavWord d) (endedBy (foundBy code) d) e)
+report-length profile code d e =
+    by-found (foundBy code) (found-right code) (by-word (isControl NackWord d) (isControl NavWord d) (endedBy profile (foundBy code) d) e)
   where
     by-word : (a b : Bool) (s : Said) → cond a Nack (cond b Nav s) ≡ Report → s ≡ Report
     by-word true b s e = let z : _≡_ {A = ℕ} 0 1 = cc in absurd (omega arith)
@@ -72,7 +75,7 @@ report-length code d e = by-found (foundBy code) (found-right code) (by-word (is
     no-ack true e = let z : _≡_ {A = ℕ} 0 1 = cc in omega arith
     no-ack false e = let z : _≡_ {A = ℕ} 0 1 = cc in omega arith
 
-    by-found : (f : Found) → IsFound code f → endedBy f d ≡ Report → Fits d
+    by-found : (f : Found) → IsFound code f → endedBy profile f d ≡ Report → Fits d
     by-found (Set row) h e = absurd (no-ack (isControl AckWord d) e)
-    by-found (Get row) h e = report-fits row d (h .0) (only-report (isReport row d) (λ z. let y : _≡_ {A = ℕ} 0 1 = cc in omega arith) e)
+    by-found (Get row) h e = report-fits profile row d (h .0) (only-report (isReport profile row d) (λ z. let y : _≡_ {A = ℕ} 0 1 = cc in omega arith) e)
     by-found NoSetting h e = let z : _≡_ {A = ℕ} 0 1 = cc in absurd (omega arith)

@@ -1,12 +1,17 @@
--- A request and its packet. 01, "Host side".
+-- A request and its packet. 01, "Host side"; 02, A1: the profile of the panel that it asks comes with it.
 use Prim.Native.Nat.{ℕ}
 use mathlib.Core.Bool.{Bool, false, not, _&&_}
 use mathlib.Core.List.{List, _∷_}
 use lib.ListN.{take}
 use lib.Dec.{leb, eqb}
-use Rattle.settings.specs.Settings.{foundBy, allowedFor, mostValues}
+use Rattle.settings.specs.declared.Profile.the-variants.{Phoenix}
+use Rattle.settings.specs.declared.PhoenixVideo.{PhoenixVideo}
+use Rattle.settings.specs.Settings.{foundBy, setCode, byteCount, allowedFor, mostValues, videoRow}
+use Rattle.settings.specs.Phoenix.{videoValues}
 use Rattle.settings.specs.declared.Found.{Found}
 use Rattle.settings.specs.declared.Found.the-variants.{Set, Get, Nothing}
+use Rattle.packet.specs.declared.MonitorId.{MonitorId}
+use Rattle.packet.specs.declared.GroupId.{GroupId}
 use Rattle.packet.specs.Packet.{packetOf}
 use Rattle.packet.specs.Answered.{isHeard}
 use Rattle.requests.specs.declared.Request.{Request}
@@ -21,9 +26,14 @@ requestData r = r .code ∷ valuesOf r
 unfoldable pub requestPacket : Request → List ℕ
 requestPacket r = packetOf (r .id) (r .group) (requestData r)
 
+-- the set of a Phoenix panel's video
+unfoldable pub videoRequest : MonitorId → GroupId → PhoenixVideo → Request
+videoRequest i g v =
+    record { profile = Phoenix; id = i; group = g; code = setCode videoRow; values = videoValues v; count = byteCount videoRow }
+
 -- a set to a group 0 to 254 with allowed values; a get, which has no values, where an answer is due
 unfoldable pub isTaken : Request → Found → Bool
-isTaken r (Set row) = not (eqb (r .group .0) 255) && allowedFor row (valuesOf r)
+isTaken r (Set row) = not (eqb (r .group .0) 255) && allowedFor (r .profile) row (valuesOf r)
 isTaken r (Get row) = eqb (r .count) 0 && isHeard (r .id) (r .group)
 isTaken r Nothing = false
 

@@ -5,7 +5,7 @@ ghost use mathlib.Core.List.{_∷_};
 ghost use lib.ListN.{take};
 ghost use Rattle.settings.specs.Settings.{allowedFor, rowCount, mostValues};
 ghost use Rattle.packet.specs.Packet.{writtenOf, outputOf};
-ghost use Rattle.requests.specs.Request.{isRequest, requestData};
+ghost use Rattle.requests.specs.Request.{isRequest, requestData, videoRequest};
 ghost use Rattle.requests.specs.Said.{isControl, isReport, wordIn};
 use packet::Control;
 use packet::GroupId;
@@ -13,9 +13,14 @@ use packet::MonitorId;
 use packet::Written;
 use settings::Found;
 use settings::MOST_VALUES;
+use settings::PhoenixVideo;
+use settings::Profile;
+use settings::VIDEO_ROW;
 
-// A set with its values or a get. The first count of the values are the request's; the others mean nothing.
+// A set with its values or a get, and the profile of the panel that it is for, by the caller's word. The first count of the
+// values are the request's; the others mean nothing.
 pub struct Request {
+    pub profile: Profile,
     pub id: MonitorId,
     pub group: GroupId,
     pub code: u8,
@@ -33,11 +38,11 @@ pub enum Said {
 }
 
 // Whether the first count of these values may be set in a row.
-fn may_set(row: usize, v: [u8; MOST_VALUES], count: usize) -> bool
+fn may_set(profile: Profile, row: usize, v: [u8; MOST_VALUES], count: usize) -> bool
     requires { ⌜ (row < rowCount) × (count ≤ mostValues) ⌝ }
-    ensures { λ r. ⌜ r ≡ allowedFor row (take count v) ⌝ }
+    ensures { λ r. ⌜ r ≡ allowedFor profile row (take count v) ⌝ }
 {
-    settings::allowed(row, &v[..count])
+    settings::allowed(profile, row, &v[..count])
 }
 
 // Whether the table has this request.
@@ -55,8 +60,9 @@ pub fn is_request(request: Request) -> bool
             if group.0 == 255 {
                 return false;
             }
+            let profile = request.profile;
             let values = request.values;
-            may_set(row, values, count)
+            may_set(profile, row, values, count)
         }
         Found::Get(_) => {
             if count != 0 {
@@ -65,6 +71,21 @@ pub fn is_request(request: Request) -> bool
             packet::is_answered(request.id, group)
         }
         Found::Nothing => false,
+    }
+}
+
+// The set of a Phoenix panel's video.
+pub fn phoenix_video_set(id: MonitorId, group: GroupId, video: PhoenixVideo) -> Request
+    ensures { λ r. ⌜ r ≡ videoRequest id group video ⌝ }
+{
+    let values = settings::video_values(video);
+    Request {
+        profile: Profile::Phoenix,
+        id,
+        group,
+        code: settings::set_code(VIDEO_ROW),
+        values,
+        count: settings::byte_count(VIDEO_ROW),
     }
 }
 
@@ -111,9 +132,9 @@ fn is_control(d: &[u8], word: Control) -> bool
 }
 
 // Whether the data is a report of this row: its get code, and behind it values that it allows.
-fn is_report(row: usize, d: &[u8]) -> bool
+fn is_report(profile: Profile, row: usize, d: &[u8]) -> bool
     requires { ⌜ row < rowCount ⌝ }
-    ensures { λ r. ⌜ r ≡ isReport row (now (d .entry)) ⌝ }
+    ensures { λ r. ⌜ r ≡ isReport profile row (now (d .entry)) ⌝ }
 {
     if d.len() == 0 {
         return false;
@@ -121,12 +142,12 @@ fn is_report(row: usize, d: &[u8]) -> bool
     if d[0] != settings::get_code(row) {
         return false;
     }
-    settings::allowed(row, &d[1..])
+    settings::allowed(profile, row, &d[1..])
 }
 
 // What the data of a burst from the panel that was asked says: an ACK to a set, a report to a get, NACK or NAV to either.
-pub fn word_in(code: u8, d: &[u8]) -> Said
-    ensures { λ r. ⌜ r ≡ wordIn code (now (d .entry)) ⌝ }
+pub fn word_in(profile: Profile, code: u8, d: &[u8]) -> Said
+    ensures { λ r. ⌜ r ≡ wordIn profile code (now (d .entry)) ⌝ }
 {
     if is_control(d, Control::Nack) {
         return Said::Nack;
@@ -141,7 +162,7 @@ pub fn word_in(code: u8, d: &[u8]) -> Said
         } else {
             Said::Nothing
         },
-        Found::Get(row) => if is_report(row, d) {
+        Found::Get(row) => if is_report(profile, row, d) {
             Said::Report
         } else {
             Said::Nothing

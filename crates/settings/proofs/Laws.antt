@@ -9,10 +9,13 @@ use borrow.Author.Tests.{eqb-true, leb-true, ltb-true}
 use lib.Dec.{eqb, leb, ltb}
 use lib.ListN.{length, getD, take, drop, List·getD-map}
 use lib.Seq.{drop-cons}
+use Rattle.settings.specs.declared.Profile.{Profile}
+use Rattle.settings.specs.declared.Profile.the-variants.{General, Phoenix}
 use Rattle.settings.specs.declared.Found.{Found}
 use Rattle.settings.specs.declared.Found.the-variants.{Set, Get, Nothing}
 use Rattle.settings.specs.Settings.{Range, Setting, settings, setting, foundFrom, foundBy, setCode, getCode, byteCount, place, within, allAllowed, allowedFor, allowedByRow, freshValues, rowCount, mostValues, valueCount, row}
 use Rattle.settings.specs.Private.Numbers.{allowedValues, rangesOf, firstRange}
+use Rattle.lists.specs.Lists.{startOf, each}
 use Rattle.lists.proofs.Both.{both}
 use Rattle.lists.proofs.Each.{alike}
 use Rattle.lists.proofs.Flat.{in-flat, flat-fits, flat-apart}
@@ -66,68 +69,101 @@ pub found-right : (c : ℕ) → IsFound c (foundBy c)
 unfolding foundAfter
 found-right c = found-after c rowCount 0 refl
 
-pub fresh-allowed : {row : ℕ} → row < rowCount → allowedFor row (take (byteCount row) (drop (place row) freshValues)) ≡ true
+-- A rule that holds at every place of either profile's table, by two tests.
+pub alike-by : {A : Type 0} (f g : Profile → ℕ → A) (n : ℕ) → each (f General) n ≡ each (g General) n → each (f Phoenix) n ≡ each (g Phoenix) n
+    → (profile : Profile) {k : ℕ} → k < n → f profile k ≡ g profile k
+alike-by f g n e d General h = alike (f General) (g General) n e h
+alike-by f g n e d Phoenix h = alike (f Phoenix) (g Phoenix) n d h
+
+pub fresh-allowed : (profile : Profile) {row : ℕ} → row < rowCount
+    → allowedFor profile row (take (byteCount row) (drop (place row) (freshValues profile))) ≡ true
 unfolding settings freshValues allowedByRow flatten within allAllowed
-fresh-allowed h = alike (λ k. allowedFor k (take (byteCount k) (drop (place k) freshValues))) (λ k. true) rowCount refl h
+fresh-allowed profile h =
+    alike-by (λ profile k. allowedFor profile k (take (byteCount k) (drop (place k) (freshValues profile)))) (λ profile k. true) rowCount refl refl
+    profile h
 
 -- The sizes that the table is named by are its own.
 pub row-count : length settings ≡ rowCount
 unfolding settings
 row-count = refl
 
-pub value-count : length allowedValues ≡ valueCount
+pub value-count : (profile : Profile) → length (allowedValues profile) ≡ valueCount
 unfolding settings allowedByRow allowedValues flatten
-value-count = refl
+value-count General = refl
+value-count Phoenix = refl
 
 pub byte-count-few : {row : ℕ} → row < rowCount → byteCount row ≤ mostValues
 unfolding settings
 byte-count-few h = leb-true _ mostValues (alike (λ k. leb (byteCount k) mostValues) (λ k. true) rowCount refl h)
 
-pub fresh-count : length freshValues ≡ valueCount
+pub fresh-count : (profile : Profile) → length (freshValues profile) ≡ valueCount
 unfolding settings freshValues flatten
-fresh-count = refl
+fresh-count General = refl
+fresh-count Phoenix = refl
 
 pub listed : ℕ → List ℕ → Bool
 listed v [] = false
 listed v (x ∷ xs) = eqb x v || listed v xs
 
 -- of a byte, the ranges of colour temperature allow what 01 lists, and nothing else
-pub colour-temperatures : {v : ℕ} → v < 256 → allowedFor 2 (v ∷ []) ≡ listed v (0 ∷ 1 ∷ 3 ∷ 4 ∷ 5 ∷ 6 ∷ 9 ∷ 10 ∷ 13 ∷ [])
+pub colour-temperatures : (profile : Profile) {v : ℕ} → v < 256 → allowedFor profile 2 (v ∷ []) ≡ listed v (0 ∷ 1 ∷ 3 ∷ 4 ∷ 5 ∷ 6 ∷ 9 ∷ 10 ∷ 13 ∷ [])
 unfolding settings within allAllowed listed
-colour-temperatures h = alike (λ v. allowedFor 2 (v ∷ [])) (λ v. listed v (0 ∷ 1 ∷ 3 ∷ 4 ∷ 5 ∷ 6 ∷ 9 ∷ 10 ∷ 13 ∷ [])) 256 refl h
+colour-temperatures profile h =
+    alike-by (λ profile v. allowedFor profile 2 (v ∷ [])) (λ profile v. listed v (0 ∷ 1 ∷ 3 ∷ 4 ∷ 5 ∷ 6 ∷ 9 ∷ 10 ∷ 13 ∷ [])) 256 refl refl profile h
 
-allowed-of-row : (row : ℕ) → getD allowedByRow row [] ≡ setting row .allowed
+allowed-of-row : (profile : Profile) (row : ℕ) → getD (allowedByRow profile) row [] ≡ setting row .allowed profile
 unfolding allowedByRow
-allowed-of-row row = List·getD-map (λ (s : Setting). s .allowed) settings row noSetting
+allowed-of-row profile row = List·getD-map (λ (s : Setting). s .allowed profile) settings row noSetting
+
+-- Both profiles have as many values in a row, and at the same place.
+pub as-many : (profile : Profile) (row : ℕ) → length (setting row .allowed profile) ≡ byteCount row
+as-many General row = refl
+as-many Phoenix row =
+    sym (List·getD-map (λ (s : Setting). length (s .allowed Phoenix)) settings row noSetting)
+    ∙ unfold settings in List·getD-map (λ (s : Setting). length (s .allowed General)) settings row noSetting
+
+same-place : (profile : Profile) {row : ℕ} → row < rowCount → startOf (allowedByRow profile) row ≡ place row
+unfolding settings allowedByRow flatten
+same-place profile h = alike-by (λ profile row. startOf (allowedByRow profile) row) (λ profile row. place row) rowCount refl refl profile h
 
 -- Places: a row's values are among the 15, no two rows' overlap, and what is allowed there is what the row allows.
 pub place-fits : (row : ℕ) → place row + byteCount row ≤ valueCount
 unfolding settings allowedByRow flatten
-place-fits row = rw (← allowed-of-row row) (flat-fits allowedByRow row)
+place-fits row = rw (← allowed-of-row General row) (flat-fits (allowedByRow General) row)
 
 pub places-apart : (j k : ℕ) → j < k → place j + byteCount j ≤ place k
-places-apart j k h = rw (← allowed-of-row j) (flat-apart allowedByRow j k h)
+places-apart j k h = rw (← allowed-of-row General j) (flat-apart (allowedByRow General) j k h)
 
-pub at-place : (row k : ℕ) → k < byteCount row → getD (setting row .allowed) k [] ≡ rangesOf (place row + k)
+pub at-place : (profile : Profile) {row : ℕ} (k : ℕ) → row < rowCount → k < byteCount row
+    → getD (setting row .allowed profile) k [] ≡ rangesOf profile (place row + k)
 unfolding allowedValues
-at-place row k h = sym (in-flat allowedByRow row k [] (rw (allowed-of-row row) h) ∙ rw (allowed-of-row row))
+at-place profile {row} k h few =
+    let many : k < length (getD (allowedByRow profile) row []) = rw (allowed-of-row profile row, as-many profile row) few in
+    let e = in-flat (allowedByRow profile) row k [] many in
+    sym (rw (same-place profile h, allowed-of-row profile row) at e)
 
 -- Every value byte has a first range.
-pub first-and-more : {p : ℕ} → p < valueCount → rangesOf p ≡ firstRange p ∷ drop 1 (rangesOf p)
+pub first-and-more : (profile : Profile) {p : ℕ} → p < valueCount → rangesOf profile p ≡ firstRange profile p ∷ drop 1 (rangesOf profile p)
 unfolding settings allowedByRow allowedValues flatten
-first-and-more h = alike rangesOf (λ p. firstRange p ∷ drop 1 (rangesOf p)) valueCount refl h
+first-and-more profile h = alike-by rangesOf (λ profile p. firstRange profile p ∷ drop 1 (rangesOf profile p)) valueCount refl refl profile h
 
 -- Values are allowed only where there are as many as the row has.
-pub other-count : (rs : List (List Range)) (vs : List ℕ) → (length vs ≡ length rs → ⊥) → allAllowed rs vs ≡ false
+other-count : (rs : List (List Range)) (vs : List ℕ) → (length vs ≡ length rs → ⊥) → allAllowed rs vs ≡ false
 unfolding allAllowed
 other-count [] [] h = absurd (h refl)
 other-count [] (v ∷ vs) h = refl
 other-count (r ∷ rs) [] h = refl
 other-count (r ∷ rs) (v ∷ vs) h = rw (other-count rs vs (λ e. h (ap suc e))) (and-false (within r v))
 
-pub allowed-count : (rs : List (List Range)) (vs : List ℕ) → allAllowed rs vs ≡ true → length vs ≡ length rs
+allowed-count : (rs : List (List Range)) (vs : List ℕ) → allAllowed rs vs ≡ true → length vs ≡ length rs
 unfolding allAllowed
 allowed-count [] [] e = refl
 allowed-count [] (v ∷ vs) e = absurd (false≢true e)
 allowed-count (r ∷ rs) [] e = absurd (false≢true e)
 allowed-count (r ∷ rs) (v ∷ vs) e = ap suc (allowed-count rs vs (both (within r v) _ e .1))
+
+pub allowed-many : (profile : Profile) (row : ℕ) (vs : List ℕ) → allowedFor profile row vs ≡ true → length vs ≡ byteCount row
+allowed-many profile row vs e = allowed-count (setting row .allowed profile) vs e ∙ as-many profile row
+
+pub other-many : (profile : Profile) (row : ℕ) (vs : List ℕ) → (length vs ≡ byteCount row → ⊥) → allowedFor profile row vs ≡ false
+other-many profile row vs h = other-count (setting row .allowed profile) vs (λ e. h (e ∙ as-many profile row))

@@ -1,10 +1,12 @@
--- The eight settings as the paper has them, and what it says of a row. 01, "The settings".
+-- The eight settings as the paper has them, and what it says of a row. 01, "The settings"; 02, A1.
 use Prim.Native.Nat.{ℕ, suc}
 use mathlib.Core.Bool.{Bool, true, false, cond, _&&_, _||_}
 use mathlib.Core.List.{List, [], _∷_, _++_, map, flatten}
 use lib.ListN.{length, getD, replicate}
 use lib.Dec.{leb, eqb}
 use Rattle.lists.specs.Lists.{startOf, laidAt}
+use Rattle.settings.specs.declared.Profile.{Profile}
+use Rattle.settings.specs.declared.Profile.the-variants.{General, Phoenix}
 use Rattle.settings.specs.declared.Found.{Found}
 use Rattle.settings.specs.declared.Found.the-variants.{Set, Get, Nothing}
 
@@ -13,24 +15,35 @@ pub record Range : Type 0 where
   pub low : ℕ
   pub high : ℕ
 
--- a row: the set code, the get code, and for each value byte its allowed ranges and its fresh value
+-- a row: the set code, the get code, and by profile for each value byte its allowed ranges and its fresh value
 pub record Setting : Type 0 where
   pub set : ℕ
   pub get : ℕ
-  pub allowed : List (List Range)
-  pub fresh : List ℕ
+  pub allowed : Profile → List (List Range)
+  pub fresh : Profile → List ℕ
 
 infixl 70 _to_
 abbrev pub _to_ : ℕ → ℕ → List Range
 a to b = record { low = a; high = b } ∷ []
 
+-- a row that is the same for both profiles
 abbrev pub row : ℕ → ℕ → List (List Range) → List ℕ → Setting
-row s g a f = record { set = s; get = g; allowed = a; fresh = f }
+row s g a f = record { set = s; get = g; allowed = λ profile. a; fresh = λ profile. f }
+
+-- video: brightness, colour, contrast, sharpness, tint, black level, gamma. 000 has a second table for the Phoenix 2.0
+-- platform: sharpness 0 to 10, tint -50 to 50, which is 206 to 255 below 0
+abbrev pub videoAllowed : Profile → List (List Range)
+videoAllowed General = replicate 6 (0 to 100) ++ 1 to 5 ∷ []
+videoAllowed Phoenix = replicate 3 (0 to 100) ++ 0 to 10 ∷ (0 to 50 ++ 206 to 255) ∷ 0 to 100 ∷ 1 to 5 ∷ []
+
+abbrev pub videoFresh : Profile → List ℕ
+videoFresh General = replicate 6 50 ++ 3 ∷ []
+videoFresh Phoenix = replicate 3 50 ++ 5 ∷ 0 ∷ 50 ∷ 3 ∷ []
 
 unfoldable pub settings : List Setting
 settings =
     row 0x18 0x19 (1 to 2 ∷ []) (2 ∷ [])  -- power
-    ∷ row 0x32 0x33 (replicate 6 (0 to 100) ++ 1 to 5 ∷ []) (replicate 6 50 ++ 3 ∷ [])  -- video: six of 0 to 100, gamma 1 to 5
+    ∷ record { set = 0x32; get = 0x33; allowed = videoAllowed; fresh = videoFresh }  -- video
     ∷ row 0x34 0x35 ((0 to 1 ++ 3 to 6 ++ 9 to 10 ++ 13 to 13) ∷ []) (1 ∷ [])  -- colour temperature
     ∷ row 0x42 0x43 (0 to 100 ∷ 0 to 100 ∷ []) (50 ∷ 50 ∷ [])  -- treble, bass
     ∷ row 0x61 0x62 (0 to 4 ∷ []) (1 ∷ [])  -- fan
@@ -48,6 +61,10 @@ valueCount = 15
 
 abbrev pub mostValues : ℕ
 mostValues = 7
+
+-- the row of video
+abbrev pub videoRow : ℕ
+videoRow = 1
 
 -- row k, counted from 0
 abbrev pub setting : ℕ → Setting
@@ -67,20 +84,21 @@ setCode k = setting k .set
 abbrev pub getCode : ℕ → ℕ
 getCode k = setting k .get
 
+-- as many for either profile
 abbrev pub byteCount : ℕ → ℕ
-byteCount k = length (setting k .allowed)
+byteCount k = length (setting k .allowed General)
 
 -- A panel's value bytes are those of all settings, in the order of the rows.
-unfoldable pub allowedByRow : List (List (List Range))
-allowedByRow = map (λ (s : Setting). s .allowed) settings
+unfoldable pub allowedByRow : Profile → List (List (List Range))
+allowedByRow profile = map (λ (s : Setting). s .allowed profile) settings
 
-unfoldable pub freshValues : List ℕ
+unfoldable pub freshValues : Profile → List ℕ
 unfolding flatten
-freshValues = flatten (map (λ (s : Setting). s .fresh) settings)
+freshValues profile = flatten (map (λ (s : Setting). s .fresh profile) settings)
 
 -- where row k's values begin among them
 abbrev pub place : ℕ → ℕ
-place k = startOf allowedByRow k
+place k = startOf (allowedByRow General) k
 
 -- v is in one of the ranges
 unfoldable pub within : List Range → ℕ → Bool
@@ -94,9 +112,9 @@ allAllowed [] (v ∷ vs) = false
 allAllowed (a ∷ rest) [] = false
 allAllowed (a ∷ rest) (v ∷ vs) = within a v && allAllowed rest vs
 
--- the bytes vs may be set in row k
-abbrev pub allowedFor : ℕ → List ℕ → Bool
-allowedFor k vs = allAllowed (setting k .allowed) vs
+-- the bytes vs may be set in row k of a panel with this profile
+abbrev pub allowedFor : Profile → ℕ → List ℕ → Bool
+allowedFor profile k vs = allAllowed (setting k .allowed profile) vs
 
 -- a panel's values with those of a row stored
 abbrev pub valuesWith : ℕ → List ℕ → List ℕ → List ℕ

@@ -1,15 +1,26 @@
 // The eight settings as one fixed table of numbers, which box, host and image all read.
+mod phoenix;
+mod profiles;
 mod ranges;
 
 ghost use mathlib.Core.Path.{_≡_};
 ghost use Prim.Native.Nat.{_<_};
 ghost use lib.ListN.{length};
 ghost use Rattle.settings.specs.Settings.{foundBy, setCode, getCode, byteCount, place, freshValues, valuesWith, rowCount, valueCount};
-ghost use Rattle.settings.specs.Private.Numbers.{paperTable};
+ghost use Rattle.settings.specs.Private.Numbers.{paperTable, columnOf};
+pub use phoenix::phoenix_video;
+pub use phoenix::tint_byte;
+pub use phoenix::tint_of;
+pub use phoenix::video_values;
+pub use profiles::profile_number;
+pub use profiles::profile_with;
 pub use ranges::allowed;
 
 // How many settings there are.
 pub const ROW_COUNT: usize = 8;
+
+// The row of video.
+pub const VIDEO_ROW: usize = 1;
 
 // How many value bytes they have in all, which are a panel's.
 pub const VALUE_COUNT: usize = 15;
@@ -17,8 +28,31 @@ pub const VALUE_COUNT: usize = 15;
 // How many one has at most.
 pub const MOST_VALUES: usize = 7;
 
-// How many ranges there are beyond the first of each value byte.
-const MORE_COUNT: usize = 3;
+// How many ranges there are beyond the first of each value byte, over both profiles.
+const MORE_COUNT: usize = 7;
+
+// What a panel's ranges and fresh values go by: of any year, or of 2015.
+pub enum Profile {
+    General,
+    Phoenix,
+}
+
+// The profile that has a number, if one does.
+pub enum Numbered {
+    Known(Profile),
+    Unknown,
+}
+
+// The seven video values of a Phoenix panel, whose tint has a sign.
+pub struct PhoenixVideo {
+    pub brightness: u8,
+    pub colour: u8,
+    pub contrast: u8,
+    pub sharpness: u8,
+    pub tint: i8,
+    pub black: u8,
+    pub gamma: u8,
+}
 
 // A setting's set code and its get code.
 struct Codes(u8, u8);
@@ -29,17 +63,23 @@ struct Values(u8, u8);
 // The values from the lowest to the highest that a range allows.
 struct Span(u8, u8);
 
-// One more range of a value byte that has several: the byte's place, the lowest value and the highest.
-struct More(u8, u8, u8);
+// One more range of a value byte that has several: the profile's number, the byte's place, the lowest value and the highest.
+struct More(u8, u8, u8, u8);
 
-// For each setting its codes and its value bytes; for each value byte its first range, more where it has several, and its
-// fresh value.
+// What a profile says of each value byte: its first range and its fresh value.
+struct Column {
+    ranges: [Span; VALUE_COUNT],
+    fresh: [u8; VALUE_COUNT],
+}
+
+// For each setting its codes and its value bytes; for each value byte what either profile says of it, and more ranges where
+// it has several.
 struct Table {
     codes: [Codes; ROW_COUNT],
     values: [Values; ROW_COUNT],
-    ranges: [Span; VALUE_COUNT],
+    general: Column,
+    phoenix: Column,
     more: [More; MORE_COUNT],
-    fresh: [u8; VALUE_COUNT],
 }
 
 const TABLE: Table = Table {
@@ -63,44 +103,86 @@ const TABLE: Table = Table {
         Values(1, 13), // APM
         Values(1, 14), // power saving
     ],
-    ranges: [
-        Span(1, 2), // power
-        Span(0, 100), // video: six, and gamma
-        Span(0, 100),
-        Span(0, 100),
-        Span(0, 100),
-        Span(0, 100),
-        Span(0, 100),
-        Span(1, 5),
-        Span(0, 1), // colour temperature
-        Span(0, 100), // treble, bass
-        Span(0, 100),
-        Span(0, 4), // fan
-        Span(0, 2), // cold start
-        Span(0, 3), // APM
-        Span(0, 3), // power saving
-    ],
+    general: Column {
+        ranges: [
+            Span(1, 2), // power
+            Span(0, 100), // video: brightness, colour, contrast
+            Span(0, 100),
+            Span(0, 100),
+            Span(0, 100), // sharpness
+            Span(0, 100), // tint
+            Span(0, 100), // black level
+            Span(1, 5), // gamma
+            Span(0, 1), // colour temperature
+            Span(0, 100), // treble, bass
+            Span(0, 100),
+            Span(0, 4), // fan
+            Span(0, 2), // cold start
+            Span(0, 3), // APM
+            Span(0, 3), // power saving
+        ],
+        fresh: [
+            2, // power
+            50, // video: brightness, colour, contrast
+            50,
+            50,
+            50, // sharpness
+            50, // tint
+            50, // black level
+            3, // gamma
+            1, // colour temperature
+            50, // treble, bass
+            50,
+            1, // fan
+            2, // cold start
+            0, // APM
+            0, // power saving
+        ],
+    },
+    phoenix: Column {
+        ranges: [
+            Span(1, 2), // power
+            Span(0, 100), // video: brightness, colour, contrast
+            Span(0, 100),
+            Span(0, 100),
+            Span(0, 10), // sharpness
+            Span(0, 50), // tint: not below 0
+            Span(0, 100), // black level
+            Span(1, 5), // gamma
+            Span(0, 1), // colour temperature
+            Span(0, 100), // treble, bass
+            Span(0, 100),
+            Span(0, 4), // fan
+            Span(0, 2), // cold start
+            Span(0, 3), // APM
+            Span(0, 3), // power saving
+        ],
+        fresh: [
+            2, // power
+            50, // video: brightness, colour, contrast
+            50,
+            50,
+            5, // sharpness
+            0, // tint
+            50, // black level
+            3, // gamma
+            1, // colour temperature
+            50, // treble, bass
+            50,
+            1, // fan
+            2, // cold start
+            0, // APM
+            0, // power saving
+        ],
+    },
     more: [
-        More(8, 3, 6), // colour temperature
-        More(8, 9, 10),
-        More(8, 13, 13),
-    ],
-    fresh: [
-        2, // power
-        50, // video: six, and gamma
-        50,
-        50,
-        50,
-        50,
-        50,
-        3,
-        1, // colour temperature
-        50, // treble, bass
-        50,
-        1, // fan
-        2, // cold start
-        0, // APM
-        0, // power saving
+        More(0, 8, 3, 6), // colour temperature
+        More(0, 8, 9, 10),
+        More(0, 8, 13, 13),
+        More(1, 5, 206, 255), // tint: -50 to -1
+        More(1, 8, 3, 6), // colour temperature
+        More(1, 8, 9, 10),
+        More(1, 8, 13, 13),
     ],
 };
 
@@ -193,9 +275,18 @@ pub fn store(row: usize, vs: &[u8], values: &mut [u8])
     bytes::copy(vs, &mut values[at..]);
 }
 
-// A panel's values before anything is set.
-pub fn fresh() -> [u8; VALUE_COUNT]
-    ensures { λ r. ⌜ r ≡ freshValues ⌝ }
+fn column_of(profile: Profile) -> Column
+    ensures { λ r. ⌜ r ≡ columnOf profile ⌝ }
 {
-    the_table().fresh
+    match profile {
+        Profile::General => the_table().general,
+        Profile::Phoenix => the_table().phoenix,
+    }
+}
+
+// A panel's values before anything is set.
+pub fn fresh(profile: Profile) -> [u8; VALUE_COUNT]
+    ensures { λ r. ⌜ r ≡ freshValues profile ⌝ }
+{
+    column_of(profile).fresh
 }

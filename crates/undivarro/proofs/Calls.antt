@@ -20,10 +20,12 @@ use Rattle.answers.specs.Reply.{sentBytes, silence}
 use Rattle.answers.specs.Judged.{command}
 use Rattle.answers.specs.Played.{turned, playedBy, played}
 use Rattle.answers.specs.Played as answers
-use Rattle.answers.proofs.Formed.{played-formed}
+use Rattle.answers.proofs.Formed.{played-profiles, played-formed}
 use Rattle.image_read.specs.declared.Refusal.{Refusal}
 use Rattle.image_read.specs.declared.Read.{Read}
-use Rattle.image_write.specs.Written.{sizeOf, panelSize}
+use Rattle.image_write.specs.Written.{sizeOf, losesNothing, panelSize}
+use Rattle.image_write.proofs.Losing.{by-profiles}
+use Rattle.image.proofs.General.{read-general}
 use Rattle.image_read.specs.Read.{isSound, readRefusalOf, readOf, inTable}
 use Rattle.image_read.proofs.Sound.{read-formed}
 use Rattle.undivarro.specs.Calls.{refused, given, refusalFor, afterPlay}
@@ -46,6 +48,9 @@ module _ (image : List ℕ) (read : Read) (is-read : read ≡ inTable (readOf im
 
   pub wall-read : panelsOf (read .table) ≡ readOf image .wall
   wall-read = ap (λ (r : Read). panelsOf (r .table)) is-read ∙ panels-of-table (readOf image .wall)
+
+  pub general-read : losesNothing (panelsOf (read .table)) ≡ true
+  general-read = ap losesNothing wall-read ∙ read-general image
 
   count-read : read .table .count ≡ length (readOf image .wall)
   unfolding tableOf
@@ -83,6 +88,10 @@ module _ (image burst : List ℕ) (read : Read) (is-read : read ≡ inTable (rea
 
   wall-played : panelsOf (p .table) ≡ played (readOf image .wall) burst .wall
   wall-played = ap (λ (q : Played). panelsOf (q .table)) same-played ∙ panels-of-table _
+
+  pub general-played : losesNothing (panelsOf (p .table)) ≡ true
+  general-played =
+      ap losesNothing wall-played ∙ by-profiles _ (readOf image .wall) (played-profiles (readOf image .wall) burst) ∙ read-general image
 
   pub size-played : sizeOf (panelsOf (p .table)) ≡ sizeOf (readOf image .wall)
   size-played = ap (λ (k : ℕ). panelSize * k + 2) (ap length wall-played ∙ played-count (readOf image .wall) burst)

@@ -1,7 +1,7 @@
 // The exported functions, for C: a setup image read, a burst played on it, and the setup written out again.
 ghost use mathlib.Core.Path.{_≡_};
 ghost use Prim.Native.Nat.{_+_, _*_, _≤_};
-ghost use mathlib.Core.Bool.{_&&_};
+ghost use mathlib.Core.Bool.{true, _&&_};
 ghost use lib.Dec.{leb};
 ghost use lib.ListN.{length};
 ghost use Rattle.packet.specs.Packet.{longest};
@@ -9,7 +9,7 @@ ghost use Rattle.lists.specs.Lists.{laidOver};
 ghost use Rattle.panels.specs.Wall.{panelsOf, mostPanels};
 ghost use Rattle.panels.specs.WellFormed.{WellFormed};
 ghost use Rattle.answers.specs.Reply.{sentBytes};
-ghost use Rattle.image_write.specs.Written.{sizeOf, panelSize};
+ghost use Rattle.image_write.specs.Written.{sizeOf, losesNothing, panelSize};
 ghost use Rattle.undivarro.specs.Private.Setup.{setupOf};
 ghost use Rattle.undivarro.specs.Calls.{refusalFor, afterPlay, afterRead};
 use answers::Reply;
@@ -64,15 +64,16 @@ fn put_answer(reply: Reply, out: &mut [u8]) -> u32
     }
 }
 
-// The table's image at the front of an output with room for it, and its length.
+// The image of a table that the form holds, at the front of an output with room for it, and its length.
 fn put_setup(t: Table, out: &mut [u8]) -> u32
-    requires { ⌜ WellFormed t × (sizeOf (panelsOf t) ≤ length (now out)) ⌝ }
+    requires { ⌜ WellFormed t × (losesNothing (panelsOf t) ≡ true) × (sizeOf (panelsOf t) ≤ length (now out)) ⌝ }
     ensures { λ r. ⌜ r ≡ length (setupOf (panelsOf t)) ⌝ }
     ensures { λ _. ⌜ now (out .exit) ≡ laidOver (setupOf (panelsOf t)) (now (out .entry)) ⌝ }
 {
     let written = image_write::write_image(t, out);
     match written {
         Written::Bytes(n) => n as u32,
+        Written::WouldLose => 0,
         Written::NoRoom => 0,
     }
 }

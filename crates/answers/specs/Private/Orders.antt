@@ -1,18 +1,16 @@
 -- How the code judges: once for all panels what the data asks, then one panel after the other.
 use Prim.Native.Nat.{ℕ}
-use mathlib.Core.Bool.{cond}
 use lib.ListN.{getD, set}
-use Rattle.settings.specs.Settings.{allowedFor}
 use Rattle.panels.specs.Wall.{Wall, blank, tableOf}
 use Rattle.answers.specs.declared.Order.{Order}
 use Rattle.answers.specs.declared.Order.the-variants.{Report, Store, NotAvailable}
 use Rattle.answers.specs.declared.Played.{Played}
 use Rattle.answers.specs.Judged.{Command, getOf, setOf, unavailable, judge, panelAfter, replyBy}
 
--- What a command asks of every panel alike: a report of a row, values that are allowed to be stored, or nothing.
+-- What a command asks of every panel: a report of a row, values to be stored in a row, or nothing.
 abbrev pub orderOf : Command → Order
 orderOf (getOf row) = Report row
-orderOf (setOf row values) = cond (allowedFor row values) (Store row) NotAvailable
+orderOf (setOf row values) = Store row
 orderOf unavailable = NotAvailable
 
 -- one panel asked, and the table with it as it then is

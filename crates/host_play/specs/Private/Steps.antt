@@ -1,7 +1,8 @@
--- A start: its kind, ID, group, code, then the values.
+-- What a start asks for: ID, group, code, then the values, of a panel with the profile that is told beside.
 use Prim.Native.Nat.{ℕ, _-_}
 use mathlib.Core.List.{List}
 use lib.ListN.{length, getD, take, drop, replicate}
+use Rattle.settings.specs.declared.Profile.{Profile}
 use Rattle.settings.specs.Settings.{mostValues}
 use Rattle.packet.specs.Packet.{monitorId, groupId}
 use Rattle.lists.specs.Lists.{laidOver}
@@ -9,14 +10,15 @@ use Rattle.requests.specs.declared.Request.{Request}
 
 -- how many bytes stand before the values
 abbrev pub startHead : ℕ
-startHead = 4
+startHead = 3
 
 -- of the values those are kept that a request has room for, and all are counted
-unfoldable pub requestOf : List ℕ → Request
-requestOf s = record {
-  id = monitorId (getD s 1 0);
-  group = groupId (getD s 2 0);
-  code = getD s 3 0;
+unfoldable pub requestOf : Profile → List ℕ → Request
+requestOf profile s = record {
+  profile = profile;
+  id = monitorId (getD s 0 0);
+  group = groupId (getD s 1 0);
+  code = getD s 2 0;
   values = laidOver (take mostValues (drop startHead s)) (replicate mostValues 0);
   count = length s - startHead;
 }

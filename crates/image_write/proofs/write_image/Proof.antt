@@ -1,16 +1,17 @@
 -- Records, starts, count and form byte stand one behind the other. Assumes nothing.
 use mathlib.Core.Path.{_≡_, sym, ap, ap₂, _∙_}
+use mathlib.Core.Bool.{true}
 use mathlib.Core.List.{List, [], _∷_, _++_, flatten}
 use Prim.Native.Nat.{ℕ, _+_, _*_, _≤_}
 use native.Mathlib.Omega.{arith}
-use borrow.Author.Tests.{le-leb, lt-leb}
+use borrow.Author.Tests.{le-leb, lt-leb, not-true, not-false}
 use lib.ListN.{length, set, length-set, length-append, length-map}
 use Rattle.lists.specs.Lists.{each, laidOver, laidAt}
 use Rattle.panels.specs.Wall.{Wall, panelsOf}
 use Rattle.panels.specs.WellFormed.{GoodWall}
 use Rattle.panels.proofs.Laws.{count-is, count-few}
 use Rattle.image_write.specs.declared.Written.the-variants.{Bytes}
-use Rattle.image_write.specs.Written.{highLow, recordsOf, imageOf, recordOf, sizeOf, writtenOf, outputOf, recordSize, panelSize}
+use Rattle.image_write.specs.Written.{highLow, recordsOf, imageOf, recordOf, sizeOf, losesNothing, writtenOf, outputOf, recordSize, panelSize}
 use Rattle.lists.proofs.Laid.{length-laid, laid-over, laid-two, laid-then}
 use Rattle.image_write.proofs.Lengths.{records-long, starts-are, starts-count}
 use borrow.Author.Needs.{needs}
@@ -49,18 +50,35 @@ module _ (w : Wall) (good : GoodWall w) (out : List ℕ) (room : panelSize * len
       let more = laid-then 0 (panelSize * n) (r ++ starts-of n) trailer out (rw (length-append r (starts-of n), records-long w good, starts-long) (omega arith)) (omega arith) in
       two ∙ ap (λ (l : List ℕ). laidAt (panelSize * n) trailer l) first ∙ more ∙ rw (starts-are w good, length-map w recordOf) (laid-over _ _)
 
-mul-end : tie.Need-mul-end
-mul-end c = omega (arith, count-few (c .before .pre))
-
-add-size : tie.Need-add-size
-add-size c = omega (arith, count-few (c .before .pre))
+loses-nothing-requires : tie.Need-loses-nothing-requires
+loses-nothing-requires c κs = search needs
 
 returns : tie.Need-returns
 unfolding writtenOf outputOf
 returns c =
-    let start = c .before .before in
-    let short = lt-leb (sizeOf (panelsOf (start .args .t))) (length (start .args .out .now)) (omega (arith, count-is (start .pre))) in
-    (simp short, simp short)
+    let loses = sym (c .before .loses-nothing .ensures) ∙ not-true _ (c .if1 .taken) in
+    (simp loses, simp loses)
+
+abbrev start : tie.Else1 → tie.Start
+start c = c .before .before .before
+
+-- nothing would be lost
+all-held : (c : tie.Else1) → losesNothing (panelsOf (start c .args .t)) ≡ true
+all-held c = sym (c .before .loses-nothing .ensures) ∙ not-false _ (c .if1 .left)
+
+mul-end : tie.Need-mul-end
+mul-end c = omega (arith, count-few (start c .pre))
+
+add-size : tie.Need-add-size
+add-size c = omega (arith, count-few (start c .pre))
+
+returns-2 : tie.Need-returns-2
+unfolding writtenOf outputOf
+returns-2 c =
+    let else1 = c .before in
+    let s = start else1 in
+    let short = lt-leb (sizeOf (panelsOf (s .args .t))) (length (s .args .out .now)) (omega (arith, count-is (s .pre))) in
+    (simp (all-held else1, short), simp (all-held else1, short))
 
 records-requires : tie.Need-records-requires
 records-requires c κs = search needs
@@ -68,11 +86,11 @@ records-requires c κs = search needs
 starts-requires : tie.Need-starts-requires
 starts-requires c κs =
     let records = c .before .before .before in
-    let start = records .before .before .before .before in
-    (count-few (start .pre), omega (arith, records .records .kept .0))
+    let s = start (records .before .before .before) in
+    (count-few (s .pre), omega (arith, records .records .kept .0))
 
 cast-out : tie.Need-cast-out
-cast-out c = omega (arith, count-few (c .before .before .before .before .before .before .before .before .before .before .pre))
+cast-out c = omega (arith, count-few (start (c .before .before .before .before .before .before .before .before .before) .pre))
 
 slice-write-out : tie.Need-slice-write-out
 slice-write-out c = search needs
@@ -86,31 +104,34 @@ slice-write-out-2 c = simp length-set (omega (arith, c .before .before .starts .
 same-length : tie.Need-same-length
 same-length c = simp length-set (c .before .before .starts .kept .0 ∙ c .before .before .before .before .before .before .records .kept .0)
 
-returns-2 : tie.Need-returns-2
+returns-3 : tie.Need-returns-3
 unfolding writtenOf outputOf
-returns-2 c =
+returns-3 c =
     let starts = c .before .before in
     let records = starts .before .before .before .before in
-    let start = records .before .before .before .before in
-    let w = panelsOf (start .args .t) in
-    let out = start .args .out .now in
-    let n = count-is (start .pre) in
+    let else1 = records .before .before .before in
+    let s = start else1 in
+    let w = panelsOf (s .args .t) in
+    let out = s .args .out .now in
+    let n = count-is (s .pre) in
     let room : sizeOf w ≤ length out = omega arith in
     let fits = le-leb (sizeOf w) (length out) room in
-    let answer : writtenOf w out ≡ Bytes (sizeOf w) = simp fits in
-    let after : outputOf w out ≡ laidOver (imageOf (recordsOf w)) out = simp fits in
+    let answer : writtenOf w out ≡ Bytes (sizeOf w) = simp (all-held else1, fits) in
+    let after : outputOf w out ≡ laidOver (imageOf (recordsOf w)) out = simp (all-held else1, fits) in
     let held = starts .starts .ensures ∙ ap₂ (λ (m : ℕ) (l : List ℕ). laidAt (recordSize * m) (starts-of m) l) n (records .records .ensures) in (
       ap (λ (m : ℕ). Bytes (panelSize * m + 2)) n ∙ sym answer,
-      ap₂ (λ (m : ℕ) (l : List ℕ). set (set l (panelSize * m) m) (panelSize * m + 1) 1) n held ∙ image-laid w (start .pre .good) out room ∙ sym after,
+      ap₂ (λ (m : ℕ) (l : List ℕ). set (set l (panelSize * m) m) (panelSize * m + 1) 1) n held ∙ image-laid w (s .pre .good) out room ∙ sym after,
     )
 
 pub write-image-spec : {M : Type 1} → statement M
 write-image-spec =
     tie.close
     (tie.spec
+    loses-nothing-requires
+    returns
     mul-end
     add-size
-    returns
+    returns-2
     records-requires
     starts-requires
     cast-out
@@ -118,4 +139,4 @@ write-image-spec =
     add-out
     slice-write-out-2
     same-length
-    returns-2)
+    returns-3)

@@ -2,11 +2,14 @@
 use mathlib.Core.Path.{_≡_, sym, ap, _∙_}
 use mathlib.Core.List.{_∷_, [], _++_}
 use mathlib.Core.Bool.{false, cond}
+use Prim.Native.Nat.{ℕ}
 use native.Mathlib.Omega.{arith}
 use borrow.Author.Needs.{needs}
 use borrow.Author.Tests.{le-leb, lt-leb, eq-eqb, ne-eqb}
 use lib.Dec.{leb, eqb}
 use lib.ListN.{length}
+use Rattle.settings.specs.declared.Numbered.{Numbered}
+use Rattle.settings.specs.Profiles.{profileWith}
 use Rattle.packet.specs.declared.MonitorId.{MonitorId}
 use Rattle.packet.specs.declared.GroupId.{GroupId}
 use Rattle.panels.specs.declared.Panel.{Panel}
@@ -14,33 +17,39 @@ use Rattle.panels.specs.declared.Table.{Table}
 use Rattle.panels.specs.declared.Changed.{Changed}
 use Rattle.panels.specs.declared.Refusal.{Refusal}
 use Rattle.panels.specs.Wall.{panelsOf, tableOf, freshPanel, mostPanels}
-use Rattle.panels.specs.Calls.{refusalOf, addRefusal, added, addedTo}
+use Rattle.panels.specs.Calls.{refusalOf, freshOf, addRefusal, added, addedTo}
 use Rattle.panels.proofs.Laws.{count-is, grown}
 use Rattle.panels.proofs.add.Statement.{statement}
 use Rattle.panels.proofs.add.Tie as tie
 
-answered : (t : Table) {u : Table} (i : MonitorId) (g : GroupId) (r : Refusal) → addRefusal (panelsOf t) i g ≡ r
-    → u ≡ tableOf (cond (eqb (refusalOf r) 0) (panelsOf t ++ freshPanel i g ∷ []) (panelsOf t))
-    → _≡_ {A = Changed} (record { refusal = r; table = u }) (addedTo (panelsOf t) i g)
+answered : (t : Table) {u : Table} (i : MonitorId) (g : GroupId) (n : ℕ) (r : Refusal) → addRefusal (panelsOf t) i g n ≡ r
+    → u ≡ tableOf (cond (eqb (refusalOf r) 0) (panelsOf t ++ freshOf (profileWith n) i g) (panelsOf t))
+    → _≡_ {A = Changed} (record { refusal = r; table = u }) (addedTo (panelsOf t) i g n)
 unfolding added
-answered t i g r e k = rw (e, k)
+answered t i g n r e k = rw (e, k)
+
+refused-requires : tie.Need-refused-requires
+refused-requires c κs = search needs
 
 returns : tie.Need-returns
 unfolding addRefusal
 returns c =
-    let f = c .before .pre in
-    let t = c .before .args .t in
-    answered t _ _ _ (simp (le-leb mostPanels (length (panelsOf t)) (omega (arith, count-is f)))) (f .held)
+    let start = c .before .before in
+    let t = start .args .t in
+    c .refused .ensures ∙ answered t _ _ _ _ (simp (le-leb mostPanels (length (panelsOf t)) (omega (arith, count-is (start .pre))))) (start .pre .held)
 
 -- there is room
 room : (c : tie.Else1) → leb mostPanels (length (panelsOf (c .before .args .t))) ≡ false
 room c = lt-leb mostPanels (length (panelsOf (c .before .args .t))) (omega (arith, count-is (c .before .pre)))
 
+refused-requires-2 : tie.Need-refused-requires-2
+refused-requires-2 c κs = search needs
+
 returns-2 : tie.Need-returns-2
 unfolding addRefusal
 returns-2 c =
-    let else1 = c .before .before in
-    answered (else1 .before .args .t) _ _ _ (simp (room else1, eq-eqb _ _ (c .if2 .taken))) (else1 .before .pre .held)
+    let else1 = c .before .before .before in
+    c .refused2 .ensures ∙ answered (else1 .before .args .t) _ _ _ _ (simp (room else1, eq-eqb _ _ (c .before .if2 .taken))) (else1 .before .pre .held)
 
 find-panel-requires : tie.Need-find-panel-requires
 find-panel-requires c κs = search needs
@@ -48,26 +57,58 @@ find-panel-requires c κs = search needs
 enum-told : tie.Need-enum-told
 enum-told c = search needs
 
+refused-requires-3 : tie.Need-refused-requires-3
+refused-requires-3 c κs = search needs
+
 returns-3 : tie.Need-returns-3
 unfolding addRefusal
 returns-3 c =
-    let found = c .before .before in
+    let found = c .before .before .before in
     let else1 = found .before .before .before in
-    let there = sym (found .find-panel .ensures) ∙ c .enum-told .given .1 in
-    answered (else1 .before .args .t) _ _ _ (simp (room else1, ne-eqb _ _ (found .before .if2 .left), there)) (else1 .before .pre .held)
+    let there = sym (found .find-panel .ensures) ∙ c .before .enum-told .given .1 in
+    c .refused3 .ensures ∙ answered (else1 .before .args .t) _ _ _ _ (simp (room else1, ne-eqb _ _ (found .before .if2 .left), there)) (else1 .before .pre .held)
 
 enum-told-2 : tie.Need-enum-told-2
 enum-told-2 c = search needs
 
+refused-requires-4 : tie.Need-refused-requires-4
+refused-requires-4 c κs = search needs
+
 returns-4 : tie.Need-returns-4
 unfolding addRefusal
 returns-4 c =
-    let told = c .before .before in
+    let told = c .before .before .before in
     let found = told .before .before in
     let else1 = found .before .before .before in
     let nowhere = sym (found .find-panel .ensures) ∙ told .enum-told2 .given .1 in
-    answered (else1 .before .args .t) _ _ _
-    (simp (room else1, ne-eqb _ _ (found .before .if2 .left), nowhere, eq-eqb _ _ (c .if3 .taken)))
+    c .refused4 .ensures
+    ∙ answered (else1 .before .args .t) _ _ _ _
+    (simp (room else1, ne-eqb _ _ (found .before .if2 .left), nowhere, eq-eqb _ _ (c .before .if3 .taken)))
+    (else1 .before .pre .held)
+
+profile-with-requires : tie.Need-profile-with-requires
+profile-with-requires c κs = search needs
+
+enum-known-numbered : tie.Need-enum-known-numbered
+enum-known-numbered c = search needs
+
+enum-told-3 : tie.Need-enum-told-3
+enum-told-3 c = search needs
+
+refused-requires-5 : tie.Need-refused-requires-5
+refused-requires-5 c κs = search needs
+
+returns-5 : tie.Need-returns-5
+unfolding addRefusal
+returns-5 c =
+    let told = c .before .before .before .before .before .before in
+    let found = told .before .before in
+    let else1 = found .before .before .before in
+    let nowhere = sym (found .find-panel .ensures) ∙ told .enum-told2 .given .1 in
+    let unknown = sym (c .before .before .before .profile-with .ensures) ∙ c .before .enum-told3 .given .1 in
+    c .refused5 .ensures
+    ∙ answered (else1 .before .args .t) _ _ _ _
+    (simp (room else1, ne-eqb _ _ (found .before .if2 .left), nowhere, ne-eqb _ _ (c .before .before .before .before .if3 .left), unknown))
     (else1 .before .pre .held)
 
 fresh-panel-requires : tie.Need-fresh-panel-requires
@@ -82,30 +123,42 @@ element-set-from-p c = search needs
 add-next : tie.Need-add-next
 add-next c = search needs
 
-returns-5 : tie.Need-returns-5
+returns-6 : tie.Need-returns-6
 unfolding addRefusal
-returns-5 c =
-    let told = c .before .before .before in
+returns-6 c =
+    let told = c .before .before .before .before .before .before .before in
     let found = told .before .before in
     let else1 = found .before .before .before in
     let nowhere = sym (found .find-panel .ensures) ∙ told .enum-told2 .given .1 in
-    answered (else1 .before .args .t) _ _ _
-    (simp (room else1, ne-eqb _ _ (found .before .if2 .left), nowhere, ne-eqb _ _ (c .before .if3 .left)))
-    (grown (else1 .before .pre) (omega arith) _ ∙ ap (λ (p : Panel). tableOf (panelsOf (else1 .before .args .t) ++ p ∷ [])) (c .fresh-panel .ensures))
+    let known = sym (c .before .before .before .before .profile-with .ensures) ∙ c .before .before .numbered .given .1 in
+    let a = else1 .before .args in
+    let w = panelsOf (a .t) in
+    answered (else1 .before .args .t) _ _ _ _
+    (simp (room else1, ne-eqb _ _ (found .before .if2 .left), nowhere, ne-eqb _ _ (c .before .before .before .before .before .if3 .left), known))
+    (grown (else1 .before .pre) (omega arith) _ ∙ ap (λ (p : Panel). tableOf (w ++ p ∷ [])) (c .fresh-panel .ensures) ∙ ap (λ (n : Numbered). tableOf (w ++ freshOf n (a .id) (a .group))) (sym known))
 
 pub add-spec : {M : Type 1} → statement M
 add-spec =
     tie.close
     (tie.spec
+    refused-requires
     returns
+    refused-requires-2
     returns-2
     find-panel-requires
     enum-told
+    refused-requires-3
     returns-3
     enum-told-2
+    refused-requires-4
     returns-4
+    profile-with-requires
+    enum-known-numbered
+    enum-told-3
+    refused-requires-5
+    returns-5
     fresh-panel-requires
     mul-p
     element-set-from-p
     add-next
-    returns-5)
+    returns-6)

@@ -13,7 +13,7 @@ fresh-requires c κs = search needs
 returns : tie.Need-returns
 returns c =
     let a = c .before .args in
-    ap {B = Panel} (λ (vs : List ℕ). record { id = a .id; group = a .group; values = vs }) (c .fresh .ensures)
+    ap {B = Panel} (λ (vs : List ℕ). record { id = a .id; group = a .group; profile = a .profile; values = vs }) (c .fresh .ensures)
 
 pub fresh-panel-spec : {M : Type 1} → statement M
 fresh-panel-spec = tie.close (tie.spec fresh-requires returns)

@@ -18,12 +18,15 @@ enum-known-place c = search needs
 enum-told : tie.Need-enum-told
 enum-told c = search needs
 
+refused-requires : tie.Need-refused-requires
+refused-requires c κs = search needs
+
 returns : tie.Need-returns
 unfolding removed
 returns c =
-    let found = c .before .before in
-    let nowhere = sym (found .find-panel .ensures) ∙ c .enum-told .given .1 in
-    rw (nowhere, ← found .before .pre .held)
+    let found = c .before .before .before in
+    let nowhere = sym (found .find-panel .ensures) ∙ c .before .enum-told .given .1 in
+    c .refused .ensures ∙ rw (nowhere, ← found .before .pre .held)
 
 -- the place that was found
 at : (c : tie.After-known-told)
@@ -42,4 +45,4 @@ returns-2 c = rw (at (c .before), c .closed-up .ensures)
 pub remove-spec : {M : Type 1} → statement M
 remove-spec =
     tie.close
-    (tie.spec find-panel-requires enum-known-place enum-told returns closed-up-requires returns-2)
+    (tie.spec find-panel-requires enum-known-place enum-told refused-requires returns closed-up-requires returns-2)

@@ -10,11 +10,11 @@ use Rattle.requests.proofs.word_in.Tie as tie
 
 -- past both tests the code decides
 past : (c : tie.After-find-setting) (f : Found) → c .find-setting .result ≡ f
-    → let a = c .before .before .before .before .before .before .args in wordIn (a .code) (a .d .now) ≡ endedBy f (a .d .now)
+    → let a = c .before .before .before .before .before .before .args in wordIn (a .profile) (a .code) (a .d .now) ≡ endedBy (a .profile) f (a .d .now)
 past c f e =
     let second = c .before .before in
     let first = second .before .before in
-    word-found _ _ f
+    word-found _ _ _ f
     (sym (first .is-control .ensures) ∙ second .before .if1 .left)
     (sym (second .is-control2 .ensures) ∙ c .before .if2 .left)
     (sym (c .find-setting .ensures) ∙ e)

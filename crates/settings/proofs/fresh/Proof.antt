@@ -1,17 +1,17 @@
--- The fresh values stand in the table. Assumes nothing.
+-- The fresh values stand in the profile's column. Assumes nothing.
 use mathlib.Core.Path.{ap}
 use borrow.Author.Needs.{needs}
-use Rattle.settings.specs.declared.Table.{Table}
-use Rattle.settings.specs.Private.Numbers.{paperTable}
+use Rattle.settings.specs.declared.Column.{Column}
+use Rattle.settings.specs.Private.Numbers.{columnOf}
 use Rattle.settings.proofs.fresh.Statement.{statement}
 use Rattle.settings.proofs.fresh.Tie as tie
 
-the-table-requires : tie.Need-the-table-requires
-the-table-requires c κs = search needs
+column-of-requires : tie.Need-column-of-requires
+column-of-requires c κs = search needs
 
 returns : tie.Need-returns
-unfolding paperTable
-returns c = ap (λ (t : Table). t .fresh) (c .before .the-table .ensures)
+unfolding columnOf
+returns c = ap (λ (column : Column). column .fresh) (c .before .column-of .ensures)
 
 pub fresh-spec : {M : Type 1} → statement M
-fresh-spec = tie.close (tie.spec the-table-requires returns)
+fresh-spec = tie.close (tie.spec column-of-requires returns)

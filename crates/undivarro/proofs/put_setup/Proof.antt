@@ -1,5 +1,6 @@
--- There is room, so the image is written; it has at most 1,122 bytes. Assumes nothing.
+-- Nothing would be lost and there is room, so the image is written; it has at most 1,122 bytes. Assumes nothing.
 use mathlib.Core.Path.{_≡_, sym, ap, _∙_}
+use mathlib.Core.Bool.{true}
 use mathlib.Core.List.{List}
 use Prim.Native.Nat.{ℕ, _≤_}
 use native.Mathlib.Omega.{arith}
@@ -9,16 +10,16 @@ use Rattle.lists.specs.Lists.{laidOver}
 use Rattle.panels.specs.Wall.{Wall, panelsOf}
 use Rattle.image_write.specs.declared.Written.{Written}
 use Rattle.image_write.specs.declared.Written.the-variants.{Bytes}
-use Rattle.image_write.specs.Written.{sizeOf, writtenOf, bytesWritten, outputOf}
+use Rattle.image_write.specs.Written.{sizeOf, losesNothing, writtenOf, bytesWritten, outputOf}
 use Rattle.image.proofs.Back.{image-size}
 use Rattle.undivarro.specs.Private.Setup.{setupOf}
 use borrow.Author.Needs.{needs}
 use Rattle.undivarro.proofs.put_setup.Statement.{statement}
 use Rattle.undivarro.proofs.put_setup.Tie as tie
 
-fits : (w : Wall) (out : List ℕ) → sizeOf w ≤ length out → (writtenOf w out ≡ Bytes (sizeOf w)) × (outputOf w out ≡ laidOver (setupOf w) out)
+fits : (w : Wall) (out : List ℕ) → losesNothing w ≡ true → sizeOf w ≤ length out → (writtenOf w out ≡ Bytes (sizeOf w)) × (outputOf w out ≡ laidOver (setupOf w) out)
 unfolding writtenOf outputOf
-fits w out h = (simp (le-leb _ _ h), simp (le-leb _ _ h))
+fits w out e h = (simp (e, le-leb _ _ h), simp (e, le-leb _ _ h))
 
 -- what was written, whatever the match told
 laid : (c : tie.After-write-image) (s : Written) → c .write-image .result ≡ s
@@ -27,7 +28,7 @@ laid : (c : tie.After-write-image) (s : Written) → c .write-image .result ≡ 
 laid c s e =
     let start = c .before .before .before in
     let w = panelsOf (start .args .t) in
-    let f = fits w _ (start .pre .1) in
+    let f = fits w _ (start .pre .1) (start .pre .2) in
     (ap bytesWritten (sym e ∙ c .write-image .ensures .0 ∙ f .0) ∙ sym (image-size w (start .pre .0 .good)), c .write-image .ensures .1 ∙ f .1)
 
 write-image-requires : tie.Need-write-image-requires
@@ -46,6 +47,9 @@ cast-result c =
 enum-told : tie.Need-enum-told
 enum-told c = search needs
 
+enum-told-2 : tie.Need-enum-told-2
+enum-told-2 c = search needs
+
 same-length : tie.Need-same-length
 same-length c = search needs
 
@@ -58,6 +62,12 @@ same-length-2 c = search needs
 returns-2 : tie.Need-returns-2
 returns-2 c = laid (c .before .before .before .before) _ (c .enum-told .given .1)
 
+same-length-3 : tie.Need-same-length-3
+same-length-3 c = search needs
+
+returns-3 : tie.Need-returns-3
+returns-3 c = laid (c .before .before .before .before) _ (c .enum-told2 .given .1)
+
 pub put-setup-spec : {M : Type 1} → statement M
 put-setup-spec =
     tie.close
@@ -66,7 +76,10 @@ put-setup-spec =
     enum-known-written
     cast-result
     enum-told
+    enum-told-2
     same-length
     returns
     same-length-2
-    returns-2)
+    returns-2
+    same-length-3
+    returns-3)

@@ -8,7 +8,7 @@ use Rattle.image_read.specs.Read.{readOf}
 use Rattle.panels.proofs.Laws.{count-few}
 use Rattle.undivarro.specs.declared.Outcome.{Outcome}
 use Rattle.undivarro.specs.Calls.{After}
-use Rattle.undivarro.proofs.Calls.{formed-read, refusal-is, enough, formed-played, size-played, given-played, play-refused, play-given}
+use Rattle.undivarro.proofs.Calls.{formed-read, refusal-is, enough, formed-played, general-played, size-played, given-played, play-refused, play-given}
 use borrow.Author.Needs.{needs}
 use Rattle.undivarro.proofs.undivarro_play.Statement.{statement}
 use Rattle.undivarro.proofs.undivarro_play.Tie as tie
@@ -54,7 +54,7 @@ put-setup-requires c κs =
     let read = play .before .before .before .before .before in
     let e = read .read-image .ensures in
     let f = play .play .ensures in
-    (formed-played _ _ _ e _ f, rw (size-played _ _ _ e _ f) (room-there (play .before) .1))
+    (formed-played _ _ _ e _ f, general-played _ _ _ e _ f, rw (size-played _ _ _ e _ f) (room-there (play .before) .1))
 
 same-length : tie.Need-same-length
 same-length c = search needs

@@ -11,7 +11,7 @@ use Rattle.answers.specs.Reply.{sentBytes}
 use Rattle.answers.specs.Played.{Outcome as BurstOutcome}
 use Rattle.undivarro.specs.Calls.{After, given, afterRead}
 use Rattle.undivarro.specs.Private.Setup.{setupOf}
-use Rattle.undivarro.proofs.Calls.{formed-read, wall-read, refusal-is, enough, play-refused, play-given, played-none}
+use Rattle.undivarro.proofs.Calls.{formed-read, wall-read, general-read, refusal-is, enough, play-refused, play-given, played-none}
 use borrow.Author.Needs.{needs}
 use Rattle.undivarro.proofs.undivarro_read.Statement.{statement}
 use Rattle.undivarro.proofs.undivarro_read.Tie as tie
@@ -48,7 +48,7 @@ put-setup-requires c κs =
     let read = room .before .before in
     let e = read .read-image .ensures in
     let more = enough _ _ e longest _ _ (room .has-room .ensures) _ (refusal .refusal-for .ensures) (past .if1 .left) in
-    (formed-read _ _ e, rw (wall-read _ _ e) (more .1))
+    (formed-read _ _ e, general-read _ _ e, rw (wall-read _ _ e) (more .1))
 
 same-length : tie.Need-same-length
 same-length c = search needs

@@ -1,5 +1,5 @@
 -- The code says which row is meant, and whether values may follow. Assumes nothing.
-use mathlib.Core.Path.{_≡_, refl, sym, ap, subst, _∙_}
+use mathlib.Core.Path.{_≡_, refl, sym, ap, _∙_}
 use mathlib.Core.List.{List, [], _∷_}
 use Prim.Native.Nat.{ℕ, _<_}
 use native.Mathlib.Nat.{not-suc-le-zero}
@@ -8,7 +8,6 @@ use lib.ListN.{length, getD, drop, length-drop}
 use Rattle.settings.specs.declared.Found.{Found}
 use Rattle.settings.specs.declared.Found.the-variants.{Get}
 use Rattle.settings.specs.Settings.{foundBy}
-use Rattle.settings.proofs.Laws.{IsFound, found-right}
 use Rattle.answers.specs.Judged.{getOf, unavailable, command, commandBy}
 use Rattle.answers.specs.Private.Orders.{orderOf}
 use borrow.Author.Needs.{needs}
@@ -52,12 +51,6 @@ bytes c = c .before .before .before .before .args .d .now
 found : (c : tie.After-find-setting) (f : Found) → c .find-setting .result ≡ f → command (bytes c) ≡ commandBy f (drop 1 (bytes c))
 found c f e = by-code (bytes c) f (omega arith) (sym (c .find-setting .ensures) ∙ e)
 
-set-order-requires : tie.Need-set-order-requires
-set-order-requires c κs =
-    let call = c .before .before .before in
-    let row = subst (IsFound _) (sym (call .find-setting .ensures) ∙ c .before .found .given .1) (found-right _) in
-    (row .0, omega arith)
-
 enum-known-found-2 : tie.Need-enum-known-found-2
 enum-known-found-2 c = search needs
 
@@ -66,8 +59,8 @@ enum-told c = search needs
 
 returns-2 : tie.Need-returns-2
 returns-2 c =
-    let told = c .before .before in
-    c .set-order .ensures ∙ sym (ap orderOf (found (told .before .before) _ (told .found .given .1)))
+    let told = c .before in
+    sym (ap orderOf (found (told .before .before) _ (told .found .given .1)))
 
 returns-3 : tie.Need-returns-3
 returns-3 c =
@@ -96,7 +89,6 @@ order-of-spec =
     shared-slice-read-find-setting
     find-setting-requires
     enum-known-found
-    set-order-requires
     enum-known-found-2
     enum-told
     returns-2

@@ -35,7 +35,7 @@ returns c =
     let d = start .args .d .now in
     let all = take-all (length d - 1) (drop 1 d) (rw length-drop (omega arith)) in
     let values = c .before .store .ensures ∙ ap (λ (vs : List ℕ). valuesWith (start .args .row) vs (p .values)) all in
-    ap {B = Panel} (λ (v : List ℕ). record { id = p .id; group = p .group; values = v }) values
+    ap {B = Panel} (λ (v : List ℕ). record { id = p .id; group = p .group; profile = p .profile; values = v }) values
 
 pub with-values-spec : {M : Type 1} → statement M
 with-values-spec = tie.close (tie.spec sub-store part-store-start part-store-end slice-aggregate-store store-requires returns)

@@ -4,9 +4,10 @@ use mathlib.Core.List.{_∷_}
 use Prim.Native.Nat.{ℕ}
 use native.Mathlib.Omega.{arith}
 use borrow.Author.Needs.{needs}
+use borrow.Author.Tests.{not-true, not-false}
 use lib.ListN.{getD, set, drop}
 use lib.Seq.{set-getD}
-use Rattle.settings.specs.Settings.{getCode}
+use Rattle.settings.specs.Settings.{getCode, allowedFor}
 use Rattle.packet.specs.declared.Control.the-variants.{Ack, Nav}
 use Rattle.panels.specs.declared.Panel.{Panel}
 use Rattle.panels.specs.declared.Table.{Table}
@@ -19,7 +20,7 @@ use Rattle.answers.specs.declared.Played.{Played}
 use Rattle.answers.specs.Reply.{wordFrom, reportFrom}
 use Rattle.answers.specs.Judged.{Command, Judged, command, judge, stored, panelAfter, replyBy}
 use Rattle.answers.specs.Private.Orders.{asked}
-use Rattle.answers.proofs.Orders.{OrderIs, order-right, judge-get, judge-set}
+use Rattle.answers.proofs.Orders.{OrderIs, order-right, taken-many, judge-get, judge-set, judge-not}
 use Rattle.answers.proofs.playing.play_one.Statement.{statement}
 use Rattle.answers.proofs.playing.play_one.Tie as tie
 
@@ -58,28 +59,59 @@ report-of-requires c κs = told (c .before .before .before) _ (c .before .order 
 enum-known-order-2 : tie.Need-enum-known-order-2
 enum-known-order-2 c = search needs
 
-with-values-requires : tie.Need-with-values-requires
-with-values-requires c κs =
+takes-requires : tie.Need-takes-requires
+takes-requires c κs =
     let o = told (c .before .before .before) _ (c .before .order2 .given .1) in
     (o .0, o .1)
 
-mul-q : tie.Need-mul-q
-mul-q c = omega (arith, count-few (start (c .before .before .before .before) .pre .0))
-
-element-set-from-q : tie.Need-element-set-from-q
-element-set-from-q c = omega (arith, count-few (start (c .before .before .before .before) .pre .0))
+-- the panel's judgement is the wall's panel's
+own : (c : tie.After-takes)
+    → let read = c .before .before .before .before in
+    let row = c .before .before .order2 .given .0 .0 in
+    allowedFor (getD (panelsOf (start read .args .t1)) (start read .args .k) blank .profile) row (drop 1 (start read .args .d .now)) ≡ c .takes .result
+own c =
+    let read = c .before .before .before .before in
+    let row = c .before .before .order2 .given .0 .0 in
+    ap (λ (q : Panel). allowedFor (q .profile) row (drop 1 (start read .args .d .now))) (sym (here read _)) ∙ sym (c .takes .ensures)
 
 word-from-requires : tie.Need-word-from-requires
 word-from-requires c κs = search needs
 
-enum-told : tie.Need-enum-told
-enum-told c = search needs
+returns : tie.Need-returns
+returns c =
+    let takes = c .before .before in
+    let read = takes .before .before .before .before in
+    let a = start read .args in
+    let row = takes .before .before .order2 .given in
+    let o = told read _ (row .1) in
+    let vs = drop 1 (a .d .now) in
+    ap {B = Played} (λ r. record { table = a .t1; reply = r }) (c .word-from .ensures ∙ ap (λ (q : Panel). wordFrom (q .id) Nav) (here read _))
+    ∙ asked-is (a .t1) (a .k) _ _ (a .t1) (judge-not (command (a .d .now)) (row .0 .0) vs _ (o .2) (own takes ∙ not-true _ (c .before .if1 .taken))) (unchanged (start read .pre .0) (a .k))
+
+with-values-requires : tie.Need-with-values-requires
+with-values-requires c κs =
+    let takes = c .before in
+    let read = takes .before .before .before .before in
+    let o = told read _ (takes .before .before .order2 .given .1) in
+    (o .0, taken-many _ _ (start read .args .d .now) (o .1) (sym (takes .takes .ensures) ∙ not-false _ (c .if1 .left)))
+
+mul-q : tie.Need-mul-q
+mul-q c = omega (arith, count-few (start (c .before .before .before .before .before .before) .pre .0))
+
+element-set-from-q : tie.Need-element-set-from-q
+element-set-from-q c = omega (arith, count-few (start (c .before .before .before .before .before .before) .pre .0))
 
 word-from-requires-2 : tie.Need-word-from-requires-2
 word-from-requires-2 c κs = search needs
 
-returns : tie.Need-returns
-returns c =
+enum-told : tie.Need-enum-told
+enum-told c = search needs
+
+word-from-requires-3 : tie.Need-word-from-requires-3
+word-from-requires-3 c κs = search needs
+
+returns-2 : tie.Need-returns-2
+returns-2 c =
     let read = c .before .before .before .before in
     let a = start read .args in
     let row = c .before .before .order .given in
@@ -88,24 +120,27 @@ returns c =
     (c .report-of .ensures ∙ ap (λ (q : Panel). reportFrom (q .id) (getCode (row .0 .0) ∷ valuesOf (row .0 .0) (q .values))) (here read _))
     ∙ asked-is (a .t1) (a .k) _ _ (a .t1) (judge-get (command (a .d .now)) (row .0 .0) _ (o .1)) (unchanged (start read .pre .0) (a .k))
 
-returns-2 : tie.Need-returns-2
-returns-2 c =
-    let read = c .before .before .before .before .before in
+returns-3 : tie.Need-returns-3
+returns-3 c =
+    let takes = c .before .before .before in
+    let read = takes .before .before .before .before in
     let a = start read .args in
-    let row = c .before .before .before .order2 .given in
+    let row = takes .before .before .order2 .given in
     let o = told read _ (row .1) in
     let vs = drop 1 (a .d .now) in
     ap₂ {C = Played} (λ (q : Panel) (r : Reply). record { table = record { panels = set (a .t1 .panels) (a .k) q; count = a .t1 .count }; reply = r })
     (c .before .with-values .ensures ∙ ap (stored (row .0 .0) vs) (here read _))
-    (c .word-from .ensures ∙ ap (λ (q : Panel). wordFrom (q .id) Ack) (here read _))
-    ∙ asked-is (a .t1) (a .k) _ _ _ (judge-set (command (a .d .now)) (row .0 .0) vs _ (o .2) (o .3)) (replaced (start read .pre .0) (a .k) (start read .pre .1) _)
+    (c .word-from2 .ensures ∙ ap (λ (q : Panel). wordFrom (q .id) Ack) (here read _))
+    ∙ asked-is (a .t1) (a .k) _ _ _
+    (judge-set (command (a .d .now)) (row .0 .0) vs _ (o .2) (own takes ∙ not-false _ (c .before .before .if1 .left)))
+    (replaced (start read .pre .0) (a .k) (start read .pre .1) _)
 
-returns-3 : tie.Need-returns-3
-returns-3 c =
+returns-4 : tie.Need-returns-4
+returns-4 c =
     let read = c .before .before .before in
     let a = start read .args in
     let p = here read _ in
-    ap {B = Played} (λ r. record { table = a .t1; reply = r }) (c .word-from2 .ensures ∙ ap (λ (q : Panel). wordFrom (q .id) Nav) p)
+    ap {B = Played} (λ r. record { table = a .t1; reply = r }) (c .word-from3 .ensures ∙ ap (λ (q : Panel). wordFrom (q .id) Nav) p)
     ∙ asked-is (a .t1) (a .k) _ _ (a .t1) (told read _ (c .before .enum-told .given .1) _) (unchanged (start read .pre .0) (a .k))
 
 pub play-one-spec : {M : Type 1} → statement M
@@ -117,12 +152,15 @@ play-one-spec =
     enum-known-order
     report-of-requires
     enum-known-order-2
+    takes-requires
+    word-from-requires
+    returns
     with-values-requires
     mul-q
     element-set-from-q
-    word-from-requires
-    enum-told
     word-from-requires-2
-    returns
+    enum-told
+    word-from-requires-3
     returns-2
-    returns-3)
+    returns-3
+    returns-4)

@@ -1,4 +1,4 @@
--- Nobody answers, and only a set that is allowed changes panels. Assumes nothing.
+-- Nobody answers, and only a set changes panels, each for itself. Assumes nothing.
 use mathlib.Core.Path.{_≡_, sym, ap, ap₂, subst, _∙_}
 use mathlib.Core.List.{map}
 use Rattle.panels.specs.declared.Table.{Table}
@@ -40,7 +40,7 @@ store-in-all-requires : tie.Need-store-in-all-requires
 store-in-all-requires c κs =
     let order = c .before .before .before in
     let o = told order _ (c .before .order .given .1) in
-    (start order .pre .0, o .0, o .1, o .3)
+    (start order .pre .0, o .0, o .1)
 
 enum-told-2 : tie.Need-enum-told-2
 enum-told-2 c = search needs

@@ -17,13 +17,13 @@ use Rattle.host.proofs.hearing.told.Statement.{statement}
 use Rattle.host.proofs.hearing.told.Tie as tie
 
 word : (c : tie.After-word-in) (w : Said) → c .word-in .result ≡ w
-    → let a = c .before .before .before .before .args in wordIn (a .host .request .code) (a .d .now) ≡ w
+    → let a = c .before .before .before .before .args in wordIn (a .host .request .profile) (a .host .request .code) (a .d .now) ≡ w
 word c w e = sym (c .word-in .ensures) ∙ e
 
 -- what was taken for a report has a code and at most seven values
 report : (c : tie.At-match-keys4) (e : c .before .word-in .result ≡ Report)
     → let d = c .before .before .before .before .before .args .d .now in (1 ≤ length d) × (length d ≤ mostValues + 1)
-report c e = report-length _ _ (word (c .before) _ e)
+report c e = report-length _ _ _ (word (c .before) _ e)
 
 word-in-requires : tie.Need-word-in-requires
 word-in-requires c κs = search needs

@@ -7,6 +7,7 @@ use borrow.Author.Needs.{needs}
 use borrow.Author.Tests.{leb-true, not-true, not-false}
 use lib.ListN.{length, getD, drop, length-drop}
 use lib.Seq.{take-all}
+use Rattle.settings.specs.declared.Profile.the-variants.{General}
 use Rattle.lists.proofs.Both.{both}
 use Rattle.packet.specs.Packet.{monitorId, groupId}
 use Rattle.panels.specs.Wall.{blank}
@@ -54,11 +55,11 @@ part-fields-of-end c = search needs
 fields-of-requires : tie.Need-fields-of-requires
 fields-of-requires c κs = search needs
 
-shared-slice-read-t19 : tie.Need-shared-slice-read-t19
-shared-slice-read-t19 c = omega (arith, two (c .before .before .before .before))
+shared-slice-read-t20 : tie.Need-shared-slice-read-t20
+shared-slice-read-t20 c = omega (arith, two (c .before .before .before .before))
 
-shared-slice-read-t22 : tie.Need-shared-slice-read-t22
-shared-slice-read-t22 c = omega (arith, two (c .before .before .before .before .before))
+shared-slice-read-t23 : tie.Need-shared-slice-read-t23
+shared-slice-read-t23 c = omega (arith, two (c .before .before .before .before .before))
 
 returns-2 : tie.Need-returns-2
 unfolding panelBy panelIn
@@ -66,7 +67,7 @@ returns-2 c =
     let read = c .before .before .before in
     let bytes = read .before .before .before .before .before .before .args .bytes .now in
     rw (head (read .before .before))
-    (ap {B = ReadPanel} (λ (f : Fields). record { refusal = f .refusal; panel = record { id = monitorId (getD bytes 0 0); group = groupId (getD bytes 1 0); values = f .values } }) (fields read))
+    (ap {B = ReadPanel} (λ (f : Fields). record { refusal = f .refusal; panel = record { id = monitorId (getD bytes 0 0); group = groupId (getD bytes 1 0); profile = General; values = f .values } }) (fields read))
 
 pub panel-of-spec : {M : Type 1} → statement M
 panel-of-spec =
@@ -78,6 +79,6 @@ panel-of-spec =
     part-fields-of-start
     part-fields-of-end
     fields-of-requires
-    shared-slice-read-t19
-    shared-slice-read-t22
+    shared-slice-read-t20
+    shared-slice-read-t23
     returns-2)

@@ -8,6 +8,7 @@ use native.Mathlib.Omega.{arith}
 use borrow.Author.Needs.{needs}
 use lib.ListN.{length, take, drop, replicate, length-set, length-take, length-drop}
 use lib.Seq.{take-all, drop-drop}
+use Rattle.settings.specs.declared.Profile.the-variants.{General}
 use Rattle.settings.specs.Settings.{byteCount, valuesWith, valueCount, rowCount}
 use Rattle.settings.proofs.Laws.{fresh-count}
 use Rattle.panels.proofs.Values.{length-with}
@@ -77,7 +78,7 @@ fresh-requires : tie.Need-fresh-requires Inv-loop μ-loop
 fresh-requires c κs = tt
 
 loop-holds : tie.Need-loop-holds Inv-loop μ-loop
-loop-holds c = (omega arith, ap length (c .fresh .ensures) ∙ fresh-count, refl, ap (λ (vs : List ℕ). fieldsFrom (replicate rowCount false) vs (c .before .before .args .bytes .now)) (sym (c .fresh .ensures)))
+loop-holds c = (omega arith, ap length (c .fresh .ensures) ∙ (fresh-count General), refl, ap (λ (vs : List ℕ). fieldsFrom (replicate rowCount false) vs (c .before .before .args .bytes .now)) (sym (c .fresh .ensures)))
 
 sub-step-at : tie.Need-sub-step-at Inv-loop μ-loop
 sub-step-at c = omega (arith, c .loop .inv)

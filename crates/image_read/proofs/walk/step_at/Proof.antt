@@ -10,6 +10,7 @@ use types.Run.{OneOf}
 use denote.Enum.Declared.{tagOf}
 use lib.Dec.{eqb}
 use lib.ListN.{length, getD, take, drop}
+use Rattle.settings.specs.declared.Profile.the-variants.{General}
 use Rattle.settings.specs.declared.Found.{Found}
 use Rattle.settings.specs.declared.Found.the-variants.{Set, Get, Nothing}
 use Rattle.settings.proofs.Found.{the-type}
@@ -41,7 +42,7 @@ module _ (seen : List Bool) (left : List ℕ) (row : ℕ) (n : eqb (length left)
     unfolding stepAt
     when-other d = simp (n, found, s, le-ltb (length left) (2 + byteCount row) h, ne-eqb (getD left 1 0) (byteCount row) d)
 
-    when-whole : getD left 1 0 ≡ byteCount row → (t : Bool) → allowedFor row (valuesIn row left) ≡ t
+    when-whole : getD left 1 0 ≡ byteCount row → (t : Bool) → allowedFor General row (valuesIn row left) ≡ t
         → cond t (Field row) NotAllowed ≡ stepAt seen left
     unfolding stepAt
     when-whole d t a = simp (n, found, s, le-ltb (length left) (2 + byteCount row) h, eq-eqb (getD left 1 0) (byteCount row) d, a)
@@ -137,7 +138,7 @@ whole c t e =
     let row = known .before .found .given .0 .0 in
     let n = else2 .before .before .byte-count .ensures in
     let m : 2 + else2 .before .before .byte-count .result - 2 ≡ byteCount row = omega arith in
-    let answer = c .allowed .ensures ∙ ap (λ (k : ℕ). allowedFor row (take k (drop 2 left))) m in
+    let answer = c .allowed .ensures ∙ ap (λ (k : ℕ). allowedFor General row (take k (drop 2 left))) m in
     when-whole _ _ _ (some (known .before .before .before)) (found known) (else2 .if2 .left) (omega (arith, else3 .if3 .left)) (else4 .if4 .left ∙ n) t (sym answer ∙ e)
 
 returns-6 : tie.Need-returns-6

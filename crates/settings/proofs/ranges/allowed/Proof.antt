@@ -10,32 +10,37 @@ use borrow.Author.Needs.{needs}
 use borrow.Author.Tests.{not-true, not-false}
 use lib.ListN.{length, getD, drop}
 use lib.Seq.{drop-cons, drop-length}
-use Rattle.settings.specs.Settings.{setting, byteCount, place, within, allAllowed, valueCount}
-use Rattle.settings.specs.Private.Numbers.{rangesOf, firstRange, rangeOf, spanOf, paperTable}
+use Rattle.settings.specs.declared.Profile.{Profile}
+use Rattle.settings.specs.Settings.{setting, byteCount, place, within, allAllowed, rowCount, valueCount}
+use Rattle.settings.specs.Private.Numbers.{rangesOf, firstRange, rangeOf, spanOf, columnOf}
 use Rattle.settings.specs.declared.Span.{Span}
-use Rattle.settings.specs.declared.Table.{Table}
+use Rattle.settings.specs.declared.Column.{Column}
 use Rattle.lists.proofs.Each.{in-each}
-use Rattle.settings.proofs.Laws.{place-fits, at-place, other-count}
+use Rattle.settings.proofs.Laws.{place-fits, as-many, at-place, other-many}
 use Rattle.settings.proofs.ranges.allowed.Statement.{statement}
 use Rattle.settings.proofs.ranges.allowed.Tie as tie
 
-rest : ℕ → List ℕ → ℕ → Bool
-rest row vs k = allAllowed (drop k (setting row .allowed)) (drop k vs)
+rest : Profile → ℕ → List ℕ → ℕ → Bool
+rest profile row vs k = allAllowed (drop k (setting row .allowed profile)) (drop k vs)
 
-step : (row k : ℕ) (vs : List ℕ) → k < byteCount row → k < length vs
-    → rest row vs k ≡ within (rangesOf (place row + k)) (getD vs k 0) && rest row vs (k + 1)
+step : (profile : Profile) {row : ℕ} (k : ℕ) (vs : List ℕ) → row < rowCount → k < byteCount row → k < length vs
+    → rest profile row vs k ≡ within (rangesOf profile (place row + k)) (getD vs k 0) && rest profile row vs (k + 1)
 unfolding rest allAllowed
-step row k vs h hv = rw (drop-cons (setting row .allowed) k [], drop-cons vs k 0, add-one, at-place row k h)
+step profile {row} k vs h hk hv =
+    let many : k < length (setting row .allowed profile) = rw (as-many profile row) hk in
+    rw (drop-cons (setting row .allowed profile) k [] many, drop-cons vs k 0, add-one, at-place profile k h hk)
 
-first-in : {t : Table} {p : ℕ} (d : Span) → t ≡ paperTable → p < valueCount → rangeOf (getD (t .ranges) p d) ≡ firstRange p
-unfolding paperTable
-first-in {p} d e h = ap (λ (t : Table). rangeOf (getD (t .ranges) p d)) e ∙ ap rangeOf (in-each (λ p. spanOf (firstRange p)) valueCount d h)
+first-in : (profile : Profile) {column : Column} {p : ℕ} (d : Span) → column ≡ columnOf profile → p < valueCount
+    → rangeOf (getD (column .ranges) p d) ≡ firstRange profile p
+unfolding columnOf
+first-in profile {p = p} d e h =
+    ap (λ (column : Column). rangeOf (getD (column .ranges) p d)) e ∙ ap rangeOf (in-each (λ p. spanOf (firstRange profile p)) valueCount d h)
 
 abbrev Inv-loop : tie.InvT-loop
-Inv-loop row values first count ranges k₀ k = (k ≤ byteCount row) × (rest row values 0 ≡ rest row values k)
+Inv-loop profile row values first count ranges k₀ k = (k ≤ byteCount row) × (rest profile row values 0 ≡ rest profile row values k)
 
 abbrev μ-loop : tie.MeasureT-loop
-μ-loop row values first count ranges k₀ k = byteCount row - k
+μ-loop profile row values first count ranges k₀ k = byteCount row - k
 
 place-of-requires : tie.Need-place-of-requires Inv-loop μ-loop
 place-of-requires c κs = search needs
@@ -44,10 +49,10 @@ byte-count-requires : tie.Need-byte-count-requires Inv-loop μ-loop
 byte-count-requires c κs = search needs
 
 returns : tie.Need-returns Inv-loop μ-loop
-returns c = sym (other-count _ _ (λ e. c .if1 .taken (e ∙ sym (c .before .byte-count .ensures))))
+returns c = sym (other-many _ _ _ (λ e. c .if1 .taken (e ∙ sym (c .before .byte-count .ensures))))
 
-the-table-requires : tie.Need-the-table-requires Inv-loop μ-loop
-the-table-requires c κs = search needs
+column-of-requires : tie.Need-column-of-requires Inv-loop μ-loop
+column-of-requires c κs = search needs
 
 loop-holds : tie.Need-loop-holds Inv-loop μ-loop
 loop-holds c = (omega arith, refl)
@@ -69,7 +74,7 @@ allowed-at-requires c κs =
     let table = c .before .before .before .before .before in
     let first = table .before .before .before .place-of in
     let h : first .result + c .before .before .before .loop .k < valueCount = omega (arith, place-fits (table .before .before .before .before .before .args .row)) in
-    (h, first-in _ (table .the-table .ensures) h)
+    (h, first-in _ _ (table .column-of .ensures) h)
 
 returns-2 : tie.Need-returns-2 Inv-loop μ-loop
 unfolding rest
@@ -78,8 +83,8 @@ returns-2 c =
     let start = loop .before .before .before .before .before .before .before in
     let values = start .args .values .now in
     let first = loop .before .before .before .before .before .place-of in
-    let here : within (rangesOf (place (start .args .row) + loop .loop .k)) (getD values (loop .loop .k) 0) ≡ false = rw (← first .ensures) (sym (c .before .allowed-at .ensures) ∙ not-true _ (c .if2 .taken)) in
-    sym (loop .loop .inv .1 ∙ step (start .args .row) (loop .loop .k) values (omega arith) (omega arith) ∙ simp here)
+    let here : within (rangesOf (start .args .profile) (place (start .args .row) + loop .loop .k)) (getD values (loop .loop .k) 0) ≡ false = rw (← first .ensures) (sym (c .before .allowed-at .ensures) ∙ not-true _ (c .if2 .taken)) in
+    sym (loop .loop .inv .1 ∙ step (start .args .profile) (loop .loop .k) values (start .pre) (omega arith) (omega arith) ∙ simp here)
 
 add-k : tie.Need-add-k Inv-loop μ-loop
 add-k c = omega (arith, place-fits (c .before .before .before .before .before .before .before .before .before .before .before .before .args .row))
@@ -93,8 +98,8 @@ loop-again c =
     let start = loop .before .before .before .before .before .before .before in
     let values = start .args .values .now in
     let first = loop .before .before .before .before .before .place-of in
-    let here : within (rangesOf (place (start .args .row) + loop .loop .k)) (getD values (loop .loop .k) 0) ≡ true = rw (← first .ensures) (sym (c .before .allowed-at .ensures) ∙ not-false _ (c .if2 .left)) in
-    (omega arith, loop .loop .inv .1 ∙ step (start .args .row) (loop .loop .k) values (omega arith) (omega arith) ∙ simp here)
+    let here : within (rangesOf (start .args .profile) (place (start .args .row) + loop .loop .k)) (getD values (loop .loop .k) 0) ≡ true = rw (← first .ensures) (sym (c .before .allowed-at .ensures) ∙ not-false _ (c .if2 .left)) in
+    (omega arith, loop .loop .inv .1 ∙ step (start .args .profile) (loop .loop .k) values (start .pre) (omega arith) (omega arith) ∙ simp here)
 
 returns-3 : tie.Need-returns-3 Inv-loop μ-loop
 unfolding rest allAllowed
@@ -102,9 +107,9 @@ returns-3 c =
     let loop = c .before in
     let start = loop .before .before .before .before .before .before .before in
     let values = start .args .values .now in
-    let all : loop .loop .k ≡ byteCount (start .args .row) = omega arith in
+    let all : loop .loop .k ≡ length (setting (start .args .row) .allowed (start .args .profile)) = omega (arith, as-many (start .args .profile) (start .args .row)) in
     let all-values : loop .loop .k ≡ length values = omega arith in
-    let no-ranges = rw (← all) at (drop-length (setting (start .args .row) .allowed)) in
+    let no-ranges = rw (← all) at (drop-length (setting (start .args .row) .allowed (start .args .profile))) in
     let no-values = rw (← all-values) at (drop-length values) in
     sym (loop .loop .inv .1 ∙ rw (no-ranges, no-values))
 
@@ -117,7 +122,7 @@ allowed-spec =
     place-of-requires
     byte-count-requires
     returns
-    the-table-requires
+    column-of-requires
     loop-holds
     add-p
     mul-allowed-at

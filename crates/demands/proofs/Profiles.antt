@@ -1,0 +1,96 @@
+-- Walls of both profiles, and the tint with its sign. Assumes nothing.
+use mathlib.Core.Path.{_≡_, refl, ap₂, _∙_}
+use mathlib.Core.Bool.{Bool, true, false, cond, _&&_, and-true, or-false}
+use mathlib.Core.List.{_++_, map}
+use Prim.Native.Nat.{ℕ, _-_, _<_}
+use native.Mathlib.Omega.{arith}
+use borrow.Author.Tests.{le-leb}
+use lib.Dec.{leb}
+use lib.IntN.{ℤ, pos, negsuc}
+use lib.ListN.{length, getD, length-map, List·getD-map}
+use lib.Signed.{mag, leZ}
+use mir.Syntax.{w8}
+use mir.Val.{SFits}
+use Rattle.lists.proofs.Each.{alike}
+use Rattle.lists.proofs.Places.{getD-inside}
+use Rattle.settings.specs.declared.PhoenixVideo.{PhoenixVideo}
+use Rattle.settings.specs.Settings.{settings, _to_, within, allAllowed, allowedFor, byteCount, videoRow}
+use Rattle.settings.specs.Phoenix.{tintByte, phoenixVideo, videoValues}
+use Rattle.settings.proofs.Tints.{byte-back, tint-back}
+use Rattle.panels.specs.declared.Panel.{Panel}
+use Rattle.panels.specs.Wall.{blank, videoOf}
+use Rattle.panels.specs.Addressed.{reaches}
+use Rattle.panels.proofs.Values.{set-row}
+use Rattle.answers.specs.Judged.{setOf, judge, stored, taken, notAvailable, panelAfter}
+use Rattle.answers.specs.Played.{turned, played}
+use Rattle.image.proofs.General.{read-general}
+use Rattle.demands.specs.Profiles.{OwnProfile, TintBack, inPhoenixRange, VideoAllowed, SeenAsSet, ReadGeneral}
+
+-- one panel and a set
+one-set : (r : Bool) (t : Bool) (q p : Panel) → cond r (panelAfter (cond t (taken q) notAvailable) p) p ≡ cond (r && t) q p
+one-set true true q p = refl
+one-set true false q p = refl
+one-set false t q p = refl
+
+pub own-profile : OwnProfile
+unfolding played turned judge
+own-profile w b i g n row values intact named k h =
+    let f = turned i g (setOf row values) in
+    let p = getD w k blank in
+    let at = getD-inside (map f w) k blank (f blank) (rw (length-map w f) h) ∙ List·getD-map f w k blank in
+    rw (intact, named) (at ∙ one-set (reaches i g p) (allowedFor (p .profile) row values) (stored row values p) p)
+
+fits : (t : ℤ) → mag t < 128 → SFits w8 t
+fits t h = record { sfits = h }
+
+pub tint-and-byte : TintBack
+tint-and-byte = ((λ b h. byte-back h), (λ t h. tint-back t (fits t h)))
+
+-- the ranges one by one
+up-to : (high v : ℕ) → within (0 to high) v ≡ leb v high
+unfolding within
+up-to high v = rw (le-leb 0 v (omega arith)) (or-false (leb v high))
+
+gammas : (v : ℕ) → within (1 to 5) v && true ≡ (leb 1 v && leb v 5)
+unfolding within
+gammas v = and-true _ ∙ or-false (leb 1 v && leb v 5)
+
+tints : (t : ℤ) → mag t < 128 → within (0 to 50 ++ 206 to 255) (tintByte t) ≡ (leZ (negsuc 49) t && leZ t (pos 50))
+unfolding within tintByte
+tints (pos n) h = alike (λ n. within (0 to 50 ++ 206 to 255) n) (λ n. leb n 50) 128 refl h
+tints (negsuc n) h = alike (λ n. within (0 to 50 ++ 206 to 255) (255 - n)) (λ n. leb n 49 && true) 128 refl h
+
+and : {a b c d : Bool} → a ≡ b → c ≡ d → (a && c) ≡ (b && d)
+and e d = ap₂ _&&_ e d
+
+seven-tests : (a b c d e f g : Bool) → (a && (b && (c && (d && (e && (f && g)))))) ≡ (a && b && c && d && e && f && g)
+seven-tests false b c d e f g = refl
+seven-tests true false c d e f g = refl
+seven-tests true true false d e f g = refl
+seven-tests true true true false e f g = refl
+seven-tests true true true true false f g = refl
+seven-tests true true true true true false g = refl
+seven-tests true true true true true true g = refl
+
+pub video-allowed : VideoAllowed
+unfolding settings allAllowed videoValues inPhoenixRange
+video-allowed v h =
+    and (up-to 100 (v .brightness)) (and (up-to 100 (v .colour)) (and (up-to 100 (v .contrast))
+    (and (up-to 10 (v .sharpness)) (and (tints (v .tint) h) (and (up-to 100 (v .black)) (gammas (v .gamma)))))))
+    ∙ seven-tests (leb (v .brightness) 100) (leb (v .colour) 100) (leb (v .contrast) 100) (leb (v .sharpness) 10)
+    (leZ (negsuc 49) (v .tint) && leZ (v .tint) (pos 50)) (leb (v .black) 100) (leb 1 (v .gamma) && leb (v .gamma) 5)
+
+video-back : (v : PhoenixVideo) → mag (v .tint) < 128 → phoenixVideo (videoValues v) ≡ v
+unfolding phoenixVideo videoValues
+video-back v h = rw (tint-back (v .tint) (fits _ h))
+
+seven : (v : PhoenixVideo) → length (videoValues v) ≡ byteCount videoRow
+unfolding settings videoValues
+seven v = refl
+
+pub seen-as-set : SeenAsSet
+unfolding videoOf stored
+seen-as-set p v good phoenix h = rw (phoenix, set-row videoRow (videoValues v) (p .values) (seven v) (good .full), video-back v h)
+
+pub reads-general : ReadGeneral
+reads-general = read-general

@@ -1,0 +1,60 @@
+-- Walls of both profiles, and the tint with its sign. 02, A1.
+use Prim.Native.Nat.{ℕ, _<_}
+use mathlib.Core.Bool.{Bool, true, cond, _&&_}
+use mathlib.Core.Path.{_≡_}
+use mathlib.Core.List.{List}
+use lib.Dec.{leb}
+use lib.IntN.{ℤ, pos, negsuc}
+use lib.ListN.{length, getD}
+use lib.Signed.{mag, leZ}
+use Rattle.settings.specs.declared.Profile.the-variants.{Phoenix}
+use Rattle.settings.specs.declared.PhoenixVideo.{PhoenixVideo}
+use Rattle.settings.specs.Settings.{allowedFor, videoRow}
+use Rattle.settings.specs.Phoenix.{tintOf, tintByte, videoValues}
+use Rattle.packet.specs.declared.MonitorId.{MonitorId}
+use Rattle.packet.specs.declared.GroupId.{GroupId}
+use Rattle.packet.specs.declared.Verdict.the-variants.{Intact}
+use Rattle.packet.specs.Packet.{verdictOf, dataOf}
+use Rattle.panels.specs.declared.Panel.{Panel}
+use Rattle.panels.specs.declared.Video.the-variants.{Phoenix as PhoenixSeen}
+use Rattle.panels.specs.Wall.{Wall, blank, videoOf}
+use Rattle.panels.specs.Addressed.{reaches}
+use Rattle.panels.specs.WellFormed.{GoodPanel}
+use Rattle.answers.specs.Judged.{command, setOf, stored}
+use Rattle.answers.specs.Played.{played}
+use Rattle.image_read.specs.Read.{readOf}
+use Rattle.image_write.specs.Written.{losesNothing}
+
+-- A set to a wall of both profiles: exactly the panels that it addresses and whose own profile allows it have the values, and
+-- every other is as it was.
+abbrev pub OwnProfile : Type 0
+OwnProfile =
+    (w : Wall) (b : List ℕ) (i : MonitorId) (g : GroupId) (n row : ℕ) (values : List ℕ)
+    → verdictOf b ≡ Intact i g n → command (dataOf b (Intact i g n)) ≡ setOf row values
+    → (k : ℕ) → k < length w
+    → let p = getD w k blank in
+    getD (played w b .wall) k blank ≡ cond (reaches i g p && allowedFor (p .profile) row values) (stored row values p) p
+
+-- A byte and a tint of 8 bits are each the other's way back; `mag` of t is t or -(t + 1).
+abbrev pub TintBack : Type 0
+TintBack = ((b : ℕ) → b < 256 → tintByte (tintOf b) ≡ b) × ((t : ℤ) → mag t < 128 → tintOf (tintByte t) ≡ t)
+
+-- 000, the video of the Phoenix 2.0 platform: what a caller may set. The tint runs from -50 to 50.
+unfoldable pub inPhoenixRange : PhoenixVideo → Bool
+inPhoenixRange v =
+    leb (v .brightness) 100 && leb (v .colour) 100 && leb (v .contrast) 100 && leb (v .sharpness) 10
+    && (leZ (negsuc 49) (v .tint) && leZ (v .tint) (pos 50))
+    && leb (v .black) 100 && (leb 1 (v .gamma) && leb (v .gamma) 5)
+
+abbrev pub VideoAllowed : Type 0
+VideoAllowed = (v : PhoenixVideo) → mag (v .tint) < 128 → allowedFor Phoenix videoRow (videoValues v) ≡ inPhoenixRange v
+
+-- What is set is what is seen.
+abbrev pub SeenAsSet : Type 0
+SeenAsSet =
+    (p : Panel) (v : PhoenixVideo) → GoodPanel p → p .profile ≡ Phoenix → mag (v .tint) < 128
+    → videoOf (stored videoRow (videoValues v) p) ≡ PhoenixSeen v
+
+-- What is read is general, so that form 1 holds it whole.
+abbrev pub ReadGeneral : Type 0
+ReadGeneral = (image : List ℕ) → losesNothing (readOf image .wall) ≡ true

@@ -1,0 +1,49 @@
+-- Seven reads, one of which is taken as signed. Assumes nothing.
+use borrow.Author.Needs.{needs}
+use mir.Syntax.{w8}
+use mir.ValLaws.{toZ-ofZ}
+use Rattle.settings.specs.Phoenix.{phoenixVideo}
+use Rattle.settings.proofs.phoenix.phoenix_video.Statement.{statement}
+use Rattle.settings.proofs.phoenix.phoenix_video.Tie as tie
+
+array-read-tint-of : tie.Need-array-read-tint-of
+array-read-tint-of c = search needs
+
+tint-of-requires : tie.Need-tint-of-requires
+tint-of-requires c κs = search needs
+
+array-read-t6 : tie.Need-array-read-t6
+array-read-t6 c = search needs
+
+array-read-t11 : tie.Need-array-read-t11
+array-read-t11 c = search needs
+
+array-read-t14 : tie.Need-array-read-t14
+array-read-t14 c = search needs
+
+array-read-t17 : tie.Need-array-read-t17
+array-read-t17 c = search needs
+
+array-read-t20 : tie.Need-array-read-t20
+array-read-t20 c = search needs
+
+array-read-t23 : tie.Need-array-read-t23
+array-read-t23 c = search needs
+
+returns : tie.Need-returns
+unfolding phoenixVideo
+returns c = rw (toZ-ofZ w8 (c .tint-of .result) (record { sfits = c .tint-of .ok }), c .tint-of .ensures)
+
+pub phoenix-video-spec : {M : Type 1} → statement M
+phoenix-video-spec =
+    tie.close
+    (tie.spec
+    array-read-tint-of
+    tint-of-requires
+    array-read-t6
+    array-read-t11
+    array-read-t14
+    array-read-t17
+    array-read-t20
+    array-read-t23
+    returns)

@@ -1,0 +1,15 @@
+-- The profiles and their numbers. 02, A1 and A2: 0 general, 1 Phoenix.
+use Prim.Native.Nat.{ℕ}
+use mathlib.Core.Bool.{cond}
+use lib.Dec.{eqb}
+use Rattle.settings.specs.declared.Profile.{Profile}
+use Rattle.settings.specs.declared.Profile.the-variants.{General, Phoenix}
+use Rattle.settings.specs.declared.Numbered.{Numbered}
+use Rattle.settings.specs.declared.Numbered.the-variants.{Known, Unknown}
+
+abbrev pub profileNumber : Profile → ℕ
+profileNumber General = 0
+profileNumber Phoenix = 1
+
+unfoldable pub profileWith : ℕ → Numbered
+profileWith n = cond (eqb n 0) (Known General) (cond (eqb n 1) (Known Phoenix) Unknown)

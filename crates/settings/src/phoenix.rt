@@ -1,0 +1,57 @@
+// A Phoenix panel's video: the seven bytes on the line, and what a caller sees and sets.
+ghost use mathlib.Core.Path.{_≡_};
+ghost use Rattle.settings.specs.Phoenix.{tintOf, tintByte, phoenixVideo, videoValues};
+use crate::MOST_VALUES;
+use crate::PhoenixVideo;
+
+// The tint that a byte holds as two's complement; !x is -1 - x.
+pub fn tint_of(byte: u8) -> i8
+    ensures { λ r. ⌜ r ≡ tintOf byte ⌝ }
+{
+    if byte < 128 {
+        return byte as i8;
+    }
+    !(!byte as i8)
+}
+
+// The byte that holds a tint.
+pub fn tint_byte(tint: i8) -> u8
+    ensures { λ r. ⌜ r ≡ tintByte tint ⌝ }
+{
+    if tint < 0 {
+        return !(!tint as u8);
+    }
+    tint as u8
+}
+
+// The video that a row of seven bytes holds.
+pub fn phoenix_video(bytes: [u8; MOST_VALUES]) -> PhoenixVideo
+    ensures { λ r. ⌜ r ≡ phoenixVideo bytes ⌝ }
+{
+    let tint = tint_of(bytes[4]);
+    PhoenixVideo {
+        brightness: bytes[0],
+        colour: bytes[1],
+        contrast: bytes[2],
+        sharpness: bytes[3],
+        tint,
+        black: bytes[5],
+        gamma: bytes[6],
+    }
+}
+
+// The seven bytes that hold a video.
+pub fn video_values(video: PhoenixVideo) -> [u8; MOST_VALUES]
+    ensures { λ r. ⌜ r ≡ videoValues video ⌝ }
+{
+    let tint = tint_byte(video.tint);
+    [
+        video.brightness,
+        video.colour,
+        video.contrast,
+        video.sharpness,
+        tint,
+        video.black,
+        video.gamma,
+    ]
+}
