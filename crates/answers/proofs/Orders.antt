@@ -1,11 +1,12 @@
 -- What an order says of the data that it was made of. Assumes nothing.
-use mathlib.Core.Path.{_≡_, refl, ap}
-use mathlib.Core.Bool.{true, false}
+use mathlib.Core.Path.{_≡_, refl, sym, ap}
+use mathlib.Core.Bool.{Bool, true, false}
 use mathlib.Core.List.{List, [], _∷_}
 use Prim.Native.Nat.{ℕ, _+_, _<_}
 use native.Mathlib.Omega.{arith}
 use lib.ListN.{length, drop, length-drop}
 use Rattle.settings.specs.declared.Profile.{Profile}
+use Rattle.settings.specs.declared.Profile.the-variants.{General, Phoenix}
 use Rattle.settings.specs.declared.Found.{Found}
 use Rattle.settings.specs.declared.Found.the-variants.{Set, Get, Nothing}
 use Rattle.settings.specs.Settings.{foundBy, getCode, byteCount, allowedFor, rowCount}
@@ -15,7 +16,7 @@ use Rattle.panels.specs.Wall.{valuesOf}
 use Rattle.answers.specs.declared.Order.{Order}
 use Rattle.answers.specs.declared.Order.the-variants.{Report, Store, NotAvailable}
 use Rattle.answers.specs.Judged.{Command, getOf, setOf, command, commandBy, notAvailable, reported, taken, stored, judge}
-use Rattle.answers.specs.Private.Orders.{orderOf}
+use Rattle.answers.specs.Private.Orders.{orderOf, takersOf, isTaker}
 
 abbrev pub OrderIs : List ℕ → Order → Type 0
 OrderIs d (Report row) = (row < rowCount) × (command d ≡ getOf row)
@@ -37,6 +38,11 @@ order-right (code ∷ vs) = order-found code vs (foundBy code) (found-right code
 pub judge-get : (c : Command) (row : ℕ) (p : Panel) → c ≡ getOf row → judge c p ≡ reported (getCode row ∷ valuesOf row (p .values))
 unfolding judge
 judge-get c row p e = ap (λ (x : Command). judge x p) e
+
+-- A panel is a taker where its own profile allows the values.
+pub taker : (profile : Profile) (row : ℕ) (vs : List ℕ) {takers : List Bool} → takers ≡ takersOf row vs → allowedFor profile row vs ≡ isTaker takers profile
+taker General row vs e = ap (λ (t : List Bool). isTaker t General) (sym e)
+taker Phoenix row vs e = ap (λ (t : List Bool). isTaker t Phoenix) (sym e)
 
 -- values that are taken are as many as the row has
 pub taken-many : (profile : Profile) (row : ℕ) (d : List ℕ) → 0 < length d → allowedFor profile row (drop 1 d) ≡ true → length d ≡ byteCount row + 1

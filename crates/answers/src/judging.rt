@@ -3,17 +3,19 @@ ghost use mathlib.Core.Path.{_≡_};
 ghost use mathlib.Core.List.{_∷_};
 ghost use Prim.Native.Nat.{_+_, _<_};
 ghost use lib.ListN.{length, drop};
-ghost use Rattle.settings.specs.Settings.{getCode, byteCount, allowedFor, rowCount};
+ghost use Rattle.settings.specs.Settings.{getCode, byteCount, rowCount};
 ghost use Rattle.panels.specs.Wall.{valuesOf};
 ghost use Rattle.answers.specs.Reply.{reportFrom};
 ghost use Rattle.answers.specs.Judged.{command, stored};
-ghost use Rattle.answers.specs.Private.Orders.{orderOf};
+ghost use Rattle.answers.specs.Private.Orders.{orderOf, takersOf, isTaker};
 use crate::Answer;
 use crate::MOST_REPORTED;
 use crate::Order;
 use crate::Reply;
 use panels::Panel;
 use settings::Found;
+use settings::PROFILE_COUNT;
+use settings::Profile;
 
 // What these data bytes ask.
 pub fn order_of(d: &[u8]) -> Order
@@ -37,13 +39,23 @@ pub fn order_of(d: &[u8]) -> Order
     }
 }
 
-// Whether a panel takes the values behind the set code, in its own profile.
-pub fn takes(p: Panel, row: usize, d: &[u8]) -> bool
+// For each profile, by its number, whether its panels take the values behind the set code.
+pub fn takers(row: usize, d: &[u8]) -> [bool; PROFILE_COUNT]
     requires { ⌜ (row < rowCount) × (0 < length (now d)) ⌝ }
-    ensures { λ r. ⌜ r ≡ allowedFor (p .profile) row (drop 1 (now (d .entry))) ⌝ }
+    ensures { λ r. ⌜ r ≡ takersOf row (drop 1 (now (d .entry))) ⌝ }
+{
+    let general = settings::allowed(Profile::General, row, &d[1..]);
+    let phoenix = settings::allowed(Profile::Phoenix, row, &d[1..]);
+    [general, phoenix]
+}
+
+// Whether a panel takes them: it judges by its own profile.
+pub fn takes(p: Panel, takers: [bool; PROFILE_COUNT]) -> bool
+    ensures { λ r. ⌜ r ≡ isTaker takers (p .profile) ⌝ }
 {
     let profile = p.profile;
-    settings::allowed(profile, row, &d[1..])
+    let number = settings::profile_number(profile) as usize;
+    takers[number]
 }
 
 // The panel with the values behind the set code stored in a row.

@@ -10,7 +10,7 @@ ghost use Rattle.panels.specs.Wall.{tableOf, panelsOf};
 ghost use Rattle.packet.specs.Answered.{isHeard};
 ghost use Rattle.panels.specs.WellFormed.{WellFormed};
 ghost use Rattle.answers.specs.Judged.{setOf, command};
-ghost use Rattle.answers.specs.Private.Orders.{orderOf, asked};
+ghost use Rattle.answers.specs.Private.Orders.{orderOf, takersOf, asked};
 ghost use Rattle.answers.specs.Played.{turned, playedPacket, damagedReply, played, inTable};
 use crate::Order;
 use crate::Played;
@@ -24,6 +24,7 @@ use packet::Verdict;
 use panels::Panel;
 use panels::Place;
 use panels::Table;
+use settings::PROFILE_COUNT;
 
 // The panel at place k is asked, and answers.
 fn play_one(t: Table, k: usize, order: Order, d: &[u8]) -> Played
@@ -38,7 +39,8 @@ fn play_one(t: Table, k: usize, order: Order, d: &[u8]) -> Played
             Played { table: t, reply }
         }
         Order::Store(row) => {
-            if !judging::takes(p, row, d) {
+            let takers = judging::takers(row, d);
+            if !judging::takes(p, takers) {
                 let reply = answering::word_from(id, Control::Nav);
                 return Played { table: t, reply };
             }
@@ -59,17 +61,21 @@ fn play_one(t: Table, k: usize, order: Order, d: &[u8]) -> Played
 }
 
 // The panel after a set: with the values, if it is addressed and takes them.
-fn store_in(p: Panel, id: MonitorId, group: GroupId, row: usize, d: &[u8]) -> Panel
-    requires { ⌜ (row < rowCount) × (0 < length (now d)) ⌝ }
+fn store_in(
+    p: Panel,
+    id: MonitorId,
+    group: GroupId,
+    row: usize,
+    takers: [bool; PROFILE_COUNT],
+    d: &[u8],
+) -> Panel
+    requires { ⌜ (row < rowCount) × (0 < length (now d)) × (takers ≡ takersOf row (drop 1 (now d))) ⌝ }
     ensures { λ r. ⌜ r ≡ turned id group (setOf row (drop 1 (now (d .entry)))) p ⌝ }
 {
-    if !panels::addresses(id, group, p) {
-        return p;
+    if panels::addresses(id, group, p) && judging::takes(p, takers) {
+        return judging::with_values(p, row, d);
     }
-    if !judging::takes(p, row, d) {
-        return p;
-    }
-    judging::with_values(p, row, d)
+    p
 }
 
 // The values are stored in every panel that is addressed and takes them.
@@ -78,10 +84,11 @@ fn store_in_all(t: Table, id: MonitorId, group: GroupId, row: usize, d: &[u8]) -
     ensures { λ r. ⌜ r ≡ tableOf (map (turned id group (setOf row (drop 1 (now (d .entry))))) (panelsOf t)) ⌝ }
 {
     let n = t.count;
+    let takers = judging::takers(row, d);
     let mut table = t;
     let mut k = 0;
     while k < n {
-        let p = store_in(table.panels[k], id, group, row, d);
+        let p = store_in(table.panels[k], id, group, row, takers, d);
         table.panels[k] = p;
         k += 1;
     }

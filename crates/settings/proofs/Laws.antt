@@ -5,7 +5,7 @@ use mathlib.Core.List.{List, [], _∷_, flatten}
 use Prim.Native.Nat.{ℕ, zero, suc, _+_, _-_, _≤_, _<_}
 use native.Mathlib.Numerals.{add-one}
 use native.Mathlib.Omega.{arith}
-use borrow.Author.Tests.{eqb-true, leb-true, ltb-true}
+use borrow.Author.Tests.{eqb-true, leb-true, ltb-true, ne-eqb}
 use lib.Dec.{eqb, leb, ltb}
 use lib.ListN.{length, getD, take, drop, List·getD-map}
 use lib.Seq.{drop-cons}
@@ -13,9 +13,9 @@ use Rattle.settings.specs.declared.Profile.{Profile}
 use Rattle.settings.specs.declared.Profile.the-variants.{General, Phoenix}
 use Rattle.settings.specs.declared.Found.{Found}
 use Rattle.settings.specs.declared.Found.the-variants.{Set, Get, Nothing}
-use Rattle.settings.specs.Settings.{Range, Setting, settings, setting, foundFrom, foundBy, setCode, getCode, byteCount, place, within, allAllowed, allowedFor, allowedByRow, freshValues, rowCount, mostValues, valueCount, row}
+use Rattle.settings.specs.Settings.{Range, Setting, settings, setting, foundFrom, foundBy, setCode, getCode, byteCount, place, within, allAllowed, allowedFor, allowedByRow, freshValues, rowCount, mostValues, valueCount, videoRow, row}
 use Rattle.settings.specs.Private.Numbers.{allowedValues, rangesOf, firstRange}
-use Rattle.lists.specs.Lists.{startOf, each}
+use Rattle.lists.specs.Lists.{each}
 use Rattle.lists.proofs.Both.{both}
 use Rattle.lists.proofs.Each.{alike}
 use Rattle.lists.proofs.Flat.{in-flat, flat-fits, flat-apart}
@@ -87,10 +87,9 @@ pub row-count : length settings ≡ rowCount
 unfolding settings
 row-count = refl
 
-pub value-count : (profile : Profile) → length (allowedValues profile) ≡ valueCount
+pub value-count : length allowedValues ≡ valueCount
 unfolding settings allowedByRow allowedValues flatten
-value-count General = refl
-value-count Phoenix = refl
+value-count = refl
 
 pub byte-count-few : {row : ℕ} → row < rowCount → byteCount row ≤ mostValues
 unfolding settings
@@ -111,41 +110,40 @@ unfolding settings within allAllowed listed
 colour-temperatures profile h =
     alike-by (λ profile v. allowedFor profile 2 (v ∷ [])) (λ profile v. listed v (0 ∷ 1 ∷ 3 ∷ 4 ∷ 5 ∷ 6 ∷ 9 ∷ 10 ∷ 13 ∷ [])) 256 refl refl profile h
 
-allowed-of-row : (profile : Profile) (row : ℕ) → getD (allowedByRow profile) row [] ≡ setting row .allowed profile
+allowed-of-row : (row : ℕ) → getD (allowedByRow General) row [] ≡ setting row .allowed General
 unfolding allowedByRow
-allowed-of-row profile row = List·getD-map (λ (s : Setting). s .allowed profile) settings row noSetting
+allowed-of-row row = List·getD-map (λ (s : Setting). s .allowed General) settings row noSetting
 
--- Both profiles have as many values in a row, and at the same place.
+-- Both profiles have as many values in a row.
 pub as-many : (profile : Profile) (row : ℕ) → length (setting row .allowed profile) ≡ byteCount row
 as-many General row = refl
 as-many Phoenix row =
     sym (List·getD-map (λ (s : Setting). length (s .allowed Phoenix)) settings row noSetting)
     ∙ unfold settings in List·getD-map (λ (s : Setting). length (s .allowed General)) settings row noSetting
 
-same-place : (profile : Profile) {row : ℕ} → row < rowCount → startOf (allowedByRow profile) row ≡ place row
-unfolding settings allowedByRow flatten
-same-place profile h = alike-by (λ profile row. startOf (allowedByRow profile) row) (λ profile row. place row) rowCount refl refl profile h
-
 -- Places: a row's values are among the 15, no two rows' overlap, and what is allowed there is what the row allows.
 pub place-fits : (row : ℕ) → place row + byteCount row ≤ valueCount
 unfolding settings allowedByRow flatten
-place-fits row = rw (← allowed-of-row General row) (flat-fits (allowedByRow General) row)
+place-fits row = rw (← allowed-of-row row) (flat-fits (allowedByRow General) row)
 
 pub places-apart : (j k : ℕ) → j < k → place j + byteCount j ≤ place k
-places-apart j k h = rw (← allowed-of-row General j) (flat-apart (allowedByRow General) j k h)
+places-apart j k h = rw (← allowed-of-row j) (flat-apart (allowedByRow General) j k h)
 
-pub at-place : (profile : Profile) {row : ℕ} (k : ℕ) → row < rowCount → k < byteCount row
-    → getD (setting row .allowed profile) k [] ≡ rangesOf profile (place row + k)
+pub at-place : (row k : ℕ) → k < byteCount row → getD (setting row .allowed General) k [] ≡ rangesOf (place row + k)
 unfolding allowedValues
-at-place profile {row} k h few =
-    let many : k < length (getD (allowedByRow profile) row []) = rw (allowed-of-row profile row, as-many profile row) few in
-    let e = in-flat (allowedByRow profile) row k [] many in
-    sym (rw (same-place profile h, allowed-of-row profile row) at e)
+at-place row k h = sym (in-flat (allowedByRow General) row k [] (rw (allowed-of-row row) h) ∙ rw (allowed-of-row row))
 
 -- Every value byte has a first range.
-pub first-and-more : (profile : Profile) {p : ℕ} → p < valueCount → rangesOf profile p ≡ firstRange profile p ∷ drop 1 (rangesOf profile p)
+pub first-and-more : {p : ℕ} → p < valueCount → rangesOf p ≡ firstRange p ∷ drop 1 (rangesOf p)
 unfolding settings allowedByRow allowedValues flatten
-first-and-more profile h = alike-by rangesOf (λ profile p. firstRange profile p ∷ drop 1 (rangesOf profile p)) valueCount refl refl profile h
+first-and-more h = alike rangesOf (λ p. firstRange p ∷ drop 1 (rangesOf p)) valueCount refl h
+
+-- Behind the video, a Phoenix panel's rows are a general panel's.
+pub all-else : {row : ℕ} → row < rowCount → (row ≡ videoRow → ⊥) → setting row .allowed Phoenix ≡ setting row .allowed General
+unfolding settings
+all-else {row} h ne =
+    rw (ne-eqb row videoRow ne) at
+    (alike (λ k. cond (eqb k videoRow) [] (setting k .allowed Phoenix)) (λ k. cond (eqb k videoRow) [] (setting k .allowed General)) rowCount refl h)
 
 -- Values are allowed only where there are as many as the row has.
 other-count : (rs : List (List Range)) (vs : List ℕ) → (length vs ≡ length rs → ⊥) → allAllowed rs vs ≡ false

@@ -7,7 +7,7 @@ ghost use mathlib.Core.Path.{_≡_};
 ghost use Prim.Native.Nat.{_<_};
 ghost use lib.ListN.{length};
 ghost use Rattle.settings.specs.Settings.{foundBy, setCode, getCode, byteCount, place, freshValues, valuesWith, rowCount, valueCount};
-ghost use Rattle.settings.specs.Private.Numbers.{paperTable, columnOf};
+ghost use Rattle.settings.specs.Private.Numbers.{paperTable};
 pub use phoenix::phoenix_video;
 pub use phoenix::tint_byte;
 pub use phoenix::tint_of;
@@ -28,14 +28,17 @@ pub const VALUE_COUNT: usize = 15;
 // How many one has at most.
 pub const MOST_VALUES: usize = 7;
 
-// How many ranges there are beyond the first of each value byte, over both profiles.
-const MORE_COUNT: usize = 7;
+// How many ranges there are beyond the first of each value byte.
+const MORE_COUNT: usize = 3;
 
 // What a panel's ranges and fresh values go by: of any year, or of 2015.
 pub enum Profile {
     General,
     Phoenix,
 }
+
+// How many profiles there are: their numbers are below this.
+pub const PROFILE_COUNT: usize = 2;
 
 // The profile that has a number, if one does.
 pub enum Numbered {
@@ -63,23 +66,25 @@ struct Values(u8, u8);
 // The values from the lowest to the highest that a range allows.
 struct Span(u8, u8);
 
-// One more range of a value byte that has several: the profile's number, the byte's place, the lowest value and the highest.
-struct More(u8, u8, u8, u8);
+// One more range of a value byte that has several: the byte's place, the lowest value and the highest.
+struct More(u8, u8, u8);
 
-// What a profile says of each value byte: its first range and its fresh value.
-struct Column {
-    ranges: [Span; VALUE_COUNT],
-    fresh: [u8; VALUE_COUNT],
+// What is other for a Phoenix panel, its video: for each value its first range, the tint's range below 0, and the fresh values.
+struct Video {
+    ranges: [Span; MOST_VALUES],
+    below: More,
+    fresh: [u8; MOST_VALUES],
 }
 
-// For each setting its codes and its value bytes; for each value byte what either profile says of it, and more ranges where
-// it has several.
+// For each setting its codes and its value bytes; for each value byte its first range, more where it has several, and its
+// fresh value; and what is other for a Phoenix panel.
 struct Table {
     codes: [Codes; ROW_COUNT],
     values: [Values; ROW_COUNT],
-    general: Column,
-    phoenix: Column,
+    ranges: [Span; VALUE_COUNT],
     more: [More; MORE_COUNT],
+    fresh: [u8; VALUE_COUNT],
+    phoenix: Video,
 }
 
 const TABLE: Table = Table {
@@ -103,87 +108,58 @@ const TABLE: Table = Table {
         Values(1, 13), // APM
         Values(1, 14), // power saving
     ],
-    general: Column {
-        ranges: [
-            Span(1, 2), // power
-            Span(0, 100), // video: brightness, colour, contrast
-            Span(0, 100),
-            Span(0, 100),
-            Span(0, 100), // sharpness
-            Span(0, 100), // tint
-            Span(0, 100), // black level
-            Span(1, 5), // gamma
-            Span(0, 1), // colour temperature
-            Span(0, 100), // treble, bass
-            Span(0, 100),
-            Span(0, 4), // fan
-            Span(0, 2), // cold start
-            Span(0, 3), // APM
-            Span(0, 3), // power saving
-        ],
-        fresh: [
-            2, // power
-            50, // video: brightness, colour, contrast
-            50,
-            50,
-            50, // sharpness
-            50, // tint
-            50, // black level
-            3, // gamma
-            1, // colour temperature
-            50, // treble, bass
-            50,
-            1, // fan
-            2, // cold start
-            0, // APM
-            0, // power saving
-        ],
-    },
-    phoenix: Column {
-        ranges: [
-            Span(1, 2), // power
-            Span(0, 100), // video: brightness, colour, contrast
-            Span(0, 100),
-            Span(0, 100),
-            Span(0, 10), // sharpness
-            Span(0, 50), // tint: not below 0
-            Span(0, 100), // black level
-            Span(1, 5), // gamma
-            Span(0, 1), // colour temperature
-            Span(0, 100), // treble, bass
-            Span(0, 100),
-            Span(0, 4), // fan
-            Span(0, 2), // cold start
-            Span(0, 3), // APM
-            Span(0, 3), // power saving
-        ],
-        fresh: [
-            2, // power
-            50, // video: brightness, colour, contrast
-            50,
-            50,
-            5, // sharpness
-            0, // tint
-            50, // black level
-            3, // gamma
-            1, // colour temperature
-            50, // treble, bass
-            50,
-            1, // fan
-            2, // cold start
-            0, // APM
-            0, // power saving
-        ],
-    },
-    more: [
-        More(0, 8, 3, 6), // colour temperature
-        More(0, 8, 9, 10),
-        More(0, 8, 13, 13),
-        More(1, 5, 206, 255), // tint: -50 to -1
-        More(1, 8, 3, 6), // colour temperature
-        More(1, 8, 9, 10),
-        More(1, 8, 13, 13),
+    ranges: [
+        Span(1, 2), // power
+        Span(0, 100), // video: six, and gamma
+        Span(0, 100),
+        Span(0, 100),
+        Span(0, 100),
+        Span(0, 100),
+        Span(0, 100),
+        Span(1, 5),
+        Span(0, 1), // colour temperature
+        Span(0, 100), // treble, bass
+        Span(0, 100),
+        Span(0, 4), // fan
+        Span(0, 2), // cold start
+        Span(0, 3), // APM
+        Span(0, 3), // power saving
     ],
+    more: [
+        More(8, 3, 6), // colour temperature
+        More(8, 9, 10),
+        More(8, 13, 13),
+    ],
+    fresh: [
+        2, // power
+        50, // video: six, and gamma
+        50,
+        50,
+        50,
+        50,
+        50,
+        3,
+        1, // colour temperature
+        50, // treble, bass
+        50,
+        1, // fan
+        2, // cold start
+        0, // APM
+        0, // power saving
+    ],
+    phoenix: Video {
+        ranges: [
+            Span(0, 100), // brightness
+            Span(0, 100), // colour
+            Span(0, 100), // contrast
+            Span(0, 10), // sharpness
+            Span(0, 50), // tint
+            Span(0, 100), // black level
+            Span(1, 5), // gamma
+        ],
+        below: More(4, 206, 255), // tint: -50 to -1
+        fresh: [50, 50, 50, 5, 0, 50, 3],
+    },
 };
 
 // What a code is: the set code or the get code of a row, or neither.
@@ -275,18 +251,14 @@ pub fn store(row: usize, vs: &[u8], values: &mut [u8])
     bytes::copy(vs, &mut values[at..]);
 }
 
-fn column_of(profile: Profile) -> Column
-    ensures { λ r. ⌜ r ≡ columnOf profile ⌝ }
-{
-    match profile {
-        Profile::General => the_table().general,
-        Profile::Phoenix => the_table().phoenix,
-    }
-}
-
 // A panel's values before anything is set.
 pub fn fresh(profile: Profile) -> [u8; VALUE_COUNT]
     ensures { λ r. ⌜ r ≡ freshValues profile ⌝ }
 {
-    column_of(profile).fresh
+    let mut values = the_table().fresh;
+    if let Profile::Phoenix = profile {
+        let video = the_table().phoenix.fresh;
+        store(VIDEO_ROW, &video, &mut values);
+    }
+    values
 }

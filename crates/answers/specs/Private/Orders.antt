@@ -1,6 +1,12 @@
 -- How the code judges: once for all panels what the data asks, then one panel after the other.
 use Prim.Native.Nat.{ℕ}
+use mathlib.Core.Bool.{Bool, false}
+use mathlib.Core.List.{List, [], _∷_}
 use lib.ListN.{getD, set}
+use Rattle.settings.specs.declared.Profile.{Profile}
+use Rattle.settings.specs.declared.Profile.the-variants.{General, Phoenix}
+use Rattle.settings.specs.Profiles.{profileNumber}
+use Rattle.settings.specs.Settings.{allowedFor}
 use Rattle.panels.specs.Wall.{Wall, blank, tableOf}
 use Rattle.answers.specs.declared.Order.{Order}
 use Rattle.answers.specs.declared.Order.the-variants.{Report, Store, NotAvailable}
@@ -12,6 +18,13 @@ abbrev pub orderOf : Command → Order
 orderOf (getOf row) = Report row
 orderOf (setOf row values) = Store row
 orderOf unavailable = NotAvailable
+
+-- For each profile, by its number, whether its panels take the values of a set; and whether those of one do.
+abbrev pub takersOf : ℕ → List ℕ → List Bool
+takersOf row values = allowedFor General row values ∷ allowedFor Phoenix row values ∷ []
+
+abbrev pub isTaker : List Bool → Profile → Bool
+isTaker takers profile = getD takers (profileNumber profile) false
 
 -- one panel asked, and the table with it as it then is
 abbrev pub asked : Wall → ℕ → Command → Played

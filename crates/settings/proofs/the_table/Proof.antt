@@ -2,12 +2,12 @@
 use mathlib.Core.Path.{refl}
 use mathlib.Core.List.{flatten}
 use Rattle.settings.specs.Settings.{settings, allowedByRow, freshValues}
-use Rattle.settings.specs.Private.Numbers.{allowedValues, columnOf, paperTable}
+use Rattle.settings.specs.Private.Numbers.{allowedValues, paperTable}
 use Rattle.settings.proofs.the_table.Statement.{statement}
 use Rattle.settings.proofs.the_table.Tie as tie
 
 returns : tie.Need-returns
-unfolding settings allowedByRow allowedValues freshValues columnOf paperTable flatten
+unfolding settings allowedByRow allowedValues freshValues paperTable flatten
 returns c = refl
 
 pub the-table-spec : {M : Type 1} → statement M

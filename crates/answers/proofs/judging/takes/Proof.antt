@@ -1,27 +1,31 @@
--- The values are what stands behind the code. Assumes nothing.
-use mathlib.Core.Path.{sym, ap, _∙_}
-use Rattle.lists.proofs.Places.{rest}
-use Rattle.settings.specs.Settings.{allowedFor}
+-- The panel's profile has its own place. Assumes nothing.
+use mathlib.Core.Path.{ap}
+use mathlib.Core.Bool.{false}
+use Prim.Native.Nat.{ℕ, _<_}
+use native.Mathlib.Omega.{arith}
 use borrow.Author.Needs.{needs}
+use lib.ListN.{getD}
+use Rattle.settings.specs.declared.Profile.{Profile}
+use Rattle.settings.specs.declared.Profile.the-variants.{General, Phoenix}
+use Rattle.settings.specs.Profiles.{profileNumber}
 use Rattle.answers.proofs.judging.takes.Statement.{statement}
 use Rattle.answers.proofs.judging.takes.Tie as tie
 
-sub-allowed : tie.Need-sub-allowed
-sub-allowed c = search needs
+numbers : (profile : Profile) → profileNumber profile < 2
+numbers General = omega arith
+numbers Phoenix = omega arith
 
-part-allowed-start : tie.Need-part-allowed-start
-part-allowed-start c = search needs
+profile-number-requires : tie.Need-profile-number-requires
+profile-number-requires c κs = search needs
 
-part-allowed-end : tie.Need-part-allowed-end
-part-allowed-end c = search needs
+cast-number : tie.Need-cast-number
+cast-number c = search needs
 
-allowed-requires : tie.Need-allowed-requires
-allowed-requires c κs = search needs
+array-read-result : tie.Need-array-read-result
+array-read-result c = omega (arith, c .profile-number .ensures, numbers (c .before .args .p .profile))
 
 returns : tie.Need-returns
-returns c =
-    let a = c .before .before .before .args in
-    c .allowed .ensures ∙ ap (allowedFor (a .p .profile) (a .row)) (rest (a .d .now))
+returns c = ap (λ (n : ℕ). getD (c .before .args .t2) n false) (c .profile-number .ensures)
 
 pub takes-spec : {M : Type 1} → statement M
-takes-spec = tie.close (tie.spec sub-allowed part-allowed-start part-allowed-end allowed-requires returns)
+takes-spec = tie.close (tie.spec profile-number-requires cast-number array-read-result returns)

@@ -20,7 +20,7 @@ use Rattle.answers.specs.declared.Played.{Played}
 use Rattle.answers.specs.Reply.{wordFrom, reportFrom}
 use Rattle.answers.specs.Judged.{Command, Judged, command, judge, stored, panelAfter, replyBy}
 use Rattle.answers.specs.Private.Orders.{asked}
-use Rattle.answers.proofs.Orders.{OrderIs, order-right, taken-many, judge-get, judge-set, judge-not}
+use Rattle.answers.proofs.Orders.{OrderIs, order-right, taker, taken-many, judge-get, judge-set, judge-not}
 use Rattle.answers.proofs.playing.play_one.Statement.{statement}
 use Rattle.answers.proofs.playing.play_one.Tie as tie
 
@@ -59,20 +59,24 @@ report-of-requires c κs = told (c .before .before .before) _ (c .before .order 
 enum-known-order-2 : tie.Need-enum-known-order-2
 enum-known-order-2 c = search needs
 
-takes-requires : tie.Need-takes-requires
-takes-requires c κs =
+takers-requires : tie.Need-takers-requires
+takers-requires c κs =
     let o = told (c .before .before .before) _ (c .before .order2 .given .1) in
     (o .0, o .1)
 
+takes-requires : tie.Need-takes-requires
+takes-requires c κs = search needs
+
 -- the panel's judgement is the wall's panel's
 own : (c : tie.After-takes)
-    → let read = c .before .before .before .before in
-    let row = c .before .before .order2 .given .0 .0 in
+    → let read = c .before .before .before .before .before in
+    let row = c .before .before .before .order2 .given .0 .0 in
     allowedFor (getD (panelsOf (start read .args .t1)) (start read .args .k) blank .profile) row (drop 1 (start read .args .d .now)) ≡ c .takes .result
 own c =
-    let read = c .before .before .before .before in
-    let row = c .before .before .order2 .given .0 .0 in
-    ap (λ (q : Panel). allowedFor (q .profile) row (drop 1 (start read .args .d .now))) (sym (here read _)) ∙ sym (c .takes .ensures)
+    let read = c .before .before .before .before .before in
+    let row = c .before .before .before .order2 .given .0 .0 in
+    let vs = drop 1 (start read .args .d .now) in
+    ap (λ (q : Panel). allowedFor (q .profile) row vs) (sym (here read _)) ∙ taker _ row vs (c .before .takers .ensures) ∙ sym (c .takes .ensures)
 
 word-from-requires : tie.Need-word-from-requires
 word-from-requires c κs = search needs
@@ -80,9 +84,9 @@ word-from-requires c κs = search needs
 returns : tie.Need-returns
 returns c =
     let takes = c .before .before in
-    let read = takes .before .before .before .before in
+    let read = takes .before .before .before .before .before in
     let a = start read .args in
-    let row = takes .before .before .order2 .given in
+    let row = takes .before .before .before .order2 .given in
     let o = told read _ (row .1) in
     let vs = drop 1 (a .d .now) in
     ap {B = Played} (λ r. record { table = a .t1; reply = r }) (c .word-from .ensures ∙ ap (λ (q : Panel). wordFrom (q .id) Nav) (here read _))
@@ -91,15 +95,15 @@ returns c =
 with-values-requires : tie.Need-with-values-requires
 with-values-requires c κs =
     let takes = c .before in
-    let read = takes .before .before .before .before in
-    let o = told read _ (takes .before .before .order2 .given .1) in
-    (o .0, taken-many _ _ (start read .args .d .now) (o .1) (sym (takes .takes .ensures) ∙ not-false _ (c .if1 .left)))
+    let read = takes .before .before .before .before .before in
+    let o = told read _ (takes .before .before .before .order2 .given .1) in
+    (o .0, taken-many _ _ (start read .args .d .now) (o .1) (own takes ∙ not-false _ (c .if1 .left)))
 
 mul-q : tie.Need-mul-q
-mul-q c = omega (arith, count-few (start (c .before .before .before .before .before .before) .pre .0))
+mul-q c = omega (arith, count-few (start (c .before .before .before .before .before .before .before) .pre .0))
 
 element-set-from-q : tie.Need-element-set-from-q
-element-set-from-q c = omega (arith, count-few (start (c .before .before .before .before .before .before) .pre .0))
+element-set-from-q c = omega (arith, count-few (start (c .before .before .before .before .before .before .before) .pre .0))
 
 word-from-requires-2 : tie.Need-word-from-requires-2
 word-from-requires-2 c κs = search needs
@@ -123,9 +127,9 @@ returns-2 c =
 returns-3 : tie.Need-returns-3
 returns-3 c =
     let takes = c .before .before .before in
-    let read = takes .before .before .before .before in
+    let read = takes .before .before .before .before .before in
     let a = start read .args in
-    let row = takes .before .before .order2 .given in
+    let row = takes .before .before .before .order2 .given in
     let o = told read _ (row .1) in
     let vs = drop 1 (a .d .now) in
     ap₂ {C = Played} (λ (q : Panel) (r : Reply). record { table = record { panels = set (a .t1 .panels) (a .k) q; count = a .t1 .count }; reply = r })
@@ -152,6 +156,7 @@ play-one-spec =
     enum-known-order
     report-of-requires
     enum-known-order-2
+    takers-requires
     takes-requires
     word-from-requires
     returns

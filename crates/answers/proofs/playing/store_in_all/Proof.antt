@@ -25,11 +25,14 @@ abbrev change : MonitorId → GroupId → ℕ → List ℕ → Panel → Panel
 change i g row d = turned i g (setOf row (drop 1 d))
 
 abbrev Inv-loop : tie.InvT-loop
-Inv-loop id group row d n table₀ k₀ table k =
+Inv-loop id group row d n takers table₀ k₀ table k =
     (k ≤ n) × (table .count ≡ table₀ .count) × (table .panels ≡ take k (map (change id group row d) (table₀ .panels)) ++ drop k (table₀ .panels))
 
 abbrev μ-loop : tie.MeasureT-loop
-μ-loop id group row d n table₀ k₀ table k = n - k
+μ-loop id group row d n takers table₀ k₀ table k = n - k
+
+takers-requires : tie.Need-takers-requires Inv-loop μ-loop
+takers-requires c κs = search needs
 
 loop-holds : tie.Need-loop-holds Inv-loop μ-loop
 loop-holds c = (omega arith, refl, refl)
@@ -37,26 +40,26 @@ loop-holds c = (omega arith, refl, refl)
 -- the table has its 32 places in every turn
 in-turn : (c : tie.At-loop Inv-loop μ-loop) → length (c .loop .table .panels) ≡ mostPanels
 in-turn c =
-    let f = c .before .before .pre .0 in
+    let f = c .before .before .before .pre .0 in
     ap length (c .loop .inv .2) ∙ simp (length-append, length-take, length-drop, length-map) (omega (arith, count-few f, places-count f))
 
 mul-store-in : tie.Need-mul-store-in Inv-loop μ-loop
-mul-store-in c = omega (arith, count-few (c .before .before .before .pre .0))
+mul-store-in c = omega (arith, count-few (c .before .before .before .before .pre .0))
 
 element-copy-out-store-in : tie.Need-element-copy-out-store-in Inv-loop μ-loop
-element-copy-out-store-in c = omega (arith, count-few (c .before .before .before .pre .0))
+element-copy-out-store-in c = omega (arith, count-few (c .before .before .before .before .pre .0))
 
 store-in-requires : tie.Need-store-in-requires Inv-loop μ-loop
 store-in-requires c κs = search needs
 
 mul-p : tie.Need-mul-p Inv-loop μ-loop
-mul-p c = omega (arith, count-few (c .before .before .before .before .before .pre .0))
+mul-p c = omega (arith, count-few (c .before .before .before .before .before .before .pre .0))
 
 element-set-from-p : tie.Need-element-set-from-p Inv-loop μ-loop
-element-set-from-p c = omega (arith, count-few (c .before .before .before .before .before .pre .0))
+element-set-from-p c = omega (arith, count-few (c .before .before .before .before .before .before .pre .0))
 
 add-k : tie.Need-add-k Inv-loop μ-loop
-add-k c = omega (arith, count-few (c .before .before .before .before .before .pre .0))
+add-k c = omega (arith, count-few (c .before .before .before .before .before .before .pre .0))
 
 loop-less : tie.Need-loop-less Inv-loop μ-loop
 loop-less c = omega arith
@@ -64,7 +67,7 @@ loop-less c = omega arith
 loop-again : tie.Need-loop-again Inv-loop μ-loop
 loop-again c =
     let loop = c .before .before .before in
-    let start = loop .before .before in
+    let start = loop .before .before .before in
     let a = start .args in
     let f = start .pre .0 in
     let k = loop .loop .k in
@@ -80,7 +83,7 @@ loop-again c =
 returns : tie.Need-returns Inv-loop μ-loop
 returns c =
     let loop = c .before in
-    let start = loop .before .before in
+    let start = loop .before .before .before in
     let a = start .args in
     let f = start .pre .0 in
     let w = panelsOf (a .t) in
@@ -95,4 +98,4 @@ returns c =
 pub store-in-all-spec : {M : Type 1} → statement M
 store-in-all-spec =
     tie.close
-    (tie.spec Inv-loop μ-loop loop-holds mul-store-in element-copy-out-store-in store-in-requires mul-p element-set-from-p add-k loop-less loop-again returns)
+    (tie.spec Inv-loop μ-loop takers-requires loop-holds mul-store-in element-copy-out-store-in store-in-requires mul-p element-set-from-p add-k loop-less loop-again returns)

@@ -1,136 +1,44 @@
--- As many values as the row has are tried one after the other. The invariant: the answer is that of the values from k on.
--- Assumes nothing.
+-- All but the video of a Phoenix panel is as general. Assumes nothing.
 use mathlib.Core.Path.{_≡_, refl, sym, ap, _∙_}
-use mathlib.Core.Bool.{Bool, true, false, _&&_}
-use mathlib.Core.List.{List, []}
-use Prim.Native.Nat.{ℕ, _+_, _-_, _≤_, _<_}
-use native.Mathlib.Numerals.{add-one}
-use native.Mathlib.Omega.{arith}
+use mathlib.Core.Logic.{⊎-elim}
+use mathlib.Core.List.{List}
+use Prim.Native.Nat.{ℕ, _<_}
 use borrow.Author.Needs.{needs}
-use borrow.Author.Tests.{not-true, not-false}
-use lib.ListN.{length, getD, drop}
-use lib.Seq.{drop-cons, drop-length}
 use Rattle.settings.specs.declared.Profile.{Profile}
-use Rattle.settings.specs.Settings.{setting, byteCount, place, within, allAllowed, rowCount, valueCount}
-use Rattle.settings.specs.Private.Numbers.{rangesOf, firstRange, rangeOf, spanOf, columnOf}
-use Rattle.settings.specs.declared.Span.{Span}
-use Rattle.settings.specs.declared.Column.{Column}
-use Rattle.lists.proofs.Each.{in-each}
-use Rattle.settings.proofs.Laws.{place-fits, as-many, at-place, other-many}
+use Rattle.settings.specs.declared.Profile.the-variants.{General, Phoenix}
+use Rattle.settings.specs.Settings.{Range, allAllowed, allowedFor, rowCount, videoRow}
+use Rattle.settings.proofs.Laws.{all-else}
 use Rattle.settings.proofs.ranges.allowed.Statement.{statement}
 use Rattle.settings.proofs.ranges.allowed.Tie as tie
 
-rest : Profile → ℕ → List ℕ → ℕ → Bool
-rest profile row vs k = allAllowed (drop k (setting row .allowed profile)) (drop k vs)
+as-general : (profile : Profile) {row : ℕ} (vs : List ℕ) → row < rowCount → (row ≡ videoRow → ⊥) → allowedFor General row vs ≡ allowedFor profile row vs
+as-general General vs h ne = refl
+as-general Phoenix vs h ne = ap (λ (rs : List (List Range)). allAllowed rs vs) (sym (all-else h ne))
 
-step : (profile : Profile) {row : ℕ} (k : ℕ) (vs : List ℕ) → row < rowCount → k < byteCount row → k < length vs
-    → rest profile row vs k ≡ within (rangesOf profile (place row + k)) (getD vs k 0) && rest profile row vs (k + 1)
-unfolding rest allAllowed
-step profile {row} k vs h hk hv =
-    let many : k < length (setting row .allowed profile) = rw (as-many profile row) hk in
-    rw (drop-cons (setting row .allowed profile) k [] many, drop-cons vs k 0, add-one, at-place profile k h hk)
+enum-told : tie.Need-enum-told
+enum-told c = search needs
 
-first-in : (profile : Profile) {column : Column} {p : ℕ} (d : Span) → column ≡ columnOf profile → p < valueCount
-    → rangeOf (getD (column .ranges) p d) ≡ firstRange profile p
-unfolding columnOf
-first-in profile {p = p} d e h =
-    ap (λ (column : Column). rangeOf (getD (column .ranges) p d)) e ∙ ap rangeOf (in-each (λ p. spanOf (firstRange profile p)) valueCount d h)
+video-allowed-requires : tie.Need-video-allowed-requires
+video-allowed-requires c κs = search needs
 
-abbrev Inv-loop : tie.InvT-loop
-Inv-loop profile row values first count ranges k₀ k = (k ≤ byteCount row) × (rest profile row values 0 ≡ rest profile row values k)
+returns : tie.Need-returns
+returns c = c .video-allowed .ensures ∙ rw (c .before .before .enum-told .given .1, c .before .if1 .taken)
 
-abbrev μ-loop : tie.MeasureT-loop
-μ-loop profile row values first count ranges k₀ k = byteCount row - k
+enum-told-2 : tie.Need-enum-told-2
+enum-told-2 c = search needs
 
-place-of-requires : tie.Need-place-of-requires Inv-loop μ-loop
-place-of-requires c κs = search needs
+general-allowed-requires : tie.Need-general-allowed-requires
+general-allowed-requires c κs = search needs
 
-byte-count-requires : tie.Need-byte-count-requires Inv-loop μ-loop
-byte-count-requires c κs = search needs
-
-returns : tie.Need-returns Inv-loop μ-loop
-returns c = sym (other-many _ _ _ (λ e. c .if1 .taken (e ∙ sym (c .before .byte-count .ensures))))
-
-column-of-requires : tie.Need-column-of-requires Inv-loop μ-loop
-column-of-requires c κs = search needs
-
-loop-holds : tie.Need-loop-holds Inv-loop μ-loop
-loop-holds c = (omega arith, refl)
-
-add-p : tie.Need-add-p Inv-loop μ-loop
-add-p c = omega (arith, place-fits (c .before .before .before .before .before .before .before .before .args .row))
-
-mul-allowed-at : tie.Need-mul-allowed-at Inv-loop μ-loop
-mul-allowed-at c = omega (arith, place-fits (c .before .before .before .before .before .before .before .before .args .row))
-
-array-copy-out-allowed-at : tie.Need-array-copy-out-allowed-at Inv-loop μ-loop
-array-copy-out-allowed-at c = omega (arith, place-fits (c .before .before .before .before .before .before .before .before .args .row))
-
-shared-slice-read-allowed-at : tie.Need-shared-slice-read-allowed-at Inv-loop μ-loop
-shared-slice-read-allowed-at c = omega arith
-
-allowed-at-requires : tie.Need-allowed-at-requires Inv-loop μ-loop
-allowed-at-requires c κs =
-    let table = c .before .before .before .before .before in
-    let first = table .before .before .before .place-of in
-    let h : first .result + c .before .before .before .loop .k < valueCount = omega (arith, place-fits (table .before .before .before .before .before .args .row)) in
-    (h, first-in _ _ (table .column-of .ensures) h)
-
-returns-2 : tie.Need-returns-2 Inv-loop μ-loop
-unfolding rest
+returns-2 : tie.Need-returns-2
 returns-2 c =
-    let loop = c .before .before .before .before .before in
-    let start = loop .before .before .before .before .before .before .before in
-    let values = start .args .values .now in
-    let first = loop .before .before .before .before .before .place-of in
-    let here : within (rangesOf (start .args .profile) (place (start .args .row) + loop .loop .k)) (getD values (loop .loop .k) 0) ≡ false = rw (← first .ensures) (sym (c .before .allowed-at .ensures) ∙ not-true _ (c .if2 .taken)) in
-    sym (loop .loop .inv .1 ∙ step (start .args .profile) (loop .loop .k) values (start .pre) (omega arith) (omega arith) ∙ simp here)
-
-add-k : tie.Need-add-k Inv-loop μ-loop
-add-k c = omega (arith, place-fits (c .before .before .before .before .before .before .before .before .before .before .before .before .args .row))
-
-loop-less : tie.Need-loop-less Inv-loop μ-loop
-loop-less c = search needs
-
-loop-again : tie.Need-loop-again Inv-loop μ-loop
-loop-again c =
-    let loop = c .before .before .before .before .before in
-    let start = loop .before .before .before .before .before .before .before in
-    let values = start .args .values .now in
-    let first = loop .before .before .before .before .before .place-of in
-    let here : within (rangesOf (start .args .profile) (place (start .args .row) + loop .loop .k)) (getD values (loop .loop .k) 0) ≡ true = rw (← first .ensures) (sym (c .before .allowed-at .ensures) ∙ not-false _ (c .if2 .left)) in
-    (omega arith, loop .loop .inv .1 ∙ step (start .args .profile) (loop .loop .k) values (start .pre) (omega arith) (omega arith) ∙ simp here)
-
-returns-3 : tie.Need-returns-3 Inv-loop μ-loop
-unfolding rest allAllowed
-returns-3 c =
-    let loop = c .before in
-    let start = loop .before .before .before .before .before .before .before in
-    let values = start .args .values .now in
-    let all : loop .loop .k ≡ length (setting (start .args .row) .allowed (start .args .profile)) = omega (arith, as-many (start .args .profile) (start .args .row)) in
-    let all-values : loop .loop .k ≡ length values = omega arith in
-    let no-ranges = rw (← all) at (drop-length (setting (start .args .row) .allowed (start .args .profile))) in
-    let no-values = rw (← all-values) at (drop-length values) in
-    sym (loop .loop .inv .1 ∙ rw (no-ranges, no-values))
+    let met = c .before in
+    let start = met .before .before in
+    c .general-allowed .ensures
+    ∙ ⊎-elim
+    (λ w. as-general _ _ (start .pre) (w .2 .left))
+    (λ w. ap (λ (profile : Profile). allowedFor profile (start .args .row) (start .args .values .now)) (sym (w .1 .given .1)))
+    (met .match .came)
 
 pub allowed-spec : {M : Type 1} → statement M
-allowed-spec =
-    tie.close
-    (tie.spec
-    Inv-loop
-    μ-loop
-    place-of-requires
-    byte-count-requires
-    returns
-    column-of-requires
-    loop-holds
-    add-p
-    mul-allowed-at
-    array-copy-out-allowed-at
-    shared-slice-read-allowed-at
-    allowed-at-requires
-    returns-2
-    add-k
-    loop-less
-    loop-again
-    returns-3)
+allowed-spec = tie.close (tie.spec enum-told video-allowed-requires returns enum-told-2 general-allowed-requires returns-2)
