@@ -13,10 +13,10 @@ use mir.Syntax.{w8}
 use mir.Val.{SFits}
 use Rattle.lists.proofs.Each.{alike}
 use Rattle.lists.proofs.Places.{getD-inside}
-use Rattle.settings.specs.declared.PhoenixVideo.{PhoenixVideo}
+use Rattle.phoenix.specs.declared.Video.{Video}
 use Rattle.settings.specs.Settings.{settings, _to_, within, allAllowed, allowedFor, byteCount, videoRow}
-use Rattle.settings.specs.Phoenix.{tintByte, phoenixVideo, videoValues}
-use Rattle.settings.proofs.Tints.{byte-back, tint-back}
+use Rattle.phoenix.specs.Video.{tintByte, videoIn, bytesOf}
+use Rattle.phoenix.proofs.Tints.{byte-back, tint-back}
 use Rattle.panels.specs.declared.Panel.{Panel}
 use Rattle.panels.specs.Wall.{blank, videoOf}
 use Rattle.panels.specs.Addressed.{reaches}
@@ -73,24 +73,24 @@ seven-tests true true true true true false g = refl
 seven-tests true true true true true true g = refl
 
 pub video-allowed : VideoAllowed
-unfolding settings allAllowed videoValues inPhoenixRange
+unfolding settings allAllowed bytesOf inPhoenixRange
 video-allowed v h =
     and (up-to 100 (v .brightness)) (and (up-to 100 (v .colour)) (and (up-to 100 (v .contrast))
     (and (up-to 10 (v .sharpness)) (and (tints (v .tint) h) (and (up-to 100 (v .black)) (gammas (v .gamma)))))))
     ∙ seven-tests (leb (v .brightness) 100) (leb (v .colour) 100) (leb (v .contrast) 100) (leb (v .sharpness) 10)
     (leZ (negsuc 49) (v .tint) && leZ (v .tint) (pos 50)) (leb (v .black) 100) (leb 1 (v .gamma) && leb (v .gamma) 5)
 
-video-back : (v : PhoenixVideo) → mag (v .tint) < 128 → phoenixVideo (videoValues v) ≡ v
-unfolding phoenixVideo videoValues
+video-back : (v : Video) → mag (v .tint) < 128 → videoIn (bytesOf v) ≡ v
+unfolding videoIn bytesOf
 video-back v h = rw (tint-back (v .tint) (fits _ h))
 
-seven : (v : PhoenixVideo) → length (videoValues v) ≡ byteCount videoRow
-unfolding settings videoValues
+seven : (v : Video) → length (bytesOf v) ≡ byteCount videoRow
+unfolding settings bytesOf
 seven v = refl
 
 pub seen-as-set : SeenAsSet
 unfolding videoOf stored
-seen-as-set p v good phoenix h = rw (phoenix, set-row videoRow (videoValues v) (p .values) (seven v) (good .full), video-back v h)
+seen-as-set p v good phoenix h = rw (phoenix, set-row videoRow (bytesOf v) (p .values) (seven v) (good .full), video-back v h)
 
 pub reads-general : ReadGeneral
 reads-general = read-general

@@ -8,15 +8,15 @@ use lib.IntN.{ℤ, pos, negsuc}
 use lib.ListN.{length, getD}
 use lib.Signed.{mag, leZ}
 use Rattle.settings.specs.declared.Profile.the-variants.{Phoenix}
-use Rattle.settings.specs.declared.PhoenixVideo.{PhoenixVideo}
+use Rattle.phoenix.specs.declared.Video.{Video}
 use Rattle.settings.specs.Settings.{allowedFor, videoRow}
-use Rattle.settings.specs.Phoenix.{tintOf, tintByte, videoValues}
+use Rattle.phoenix.specs.Video.{tintOf, tintByte, bytesOf}
 use Rattle.packet.specs.declared.MonitorId.{MonitorId}
 use Rattle.packet.specs.declared.GroupId.{GroupId}
 use Rattle.packet.specs.declared.Verdict.the-variants.{Intact}
 use Rattle.packet.specs.Packet.{verdictOf, dataOf}
 use Rattle.panels.specs.declared.Panel.{Panel}
-use Rattle.panels.specs.declared.Video.the-variants.{Phoenix as PhoenixSeen}
+use Rattle.panels.specs.declared.Seen.the-variants.{Phoenix as PhoenixSeen}
 use Rattle.panels.specs.Wall.{Wall, blank, videoOf}
 use Rattle.panels.specs.Addressed.{reaches}
 use Rattle.panels.specs.WellFormed.{GoodPanel}
@@ -40,20 +40,20 @@ abbrev pub TintBack : Type 0
 TintBack = ((b : ℕ) → b < 256 → tintByte (tintOf b) ≡ b) × ((t : ℤ) → mag t < 128 → tintOf (tintByte t) ≡ t)
 
 -- 000, the video of the Phoenix 2.0 platform: what a caller may set. The tint runs from -50 to 50.
-unfoldable pub inPhoenixRange : PhoenixVideo → Bool
+unfoldable pub inPhoenixRange : Video → Bool
 inPhoenixRange v =
     leb (v .brightness) 100 && leb (v .colour) 100 && leb (v .contrast) 100 && leb (v .sharpness) 10
     && (leZ (negsuc 49) (v .tint) && leZ (v .tint) (pos 50))
     && leb (v .black) 100 && (leb 1 (v .gamma) && leb (v .gamma) 5)
 
 abbrev pub VideoAllowed : Type 0
-VideoAllowed = (v : PhoenixVideo) → mag (v .tint) < 128 → allowedFor Phoenix videoRow (videoValues v) ≡ inPhoenixRange v
+VideoAllowed = (v : Video) → mag (v .tint) < 128 → allowedFor Phoenix videoRow (bytesOf v) ≡ inPhoenixRange v
 
 -- What is set is what is seen.
 abbrev pub SeenAsSet : Type 0
 SeenAsSet =
-    (p : Panel) (v : PhoenixVideo) → GoodPanel p → p .profile ≡ Phoenix → mag (v .tint) < 128
-    → videoOf (stored videoRow (videoValues v) p) ≡ PhoenixSeen v
+    (p : Panel) (v : Video) → GoodPanel p → p .profile ≡ Phoenix → mag (v .tint) < 128
+    → videoOf (stored videoRow (bytesOf v) p) ≡ PhoenixSeen v
 
 -- What is read is general, so that form 1 holds it whole.
 abbrev pub ReadGeneral : Type 0

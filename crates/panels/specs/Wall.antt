@@ -7,7 +7,7 @@ use lib.ListN.{length, take, drop, replicate}
 use Rattle.settings.specs.declared.Profile.{Profile}
 use Rattle.settings.specs.declared.Profile.the-variants.{General, Phoenix}
 use Rattle.settings.specs.Settings.{byteCount, place, freshValues, valueCount, videoRow}
-use Rattle.settings.specs.Phoenix.{phoenixVideo}
+use Rattle.phoenix.specs.Video.{videoIn}
 use Rattle.packet.specs.declared.MonitorId.{MonitorId}
 use Rattle.packet.specs.declared.GroupId.{GroupId}
 use Rattle.packet.specs.Packet.{monitorId, groupId}
@@ -15,8 +15,8 @@ use Rattle.panels.specs.declared.Panel.{Panel}
 use Rattle.panels.specs.declared.Table.{Table}
 use Rattle.panels.specs.declared.Place.{Place}
 use Rattle.panels.specs.declared.Place.the-variants.{At, Nowhere}
-use Rattle.panels.specs.declared.Video.{Video}
-use Rattle.panels.specs.declared.Video.the-variants.{Phoenix as PhoenixVideo, General as GeneralVideo}
+use Rattle.panels.specs.declared.Seen.{Seen}
+use Rattle.panels.specs.declared.Seen.the-variants.{Phoenix as PhoenixSeen, General as GeneralSeen}
 
 abbrev pub Wall : Type 0
 Wall = List Panel
@@ -34,11 +34,11 @@ abbrev pub valuesOf : ℕ → List ℕ → List ℕ
 valuesOf row values = take (byteCount row) (drop (place row) values)
 
 -- a Phoenix panel's video, with its tint's sign; of another panel nothing is said
-abbrev pub videoBy : Profile → List ℕ → Video
-videoBy General values = GeneralVideo
-videoBy Phoenix values = PhoenixVideo (phoenixVideo (valuesOf videoRow values))
+abbrev pub videoBy : Profile → List ℕ → Seen
+videoBy General values = GeneralSeen
+videoBy Phoenix values = PhoenixSeen (videoIn (valuesOf videoRow values))
 
-unfoldable pub videoOf : Panel → Video
+unfoldable pub videoOf : Panel → Seen
 videoOf p = videoBy (p .profile) (p .values)
 
 -- what stands in a place that no panel has

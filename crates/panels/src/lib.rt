@@ -8,8 +8,8 @@ ghost use Rattle.panels.specs.Calls.{refusalOf, addedTo, without, remove
 ghost use Rattle.panels.specs.WellFormed.{WellFormed};
 use packet::GroupId;
 use packet::MonitorId;
+use phoenix::Video;
 use settings::Numbered;
-use settings::PhoenixVideo;
 use settings::Profile;
 use settings::VALUE_COUNT;
 
@@ -46,8 +46,8 @@ pub enum Refusal {
 }
 
 // A panel's video as a caller sees it: with the tint's sign, if it is a Phoenix panel's.
-pub enum Video {
-    Phoenix(PhoenixVideo),
+pub enum Seen {
+    Phoenix(Video),
     General,
 }
 
@@ -204,14 +204,14 @@ pub fn remove(t: Table, id: MonitorId) -> Changed
 }
 
 // A Phoenix panel's video.
-pub fn video_of(p: Panel) -> Video
+pub fn video_of(p: Panel) -> Seen
     ensures { λ r. ⌜ r ≡ videoOf p ⌝ }
 {
     let profile = p.profile;
     let Profile::Phoenix = profile else {
-        return Video::General;
+        return Seen::General;
     };
     let v = p.values;
-    let video = settings::phoenix_video([v[1], v[2], v[3], v[4], v[5], v[6], v[7]]);
-    Video::Phoenix(video)
+    let video = phoenix::video_in([v[1], v[2], v[3], v[4], v[5], v[6], v[7]]);
+    Seen::Phoenix(video)
 }

@@ -5,9 +5,9 @@ use mathlib.Core.List.{List, _∷_}
 use lib.ListN.{take}
 use lib.Dec.{leb, eqb}
 use Rattle.settings.specs.declared.Profile.the-variants.{Phoenix}
-use Rattle.settings.specs.declared.PhoenixVideo.{PhoenixVideo}
 use Rattle.settings.specs.Settings.{foundBy, setCode, byteCount, allowedFor, mostValues, videoRow}
-use Rattle.settings.specs.Phoenix.{videoValues}
+use Rattle.phoenix.specs.declared.Video.{Video}
+use Rattle.phoenix.specs.Video.{bytesOf}
 use Rattle.settings.specs.declared.Found.{Found}
 use Rattle.settings.specs.declared.Found.the-variants.{Set, Get, Nothing}
 use Rattle.packet.specs.declared.MonitorId.{MonitorId}
@@ -27,9 +27,9 @@ unfoldable pub requestPacket : Request → List ℕ
 requestPacket r = packetOf (r .id) (r .group) (requestData r)
 
 -- the set of a Phoenix panel's video
-unfoldable pub videoRequest : MonitorId → GroupId → PhoenixVideo → Request
+unfoldable pub videoRequest : MonitorId → GroupId → Video → Request
 videoRequest i g v =
-    record { profile = Phoenix; id = i; group = g; code = setCode videoRow; values = videoValues v; count = byteCount videoRow }
+    record { profile = Phoenix; id = i; group = g; code = setCode videoRow; values = bytesOf v; count = byteCount videoRow }
 
 -- a set to a group 0 to 254 with allowed values; a get, which has no values, where an answer is due
 unfoldable pub isTaken : Request → Found → Bool

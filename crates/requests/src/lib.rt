@@ -11,9 +11,9 @@ use packet::Control;
 use packet::GroupId;
 use packet::MonitorId;
 use packet::Written;
+use phoenix::Video;
 use settings::Found;
 use settings::MOST_VALUES;
-use settings::PhoenixVideo;
 use settings::Profile;
 use settings::VIDEO_ROW;
 
@@ -75,10 +75,10 @@ pub fn is_request(request: Request) -> bool
 }
 
 // The set of a Phoenix panel's video.
-pub fn phoenix_video_set(id: MonitorId, group: GroupId, video: PhoenixVideo) -> Request
+pub fn phoenix_video_set(id: MonitorId, group: GroupId, video: Video) -> Request
     ensures { λ r. ⌜ r ≡ videoRequest id group video ⌝ }
 {
-    let values = settings::video_values(video);
+    let values = phoenix::bytes_of(video);
     Request {
         profile: Profile::Phoenix,
         id,

@@ -1,3 +1,2 @@
--- `Laws` has what callers cite of the settings, `Tints` that a tint and its byte are each the other's way back.
+-- `Laws` has what callers cite of the settings.
 pub mod Laws
-pub mod Tints

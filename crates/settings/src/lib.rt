@@ -1,5 +1,4 @@
 // The eight settings as one fixed table of numbers, which box, host and image all read.
-mod phoenix;
 mod profiles;
 mod ranges;
 
@@ -8,10 +7,6 @@ ghost use Prim.Native.Nat.{_<_};
 ghost use lib.ListN.{length};
 ghost use Rattle.settings.specs.Settings.{foundBy, setCode, getCode, byteCount, place, freshValues, valuesWith, rowCount, valueCount};
 ghost use Rattle.settings.specs.Private.Numbers.{paperTable};
-pub use phoenix::phoenix_video;
-pub use phoenix::tint_byte;
-pub use phoenix::tint_of;
-pub use phoenix::video_values;
 pub use profiles::profile_number;
 pub use profiles::profile_with;
 pub use ranges::allowed;
@@ -44,17 +39,6 @@ pub const PROFILE_COUNT: usize = 2;
 pub enum Numbered {
     Known(Profile),
     Unknown,
-}
-
-// The seven video values of a Phoenix panel, whose tint has a sign.
-pub struct PhoenixVideo {
-    pub brightness: u8,
-    pub colour: u8,
-    pub contrast: u8,
-    pub sharpness: u8,
-    pub tint: i8,
-    pub black: u8,
-    pub gamma: u8,
 }
 
 // A setting's set code and its get code.

@@ -7,8 +7,7 @@ use lib.Dec.{T, ltb, ltb→lt}
 use lib.ListN.{getD, take, drop}
 use lib.Seq.{getD-take, getD-drop}
 use Rattle.settings.specs.Settings.{settings, allowedByRow, videoRow}
-use Rattle.settings.specs.Phoenix.{phoenixVideo}
-use Rattle.panels.specs.declared.Video.the-variants.{Phoenix as PhoenixVideo}
+use Rattle.phoenix.specs.Video.{videoIn}
 use Rattle.panels.specs.Wall.{valuesOf, videoBy, videoOf}
 use Rattle.panels.proofs.video_of.Statement.{statement}
 use Rattle.panels.proofs.video_of.Tie as tie
@@ -20,8 +19,8 @@ seven v = getD v 1 0 ∷ getD v 2 0 ∷ getD v 3 0 ∷ getD v 4 0 ∷ getD v 5 0
 at : (v : List ℕ) (k : ℕ) → T (ltb k 7) → getD (take 7 (drop 1 v)) k 0 ≡ getD v (1 + k) 0
 at v k t = getD-take 7 (drop 1 v) k 0 (ltb→lt k 7 t) ∙ getD-drop 1 v k 0
 
-same-video : (v : List ℕ) → phoenixVideo (seven v) ≡ phoenixVideo (valuesOf videoRow v)
-unfolding phoenixVideo seven settings allowedByRow flatten
+same-video : (v : List ℕ) → videoIn (seven v) ≡ videoIn (valuesOf videoRow v)
+unfolding videoIn seven settings allowedByRow flatten
 same-video v = rw (at v 0 tt, at v 1 tt, at v 2 tt, at v 3 tt, at v 4 tt, at v 5 tt, at v 6 tt)
 
 enum-told : tie.Need-enum-told
@@ -55,14 +54,14 @@ array-read-t22 c = search needs
 array-read-t25 : tie.Need-array-read-t25
 array-read-t25 c = search needs
 
-phoenix-video-requires : tie.Need-phoenix-video-requires
-phoenix-video-requires c κs = search needs
+video-in-requires : tie.Need-video-in-requires
+video-in-requires c κs = search needs
 
 returns-2 : tie.Need-returns-2
 unfolding videoOf seven
 returns-2 c =
     let start = c .before .before .before .before in
-    rw (c .phoenix-video .ensures, c .before .before .enum-told .given .1, same-video (start .args .p .values))
+    rw (c .video-in .ensures, c .before .before .enum-told .given .1, same-video (start .args .p .values))
 
 pub video-of-spec : {M : Type 1} → statement M
 video-of-spec =
@@ -78,5 +77,5 @@ video-of-spec =
     array-read-t19
     array-read-t22
     array-read-t25
-    phoenix-video-requires
+    video-in-requires
     returns-2)

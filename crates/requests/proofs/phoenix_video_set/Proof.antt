@@ -4,8 +4,8 @@ use Rattle.requests.specs.Request.{videoRequest}
 use Rattle.requests.proofs.phoenix_video_set.Statement.{statement}
 use Rattle.requests.proofs.phoenix_video_set.Tie as tie
 
-video-values-requires : tie.Need-video-values-requires
-video-values-requires c κs = search needs
+bytes-of-requires : tie.Need-bytes-of-requires
+bytes-of-requires c κs = search needs
 
 set-code-requires : tie.Need-set-code-requires
 set-code-requires c κs = search needs
@@ -15,7 +15,7 @@ byte-count-requires c κs = search needs
 
 returns : tie.Need-returns
 unfolding videoRequest
-returns c = rw (c .before .before .video-values .ensures, c .before .set-code .ensures, c .byte-count .ensures)
+returns c = rw (c .before .before .bytes-of .ensures, c .before .set-code .ensures, c .byte-count .ensures)
 
 pub phoenix-video-set-spec : {M : Type 1} → statement M
-phoenix-video-set-spec = tie.close (tie.spec video-values-requires set-code-requires byte-count-requires returns)
+phoenix-video-set-spec = tie.close (tie.spec bytes-of-requires set-code-requires byte-count-requires returns)

@@ -2,16 +2,16 @@
 use borrow.Author.Needs.{needs}
 use mir.Syntax.{w8}
 use mir.ValLaws.{toZ-ofZ}
-use Rattle.settings.specs.Phoenix.{videoValues}
-use Rattle.settings.proofs.phoenix.video_values.Statement.{statement}
-use Rattle.settings.proofs.phoenix.video_values.Tie as tie
+use Rattle.phoenix.specs.Video.{bytesOf}
+use Rattle.phoenix.proofs.bytes_of.Statement.{statement}
+use Rattle.phoenix.proofs.bytes_of.Tie as tie
 
 tint-byte-requires : tie.Need-tint-byte-requires
 tint-byte-requires c κs = search needs
 
 returns : tie.Need-returns
-unfolding videoValues
+unfolding bytesOf
 returns c = rw (c .tint-byte .ensures, toZ-ofZ w8 (c .before .before .args .video .tint) (record { sfits = c .before .struct-told .given .1 .1 .1 .1 .0 .1 }))
 
-pub video-values-spec : {M : Type 1} → statement M
-video-values-spec = tie.close (tie.spec tint-byte-requires returns)
+pub bytes-of-spec : {M : Type 1} → statement M
+bytes-of-spec = tie.close (tie.spec tint-byte-requires returns)

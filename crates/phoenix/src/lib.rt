@@ -1,8 +1,18 @@
 // A Phoenix panel's video: the seven bytes on the line, and what a caller sees and sets.
 ghost use mathlib.Core.Path.{_≡_};
-ghost use Rattle.settings.specs.Phoenix.{tintOf, tintByte, phoenixVideo, videoValues};
-use crate::MOST_VALUES;
-use crate::PhoenixVideo;
+ghost use Rattle.phoenix.specs.Video.{tintOf, tintByte, videoIn, bytesOf};
+use settings::MOST_VALUES;
+
+// The seven values, of which the tint has a sign.
+pub struct Video {
+    pub brightness: u8,
+    pub colour: u8,
+    pub contrast: u8,
+    pub sharpness: u8,
+    pub tint: i8,
+    pub black: u8,
+    pub gamma: u8,
+}
 
 // The tint that a byte holds as two's complement; !x is -1 - x.
 pub fn tint_of(byte: u8) -> i8
@@ -25,11 +35,11 @@ pub fn tint_byte(tint: i8) -> u8
 }
 
 // The video that a row of seven bytes holds.
-pub fn phoenix_video(bytes: [u8; MOST_VALUES]) -> PhoenixVideo
-    ensures { λ r. ⌜ r ≡ phoenixVideo bytes ⌝ }
+pub fn video_in(bytes: [u8; MOST_VALUES]) -> Video
+    ensures { λ r. ⌜ r ≡ videoIn bytes ⌝ }
 {
     let tint = tint_of(bytes[4]);
-    PhoenixVideo {
+    Video {
         brightness: bytes[0],
         colour: bytes[1],
         contrast: bytes[2],
@@ -41,8 +51,8 @@ pub fn phoenix_video(bytes: [u8; MOST_VALUES]) -> PhoenixVideo
 }
 
 // The seven bytes that hold a video.
-pub fn video_values(video: PhoenixVideo) -> [u8; MOST_VALUES]
-    ensures { λ r. ⌜ r ≡ videoValues video ⌝ }
+pub fn bytes_of(video: Video) -> [u8; MOST_VALUES]
+    ensures { λ r. ⌜ r ≡ bytesOf video ⌝ }
 {
     let tint = tint_byte(video.tint);
     [

@@ -6,7 +6,7 @@ use mathlib.Core.List.{List, [], _∷_}
 use lib.Dec.{ltb}
 use lib.IntN.{ℤ, pos, negsuc}
 use lib.ListN.{getD}
-use Rattle.settings.specs.declared.PhoenixVideo.{PhoenixVideo}
+use Rattle.phoenix.specs.declared.Video.{Video}
 
 -- a byte below 128 is itself, another is 256 less; negsuc n is -(n + 1)
 unfoldable pub tintOf : ℕ → ℤ
@@ -16,8 +16,8 @@ unfoldable pub tintByte : ℤ → ℕ
 tintByte (pos n) = n
 tintByte (negsuc n) = 255 - n
 
-unfoldable pub phoenixVideo : List ℕ → PhoenixVideo
-phoenixVideo bytes = record {
+unfoldable pub videoIn : List ℕ → Video
+videoIn bytes = record {
   brightness = getD bytes 0 0;
   colour = getD bytes 1 0;
   contrast = getD bytes 2 0;
@@ -27,5 +27,5 @@ phoenixVideo bytes = record {
   gamma = getD bytes 6 0;
 }
 
-unfoldable pub videoValues : PhoenixVideo → List ℕ
-videoValues v = v .brightness ∷ v .colour ∷ v .contrast ∷ v .sharpness ∷ tintByte (v .tint) ∷ v .black ∷ v .gamma ∷ []
+unfoldable pub bytesOf : Video → List ℕ
+bytesOf v = v .brightness ∷ v .colour ∷ v .contrast ∷ v .sharpness ∷ tintByte (v .tint) ∷ v .black ∷ v .gamma ∷ []

@@ -2,9 +2,9 @@
 use borrow.Author.Needs.{needs}
 use mir.Syntax.{w8}
 use mir.ValLaws.{toZ-ofZ}
-use Rattle.settings.specs.Phoenix.{phoenixVideo}
-use Rattle.settings.proofs.phoenix.phoenix_video.Statement.{statement}
-use Rattle.settings.proofs.phoenix.phoenix_video.Tie as tie
+use Rattle.phoenix.specs.Video.{videoIn}
+use Rattle.phoenix.proofs.video_in.Statement.{statement}
+use Rattle.phoenix.proofs.video_in.Tie as tie
 
 array-read-tint-of : tie.Need-array-read-tint-of
 array-read-tint-of c = search needs
@@ -31,11 +31,11 @@ array-read-t23 : tie.Need-array-read-t23
 array-read-t23 c = search needs
 
 returns : tie.Need-returns
-unfolding phoenixVideo
+unfolding videoIn
 returns c = rw (toZ-ofZ w8 (c .tint-of .result) (record { sfits = c .tint-of .ok }), c .tint-of .ensures)
 
-pub phoenix-video-spec : {M : Type 1} → statement M
-phoenix-video-spec =
+pub video-in-spec : {M : Type 1} → statement M
+video-in-spec =
     tie.close
     (tie.spec
     array-read-tint-of

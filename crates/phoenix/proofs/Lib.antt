@@ -1,0 +1,2 @@
+-- `Tints` has that a tint and its byte are each the other's way back.
+pub mod Tints
