@@ -1,8 +1,13 @@
-.PHONY: play check test
+.PHONY: play mixed-wall check test
 # the play program on the sample session
 play:
 	@tools/prove play
 	@tools/bytes <tests/session.hex | tools/run play
+
+# the example of a wall of both profiles
+mixed-wall:
+	@tools/prove mixed_wall
+	@tools/run mixed_wall
 
 # every day: the layout, all proofs and the programs; after a change only what it touches
 check:

@@ -11,10 +11,10 @@ ghost use Rattle.answers.specs.Private.Orders.{orderOf, takersOf, isTake
 use crate::Answer;
 use crate::MOST_REPORTED;
 use crate::Order;
+use crate::PROFILE_COUNT;
 use crate::Reply;
 use panels::Panel;
 use settings::Found;
-use settings::PROFILE_COUNT;
 use settings::Profile;
 
 // What these data bytes ask.

@@ -14,6 +14,9 @@ use settings::MOST_VALUES;
 // A report's data at its longest: the get code, and the values of the largest row.
 pub const MOST_REPORTED: usize = MOST_VALUES + 1;
 
+// How many profiles there are, so that each has a place by its number.
+const PROFILE_COUNT: usize = 2;
+
 // Silence, a control word, or a report, whose bytes stand beside it.
 pub enum Answer {
     Silence,

@@ -13,6 +13,7 @@ ghost use Rattle.answers.specs.Judged.{setOf, command};
 ghost use Rattle.answers.specs.Private.Orders.{orderOf, takersOf, asked};
 ghost use Rattle.answers.specs.Played.{turned, playedPacket, damagedReply, played, inTable};
 use crate::Order;
+use crate::PROFILE_COUNT;
 use crate::Played;
 use crate::Reply;
 use crate::answering;
@@ -24,7 +25,6 @@ use packet::Verdict;
 use panels::Panel;
 use panels::Place;
 use panels::Table;
-use settings::PROFILE_COUNT;
 
 // The panel at place k is asked, and answers.
 fn play_one(t: Table, k: usize, order: Order, d: &[u8]) -> Played

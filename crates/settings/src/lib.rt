@@ -32,9 +32,6 @@ pub enum Profile {
     Phoenix,
 }
 
-// How many profiles there are: their numbers are below this.
-pub const PROFILE_COUNT: usize = 2;
-
 // The profile that has a number, if one does.
 pub enum Numbered {
     Known(Profile),
