@@ -1,8 +1,8 @@
 -- Walls of both profiles, and the tint with its sign. Assumes nothing.
 use mathlib.Core.Path.{_≡_, refl, ap₂, _∙_}
 use mathlib.Core.Bool.{Bool, true, false, cond, _&&_, and-true, or-false}
-use mathlib.Core.List.{_++_, map}
-use Prim.Native.Nat.{ℕ, _-_, _<_}
+use mathlib.Core.List.{[], _∷_, _++_, map}
+use Prim.Native.Nat.{ℕ, _<_}
 use native.Mathlib.Omega.{arith}
 use borrow.Author.Tests.{le-leb}
 use lib.Dec.{leb}
@@ -15,7 +15,7 @@ use Rattle.lists.proofs.Each.{alike}
 use Rattle.lists.proofs.Places.{getD-inside}
 use Rattle.phoenix.specs.declared.Video.{Video}
 use Rattle.settings.specs.Settings.{settings, _to_, within, allAllowed, allowedFor, byteCount, videoRow}
-use Rattle.phoenix.specs.Video.{tintByte, videoIn, bytesOf}
+use Rattle.phoenix.specs.Video.{tintOf, videoIn, bytesOf}
 use Rattle.phoenix.proofs.Tints.{byte-back, tint-back}
 use Rattle.panels.specs.declared.Panel.{Panel}
 use Rattle.panels.specs.Wall.{blank, videoOf}
@@ -55,10 +55,9 @@ gammas : (v : ℕ) → within (1 to 5) v && true ≡ (leb 1 v && leb v 5)
 unfolding within
 gammas v = and-true _ ∙ or-false (leb 1 v && leb v 5)
 
-tints : (t : ℤ) → mag t < 128 → within (0 to 50 ++ 206 to 255) (tintByte t) ≡ (leZ (negsuc 49) t && leZ t (pos 50))
-unfolding within tintByte
-tints (pos n) h = alike (λ n. within (0 to 50 ++ 206 to 255) n) (λ n. leb n 50) 128 refl h
-tints (negsuc n) h = alike (λ n. within (0 to 50 ++ 206 to 255) (255 - n)) (λ n. leb n 49 && true) 128 refl h
+tints : {b : ℕ} → b < 256 → within (0 to 50 ++ 206 to 255) b ≡ (leZ (negsuc 49) (tintOf b) && leZ (tintOf b) (pos 50))
+unfolding within tintOf
+tints h = alike (λ b. within (0 to 50 ++ 206 to 255) b) (λ b. leZ (negsuc 49) (tintOf b) && leZ (tintOf b) (pos 50)) 256 refl h
 
 and : {a b c d : Bool} → a ≡ b → c ≡ d → (a && c) ≡ (b && d)
 and e d = ap₂ _&&_ e d
@@ -73,12 +72,18 @@ seven-tests true true true true true false g = refl
 seven-tests true true true true true true g = refl
 
 pub video-allowed : VideoAllowed
-unfolding settings allAllowed bytesOf inPhoenixRange
-video-allowed v h =
-    and (up-to 100 (v .brightness)) (and (up-to 100 (v .colour)) (and (up-to 100 (v .contrast))
-    (and (up-to 10 (v .sharpness)) (and (tints (v .tint) h) (and (up-to 100 (v .black)) (gammas (v .gamma)))))))
-    ∙ seven-tests (leb (v .brightness) 100) (leb (v .colour) 100) (leb (v .contrast) 100) (leb (v .sharpness) 10)
-    (leZ (negsuc 49) (v .tint) && leZ (v .tint) (pos 50)) (leb (v .black) 100) (leb 1 (v .gamma) && leb (v .gamma) 5)
+unfolding settings allAllowed videoIn inPhoenixRange
+video-allowed (b ∷ c ∷ k ∷ s ∷ t ∷ l ∷ g ∷ []) e h =
+    and (up-to 100 b) (and (up-to 100 c) (and (up-to 100 k) (and (up-to 10 s) (and (tints h) (and (up-to 100 l) (gammas g))))))
+    ∙ seven-tests (leb b 100) (leb c 100) (leb k 100) (leb s 10) (leZ (negsuc 49) (tintOf t) && leZ (tintOf t) (pos 50)) (leb l 100) (leb 1 g && leb g 5)
+video-allowed [] e h = absurd (omega arith)
+video-allowed (b ∷ []) e h = absurd (omega arith)
+video-allowed (b ∷ c ∷ []) e h = absurd (omega arith)
+video-allowed (b ∷ c ∷ k ∷ []) e h = absurd (omega arith)
+video-allowed (b ∷ c ∷ k ∷ s ∷ []) e h = absurd (omega arith)
+video-allowed (b ∷ c ∷ k ∷ s ∷ t ∷ []) e h = absurd (omega arith)
+video-allowed (b ∷ c ∷ k ∷ s ∷ t ∷ l ∷ []) e h = absurd (omega arith)
+video-allowed (b ∷ c ∷ k ∷ s ∷ t ∷ l ∷ g ∷ x ∷ rest) e h = absurd (omega arith)
 
 video-back : (v : Video) → mag (v .tint) < 128 → videoIn (bytesOf v) ≡ v
 unfolding videoIn bytesOf

@@ -10,7 +10,7 @@ use lib.Signed.{mag, leZ}
 use Rattle.settings.specs.declared.Profile.the-variants.{Phoenix}
 use Rattle.phoenix.specs.declared.Video.{Video}
 use Rattle.settings.specs.Settings.{allowedFor, videoRow}
-use Rattle.phoenix.specs.Video.{tintOf, tintByte, bytesOf}
+use Rattle.phoenix.specs.Video.{tintOf, tintByte, videoIn, bytesOf}
 use Rattle.packet.specs.declared.MonitorId.{MonitorId}
 use Rattle.packet.specs.declared.GroupId.{GroupId}
 use Rattle.packet.specs.declared.Verdict.the-variants.{Intact}
@@ -39,7 +39,7 @@ OwnProfile =
 abbrev pub TintBack : Type 0
 TintBack = ((b : ℕ) → b < 256 → tintByte (tintOf b) ≡ b) × ((t : ℤ) → mag t < 128 → tintOf (tintByte t) ≡ t)
 
--- 000, the video of the Phoenix 2.0 platform: what a caller may set. The tint runs from -50 to 50.
+-- 000, 5.1.3, the table for Phoenix 2.0: the bytes that are allowed are exactly those of these values.
 unfoldable pub inPhoenixRange : Video → Bool
 inPhoenixRange v =
     leb (v .brightness) 100 && leb (v .colour) 100 && leb (v .contrast) 100 && leb (v .sharpness) 10
@@ -47,7 +47,8 @@ inPhoenixRange v =
     && leb (v .black) 100 && (leb 1 (v .gamma) && leb (v .gamma) 5)
 
 abbrev pub VideoAllowed : Type 0
-VideoAllowed = (v : Video) → mag (v .tint) < 128 → allowedFor Phoenix videoRow (bytesOf v) ≡ inPhoenixRange v
+VideoAllowed =
+    (bytes : List ℕ) → length bytes ≡ 7 → getD bytes 4 0 < 256 → allowedFor Phoenix videoRow bytes ≡ inPhoenixRange (videoIn bytes)
 
 -- What is set is what is seen.
 abbrev pub SeenAsSet : Type 0

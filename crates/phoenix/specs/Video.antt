@@ -1,5 +1,5 @@
--- A Phoenix panel's video as a caller sees and sets it. 02, A1: a tint goes into its byte as two's complement, so that -50 is
--- 0xCE; 000, the video of the Phoenix 2.0 platform.
+-- A Phoenix panel's video as a caller sees and sets it, in the order of 000, 5.1.3. 02, A1: a tint goes into its byte as two's
+-- complement, so that -50 is 0xCE.
 use Prim.Native.Nat.{ℕ, _-_}
 use mathlib.Core.Bool.{cond}
 use mathlib.Core.List.{List, [], _∷_}

@@ -70,7 +70,7 @@ unfolding foundAfter
 found-right c = found-after c rowCount 0 refl
 
 -- A rule that holds at every place of either profile's table, by two tests.
-pub alike-by : {A : Type 0} (f g : Profile → ℕ → A) (n : ℕ) → each (f General) n ≡ each (g General) n → each (f Phoenix) n ≡ each (g Phoenix) n
+alike-by : {A : Type 0} (f g : Profile → ℕ → A) (n : ℕ) → each (f General) n ≡ each (g General) n → each (f Phoenix) n ≡ each (g Phoenix) n
     → (profile : Profile) {k : ℕ} → k < n → f profile k ≡ g profile k
 alike-by f g n e d General h = alike (f General) (g General) n e h
 alike-by f g n e d Phoenix h = alike (f Phoenix) (g Phoenix) n d h

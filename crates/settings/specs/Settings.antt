@@ -30,8 +30,8 @@ a to b = record { low = a; high = b } ∷ []
 abbrev pub row : ℕ → ℕ → List (List Range) → List ℕ → Setting
 row s g a f = record { set = s; get = g; allowed = λ profile. a; fresh = λ profile. f }
 
--- video: brightness, colour, contrast, sharpness, tint, black level, gamma. 000 has a second table for the Phoenix 2.0
--- platform: sharpness 0 to 10, tint -50 to 50, which is 206 to 255 below 0
+-- 000, 5.1.2 and 5.1.3, brightness, colour, contrast, sharpness, tint, black level, gamma; with a table of its own for Phoenix
+-- 2.0: sharpness 0 to 10, and a tint of -50 to 50, whose bytes are 206 to 255 below 0
 abbrev pub videoAllowed : Profile → List (List Range)
 videoAllowed General = replicate 6 (0 to 100) ++ 1 to 5 ∷ []
 videoAllowed Phoenix = replicate 3 (0 to 100) ++ 0 to 10 ∷ (0 to 50 ++ 206 to 255) ∷ 0 to 100 ∷ 1 to 5 ∷ []

@@ -16,7 +16,7 @@ use Rattle.panels.specs.declared.Panel.{Panel}
 use Rattle.panels.specs.declared.Table.{Table}
 use Rattle.panels.specs.declared.Changed.{Changed}
 use Rattle.panels.specs.declared.Refusal.{Refusal}
-use Rattle.panels.specs.Wall.{panelsOf, tableOf, freshPanel, mostPanels}
+use Rattle.panels.specs.Wall.{panelsOf, tableOf, mostPanels}
 use Rattle.panels.specs.Calls.{refusalOf, freshOf, addRefusal, added, addedTo}
 use Rattle.panels.proofs.Laws.{count-is, grown}
 use Rattle.panels.proofs.add.Statement.{statement}

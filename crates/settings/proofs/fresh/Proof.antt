@@ -1,7 +1,6 @@
 -- A Phoenix panel's video is stored over the general fresh values. Assumes nothing.
 use mathlib.Core.Path.{_≡_, refl, sym, ap, ap₂, _∙_}
-use mathlib.Core.List.{List, flatten}
-use Prim.Native.Nat.{ℕ}
+use mathlib.Core.List.{flatten}
 use native.Mathlib.Omega.{arith}
 use borrow.Author.Needs.{needs}
 use lib.ListN.{length}
