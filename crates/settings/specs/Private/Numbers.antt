@@ -57,6 +57,10 @@ moreFrom p (rs ∷ rest) = map (λ (r : Range). record { 0 = p; 1 = r .low; 2 = 
 abbrev pub isMore : ℕ → ℕ → More → Bool
 isMore p v m = eqb (m .0) p && inRange (record { low = m .1; high = m .2 }) v
 
+-- the one such range of a Phoenix panel's video: the tint's below 0
+abbrev pub tintBelow : More
+tintBelow = getD (moreFrom 0 (videoAllowed Phoenix)) 0 (record { 0 = 0; 1 = 0; 2 = 0 })
+
 unfoldable pub paperTable : Table
 paperTable = record {
   codes = each codesAt rowCount;
@@ -66,7 +70,7 @@ paperTable = record {
   fresh = freshValues General;
   phoenix = record {
     ranges = each (λ k. spanOf (videoRange k)) mostValues;
-    below = getD (moreFrom 0 (videoAllowed Phoenix)) 0 (record { 0 = 0; 1 = 0; 2 = 0 });
+    below = tintBelow;
     fresh = videoFresh Phoenix;
   };
 }

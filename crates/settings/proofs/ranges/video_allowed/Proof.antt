@@ -15,17 +15,13 @@ use Rattle.settings.specs.declared.Span.{Span}
 use Rattle.settings.specs.declared.More.{More}
 use Rattle.settings.specs.declared.Table.{Table}
 use Rattle.settings.specs.Settings.{Range, settings, within, allAllowed, videoAllowed, videoRow, mostValues}
-use Rattle.settings.specs.Private.Numbers.{inRange, videoRange, spanOf, rangeOf, isMore, paperTable}
+use Rattle.settings.specs.Private.Numbers.{inRange, videoRange, spanOf, rangeOf, isMore, tintBelow, paperTable}
 use Rattle.lists.proofs.Each.{alike, in-each}
 use Rattle.settings.proofs.Laws.{other-many}
 use Rattle.settings.proofs.ranges.video_allowed.Statement.{statement}
 use Rattle.settings.proofs.ranges.video_allowed.Tie as tie
 
--- the tint's range below 0
-abbrev tintBelow : More
-tintBelow = record { 0 = 4; 1 = 206; 2 = 255 }
-
--- it is the one range behind the first
+-- the tint's range below 0 is the one behind a first
 second : (r q : Range) (t : Bool) (v : ℕ) → within (r ∷ cond t (q ∷ []) []) v ≡ (inRange r v || (t && inRange q v))
 unfolding within
 second r q true v = ap (λ (b : Bool). inRange r v || b) (or-false (inRange q v))
