@@ -54,7 +54,7 @@ pub fn takes(p: Panel, takers: [bool; PROFILE_COUNT]) -> bool
     ensures { λ r. ⌜ r ≡ isTaker takers (p .profile) ⌝ }
 {
     let profile = p.profile;
-    let number = settings::profile_number(profile) as usize;
+    let number = profiles::number_of(profile) as usize;
     takers[number]
 }
 

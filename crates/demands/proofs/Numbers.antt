@@ -5,8 +5,8 @@ use mathlib.Core.Bool.{Bool, true, false, cond, _&&_, _||_}
 use lib.Dec.{leb, eqb}
 use lib.ListN.{length}
 use Rattle.settings.specs.declared.Profile.the-variants.{General, Phoenix}
-use Rattle.settings.specs.declared.Numbered.the-variants.{Known, Unknown}
-use Rattle.settings.specs.Profiles.{profileWith}
+use Rattle.profiles.specs.declared.Numbered.the-variants.{Known, Unknown}
+use Rattle.profiles.specs.Numbers.{profileWith}
 use Rattle.packet.specs.declared.Written.the-variants.{Bytes as PacketBytes, TooLong, NoRoom as NoPacket}
 use Rattle.packet.specs.Packet.{writtenOf as packetWritten}
 use Rattle.panels.specs.declared.Place.{Place}

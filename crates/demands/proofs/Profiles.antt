@@ -13,10 +13,10 @@ use mir.Syntax.{w8}
 use mir.Val.{SFits}
 use Rattle.lists.proofs.Each.{alike}
 use Rattle.lists.proofs.Places.{getD-inside}
-use Rattle.phoenix.specs.declared.Video.{Video}
+use Rattle.profiles.specs.declared.Video.{Video}
 use Rattle.settings.specs.Settings.{settings, _to_, within, allAllowed, allowedFor, byteCount, videoRow}
-use Rattle.phoenix.specs.Video.{tintOf, videoIn, bytesOf}
-use Rattle.phoenix.proofs.Tints.{byte-back, tint-back}
+use Rattle.profiles.specs.Video.{tintOf, videoIn, bytesOf}
+use Rattle.profiles.proofs.Tints.{byte-back, tint-back}
 use Rattle.panels.specs.declared.Panel.{Panel}
 use Rattle.panels.specs.Wall.{blank, videoOf}
 use Rattle.panels.specs.Addressed.{reaches}

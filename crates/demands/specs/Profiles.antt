@@ -8,9 +8,9 @@ use lib.IntN.{ℤ, pos, negsuc}
 use lib.ListN.{length, getD}
 use lib.Signed.{mag, leZ}
 use Rattle.settings.specs.declared.Profile.the-variants.{Phoenix}
-use Rattle.phoenix.specs.declared.Video.{Video}
+use Rattle.profiles.specs.declared.Video.{Video}
 use Rattle.settings.specs.Settings.{allowedFor, videoRow}
-use Rattle.phoenix.specs.Video.{tintOf, tintByte, videoIn, bytesOf}
+use Rattle.profiles.specs.Video.{tintOf, tintByte, videoIn, bytesOf}
 use Rattle.packet.specs.declared.MonitorId.{MonitorId}
 use Rattle.packet.specs.declared.GroupId.{GroupId}
 use Rattle.packet.specs.declared.Verdict.the-variants.{Intact}

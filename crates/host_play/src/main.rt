@@ -9,9 +9,9 @@ use host::Step;
 use packet::GroupId;
 use packet::LONGEST;
 use packet::MonitorId;
+use profiles::Numbered;
 use requests::Request;
 use settings::MOST_VALUES;
-use settings::Numbered;
 use settings::Profile;
 use text::LONGEST_STEP;
 use text::Read;
@@ -110,7 +110,7 @@ fn play_profiled(host: Host, step: &[u8]) -> Host {
     if step.len() == 0 {
         return unknown(host);
     }
-    let numbered = settings::profile_with(step[0]);
+    let numbered = profiles::with_number(step[0]);
     let Numbered::Known(profile) = numbered else {
         return unknown(host);
     };

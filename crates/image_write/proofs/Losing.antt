@@ -9,7 +9,7 @@ use lib.Dec.{leb, eqb}
 use lib.ListN.{length}
 use Rattle.settings.specs.declared.Profile.{Profile}
 use Rattle.settings.specs.declared.Profile.the-variants.{General, Phoenix}
-use Rattle.settings.specs.Profiles.{profileNumber}
+use Rattle.profiles.specs.Numbers.{profileNumber}
 use Rattle.panels.specs.declared.Panel.{Panel}
 use Rattle.panels.specs.Wall.{Wall}
 use Rattle.image_write.specs.declared.Written.{Written}

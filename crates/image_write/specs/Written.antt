@@ -4,7 +4,7 @@ use mathlib.Core.Bool.{Bool, true, cond, _&&_}
 use mathlib.Core.List.{List, [], _∷_, _++_, map, flatten}
 use lib.Dec.{leb, eqb}
 use lib.ListN.{length}
-use Rattle.settings.specs.Profiles.{profileNumber}
+use Rattle.profiles.specs.Numbers.{profileNumber}
 use Rattle.settings.specs.Settings.{setCode, byteCount, rowCount, valueCount}
 use Rattle.lists.specs.Lists.{startOf, each, laidOver}
 use Rattle.panels.specs.declared.Panel.{Panel}

@@ -43,7 +43,7 @@ fn loses_nothing(t: Table) -> bool
     while k < t.count {
         let p = t.panels[k];
         let profile = p.profile;
-        if settings::profile_number(profile) != 0 {
+        if profiles::number_of(profile) != 0 {
             return false;
         }
         k += 1;

@@ -11,7 +11,7 @@ use packet::Written;
 use panels::Place;
 use panels::Seen;
 use panels::Table;
-use phoenix::Video;
+use profiles::Video;
 
 // Plays a packet, and prints it and its answer.
 fn send(t: Table, burst: &[u8]) -> Table
@@ -54,7 +54,7 @@ fn set_tint(t: Table, tint: i8) -> Table
 }
 
 fn print_tint(tint: i8) {
-    let byte = phoenix::tint_byte(tint) as u64;
+    let byte = profiles::tint_byte(tint) as u64;
     io::write_all(1, b"panel 2: tint ");
     if tint < 0 {
         io::write_all(1, b"-");

@@ -9,9 +9,9 @@ use borrow.Author.Tests.{eqb-false, leb-false}
 use lib.Dec.{eqb, leb}
 use lib.ListN.{length, getD, length-append, length-take, length-drop}
 use Rattle.settings.specs.declared.Profile.{Profile}
-use Rattle.settings.specs.declared.Numbered.{Numbered}
-use Rattle.settings.specs.declared.Numbered.the-variants.{Known, Unknown}
-use Rattle.settings.specs.Profiles.{profileWith}
+use Rattle.profiles.specs.declared.Numbered.{Numbered}
+use Rattle.profiles.specs.declared.Numbered.the-variants.{Known, Unknown}
+use Rattle.profiles.specs.Numbers.{profileWith}
 use Rattle.settings.proofs.Laws.{fresh-allowed, fresh-count}
 use Rattle.packet.specs.declared.MonitorId.{MonitorId}
 use Rattle.packet.specs.declared.GroupId.{GroupId}

@@ -4,9 +4,9 @@ use mathlib.Core.Bool.{cond}
 use mathlib.Core.List.{[], _∷_, _++_}
 use lib.Dec.{eqb, leb}
 use lib.ListN.{length, take, drop}
-use Rattle.settings.specs.declared.Numbered.{Numbered}
-use Rattle.settings.specs.declared.Numbered.the-variants.{Known, Unknown}
-use Rattle.settings.specs.Profiles.{profileWith}
+use Rattle.profiles.specs.declared.Numbered.{Numbered}
+use Rattle.profiles.specs.declared.Numbered.the-variants.{Known, Unknown}
+use Rattle.profiles.specs.Numbers.{profileWith}
 use Rattle.packet.specs.declared.MonitorId.{MonitorId}
 use Rattle.packet.specs.declared.GroupId.{GroupId}
 use Rattle.panels.specs.declared.Place.{Place}

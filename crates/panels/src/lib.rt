@@ -8,8 +8,8 @@ ghost use Rattle.panels.specs.Calls.{refusalOf, addedTo, without, remove
 ghost use Rattle.panels.specs.WellFormed.{WellFormed};
 use packet::GroupId;
 use packet::MonitorId;
-use phoenix::Video;
-use settings::Numbered;
+use profiles::Numbered;
+use profiles::Video;
 use settings::Profile;
 use settings::VALUE_COUNT;
 
@@ -140,7 +140,7 @@ pub fn add(t: Table, id: MonitorId, group: GroupId, number: u8) -> Changed
     if group.0 == 0 {
         return refused(t, Refusal::GroupZero);
     }
-    let numbered = settings::profile_with(number);
+    let numbered = profiles::with_number(number);
     let Numbered::Known(profile) = numbered else {
         return refused(t, Refusal::UnknownProfile);
     };
@@ -212,6 +212,6 @@ pub fn video_of(p: Panel) -> Seen
         return Seen::General;
     };
     let v = p.values;
-    let video = phoenix::video_in([v[1], v[2], v[3], v[4], v[5], v[6], v[7]]);
+    let video = profiles::video_in([v[1], v[2], v[3], v[4], v[5], v[6], v[7]]);
     Seen::Phoenix(video)
 }

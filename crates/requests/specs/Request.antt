@@ -6,8 +6,8 @@ use lib.ListN.{take}
 use lib.Dec.{leb, eqb}
 use Rattle.settings.specs.declared.Profile.the-variants.{Phoenix}
 use Rattle.settings.specs.Settings.{foundBy, setCode, byteCount, allowedFor, mostValues, videoRow}
-use Rattle.phoenix.specs.declared.Video.{Video}
-use Rattle.phoenix.specs.Video.{bytesOf}
+use Rattle.profiles.specs.declared.Video.{Video}
+use Rattle.profiles.specs.Video.{bytesOf}
 use Rattle.settings.specs.declared.Found.{Found}
 use Rattle.settings.specs.declared.Found.the-variants.{Set, Get, Nothing}
 use Rattle.packet.specs.declared.MonitorId.{MonitorId}

@@ -11,7 +11,7 @@ use packet::Control;
 use packet::GroupId;
 use packet::MonitorId;
 use packet::Written;
-use phoenix::Video;
+use profiles::Video;
 use settings::Found;
 use settings::MOST_VALUES;
 use settings::Profile;
@@ -78,7 +78,7 @@ pub fn is_request(request: Request) -> bool
 pub fn phoenix_video_set(id: MonitorId, group: GroupId, video: Video) -> Request
     ensures { λ r. ⌜ r ≡ videoRequest id group video ⌝ }
 {
-    let values = phoenix::bytes_of(video);
+    let values = profiles::bytes_of(video);
     Request {
         profile: Profile::Phoenix,
         id,

@@ -1,5 +1,3 @@
--- What is right of the settings. `Profiles` is the profiles and their numbers, `Settings` the paper's table and what it says of
--- a row.
-pub mod Profiles
+-- What is right of the settings. `Settings` is the paper's table and what it says of a row.
 pub mod Settings
 pub mod Private

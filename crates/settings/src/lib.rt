@@ -1,5 +1,4 @@
 // The eight settings as one fixed table of numbers, which box, host and image all read.
-mod profiles;
 mod ranges;
 
 ghost use mathlib.Core.Path.{_≡_};
@@ -7,8 +6,6 @@ ghost use Prim.Native.Nat.{_<_};
 ghost use lib.ListN.{length};
 ghost use Rattle.settings.specs.Settings.{foundBy, setCode, getCode, byteCount, place, freshValues, valuesWith, rowCount, valueCount};
 ghost use Rattle.settings.specs.Private.Numbers.{paperTable};
-pub use profiles::profile_number;
-pub use profiles::profile_with;
 pub use ranges::allowed;
 
 // How many settings there are.
@@ -30,12 +27,6 @@ const MORE_COUNT: usize = 3;
 pub enum Profile {
     General,
     Phoenix,
-}
-
-// The profile that has a number, if one does.
-pub enum Numbered {
-    Known(Profile),
-    Unknown,
 }
 
 // A setting's set code and its get code.

@@ -5,7 +5,7 @@ use mathlib.Core.List.{List, [], _∷_}
 use lib.ListN.{getD, set}
 use Rattle.settings.specs.declared.Profile.{Profile}
 use Rattle.settings.specs.declared.Profile.the-variants.{General, Phoenix}
-use Rattle.settings.specs.Profiles.{profileNumber}
+use Rattle.profiles.specs.Numbers.{profileNumber}
 use Rattle.settings.specs.Settings.{allowedFor}
 use Rattle.panels.specs.Wall.{Wall, blank, tableOf}
 use Rattle.answers.specs.declared.Order.{Order}

@@ -9,7 +9,7 @@ use borrow.Author.Tests.{eq-eqb, ne-eqb}
 use lib.Dec.{eqb}
 use lib.ListN.{length, getD, drop}
 use lib.Seq.{drop-cons, drop-length}
-use Rattle.settings.specs.Profiles.{profileNumber}
+use Rattle.profiles.specs.Numbers.{profileNumber}
 use Rattle.panels.specs.declared.Panel.{Panel}
 use Rattle.panels.specs.Wall.{Wall, blank, panelsOf}
 use Rattle.panels.proofs.Laws.{count-is, count-few, in-wall}
@@ -37,15 +37,15 @@ mul-p c = omega (arith, count-few (c .before .before .pre))
 element-copy-out-p : tie.Need-element-copy-out-p Inv-loop μ-loop
 element-copy-out-p c = omega (arith, count-few (c .before .before .pre))
 
-profile-number-requires : tie.Need-profile-number-requires Inv-loop μ-loop
-profile-number-requires c κs = search needs
+number-of-requires : tie.Need-number-of-requires Inv-loop μ-loop
+number-of-requires c κs = search needs
 
 -- what is read is the number of the wall's panel
-number : (c : tie.After-profile-number Inv-loop μ-loop)
-    → let loop = c .before .before .before in profileNumber (getD (panelsOf (loop .before .args .t1)) (loop .loop .k) blank .profile) ≡ c .profile-number .result
+number : (c : tie.After-number-of Inv-loop μ-loop)
+    → let loop = c .before .before .before in profileNumber (getD (panelsOf (loop .before .args .t1)) (loop .loop .k) blank .profile) ≡ c .number-of .result
 number c =
     let loop = c .before .before .before in
-    ap (λ (p : Panel). profileNumber (p .profile)) (sym (in-wall (loop .before .pre) (loop .loop .k) _ (omega arith))) ∙ sym (c .profile-number .ensures)
+    ap (λ (p : Panel). profileNumber (p .profile)) (sym (in-wall (loop .before .pre) (loop .loop .k) _ (omega arith))) ∙ sym (c .number-of .ensures)
 
 returns : tie.Need-returns Inv-loop μ-loop
 returns c =
@@ -82,7 +82,7 @@ loses-nothing-spec =
     loop-holds
     mul-p
     element-copy-out-p
-    profile-number-requires
+    number-of-requires
     returns
     add-k
     loop-less

@@ -8,8 +8,8 @@ use borrow.Author.Needs.{needs}
 use borrow.Author.Tests.{le-leb, lt-leb, eq-eqb, ne-eqb}
 use lib.Dec.{leb, eqb}
 use lib.ListN.{length}
-use Rattle.settings.specs.declared.Numbered.{Numbered}
-use Rattle.settings.specs.Profiles.{profileWith}
+use Rattle.profiles.specs.declared.Numbered.{Numbered}
+use Rattle.profiles.specs.Numbers.{profileWith}
 use Rattle.packet.specs.declared.MonitorId.{MonitorId}
 use Rattle.packet.specs.declared.GroupId.{GroupId}
 use Rattle.panels.specs.declared.Panel.{Panel}
@@ -86,8 +86,8 @@ returns-4 c =
     (simp (room else1, ne-eqb _ _ (found .before .if2 .left), nowhere, eq-eqb _ _ (c .before .if3 .taken)))
     (else1 .before .pre .held)
 
-profile-with-requires : tie.Need-profile-with-requires
-profile-with-requires c κs = search needs
+with-number-requires : tie.Need-with-number-requires
+with-number-requires c κs = search needs
 
 enum-known-numbered : tie.Need-enum-known-numbered
 enum-known-numbered c = search needs
@@ -105,7 +105,7 @@ returns-5 c =
     let found = told .before .before in
     let else1 = found .before .before .before in
     let nowhere = sym (found .find-panel .ensures) ∙ told .enum-told2 .given .1 in
-    let unknown = sym (c .before .before .before .profile-with .ensures) ∙ c .before .enum-told3 .given .1 in
+    let unknown = sym (c .before .before .before .with-number .ensures) ∙ c .before .enum-told3 .given .1 in
     c .refused5 .ensures
     ∙ answered (else1 .before .args .t) _ _ _ _
     (simp (room else1, ne-eqb _ _ (found .before .if2 .left), nowhere, ne-eqb _ _ (c .before .before .before .before .if3 .left), unknown))
@@ -130,7 +130,7 @@ returns-6 c =
     let found = told .before .before in
     let else1 = found .before .before .before in
     let nowhere = sym (found .find-panel .ensures) ∙ told .enum-told2 .given .1 in
-    let known = sym (c .before .before .before .before .profile-with .ensures) ∙ c .before .before .numbered .given .1 in
+    let known = sym (c .before .before .before .before .with-number .ensures) ∙ c .before .before .numbered .given .1 in
     let a = else1 .before .args in
     let w = panelsOf (a .t) in
     answered (else1 .before .args .t) _ _ _ _
@@ -152,7 +152,7 @@ add-spec =
     enum-told-2
     refused-requires-4
     returns-4
-    profile-with-requires
+    with-number-requires
     enum-known-numbered
     enum-told-3
     refused-requires-5

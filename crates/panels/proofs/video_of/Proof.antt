@@ -7,7 +7,7 @@ use lib.Dec.{T, ltb, ltb→lt}
 use lib.ListN.{getD, take, drop}
 use lib.Seq.{getD-take, getD-drop}
 use Rattle.settings.specs.Settings.{settings, allowedByRow, videoRow}
-use Rattle.phoenix.specs.Video.{videoIn}
+use Rattle.profiles.specs.Video.{videoIn}
 use Rattle.panels.specs.Wall.{valuesOf, videoOf}
 use Rattle.panels.proofs.video_of.Statement.{statement}
 use Rattle.panels.proofs.video_of.Tie as tie

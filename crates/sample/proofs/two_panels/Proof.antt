@@ -2,7 +2,7 @@
 use mathlib.Core.Path.{_≡_, refl, sym, ap, subst, _∙_}
 use mathlib.Core.List.{[], _∷_}
 use Rattle.settings.specs.declared.Profile.the-variants.{General}
-use Rattle.settings.specs.Profiles.{profileWith}
+use Rattle.profiles.specs.Numbers.{profileWith}
 use Rattle.packet.specs.Packet.{monitorId, groupId}
 use Rattle.panels.specs.declared.Changed.{Changed}
 use Rattle.panels.specs.Wall.{Wall, freshPanel, tableOf, panelsOf, placeFrom}

@@ -10,7 +10,7 @@ use lib.Signed.{ltZ, nonNeg}
 use mir.Syntax.{w8}
 use mir.Val.{Fits, SFits, toZ, ofZ}
 use mir.ValLaws.{toZ-ofZ, toZ-pos}
-use Rattle.phoenix.specs.Video.{tintOf, tintByte}
+use Rattle.profiles.specs.Video.{tintOf, tintByte}
 use Rattle.lists.proofs.Each.{alike}
 
 -- the bits read as signed

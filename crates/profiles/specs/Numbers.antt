@@ -2,10 +2,10 @@
 use Prim.Native.Nat.{ℕ}
 use mathlib.Core.Bool.{cond}
 use lib.Dec.{eqb}
 use Rattle.settings.specs.declared.Profile.{Profile}
 use Rattle.settings.specs.declared.Profile.the-variants.{General, Phoenix}
-use Rattle.settings.specs.declared.Numbered.{Numbered}
-use Rattle.settings.specs.declared.Numbered.the-variants.{Known, Unknown}
+use Rattle.profiles.specs.declared.Numbered.{Numbered}
+use Rattle.profiles.specs.declared.Numbered.the-variants.{Known, Unknown}
 
 abbrev pub profileNumber : Profile → ℕ
 profileNumber General = 0

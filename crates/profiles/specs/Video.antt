@@ -6,7 +6,7 @@ use mathlib.Core.List.{List, [], _∷_}
 use lib.Dec.{ltb}
 use lib.IntN.{ℤ, pos, negsuc}
 use lib.ListN.{getD}
-use Rattle.phoenix.specs.declared.Video.{Video}
+use Rattle.profiles.specs.declared.Video.{Video}
 
 -- a byte below 128 is itself, another is 256 less; negsuc n is -(n + 1)
 unfoldable pub tintOf : ℕ → ℤ

@@ -1,9 +1,17 @@
-// A Phoenix panel's video: the seven bytes on the line, and what a caller sees and sets.
+// The profiles by number, and a Phoenix panel's video: the seven bytes on the line, and what a caller sees and sets.
 ghost use mathlib.Core.Path.{_≡_};
-ghost use Rattle.phoenix.specs.Video.{tintOf, tintByte, videoIn, bytesOf};
+ghost use Rattle.profiles.specs.Numbers.{profileNumber, profileWith};
+ghost use Rattle.profiles.specs.Video.{tintOf, tintByte, videoIn, bytesOf};
 use settings::MOST_VALUES;
+use settings::Profile;
 
-// The seven values, of which the tint has a sign.
+// The profile that has a number, if one does.
+pub enum Numbered {
+    Known(Profile),
+    Unknown,
+}
+
+// A Phoenix panel's seven video values, of which the tint has a sign.
 pub struct Video {
     pub brightness: u8,
     pub colour: u8,
@@ -12,6 +20,29 @@ pub struct Video {
     pub tint: i8,
     pub black: u8,
     pub gamma: u8,
+}
+
+// A profile's number.
+pub fn number_of(profile: Profile) -> u8
+    ensures { λ r. ⌜ r ≡ profileNumber profile ⌝ }
+{
+    match profile {
+        Profile::General => 0,
+        Profile::Phoenix => 1,
+    }
+}
+
+// The profile that has this number, if one does.
+pub fn with_number(number: u8) -> Numbered
+    ensures { λ r. ⌜ r ≡ profileWith number ⌝ }
+{
+    if number == 0 {
+        return Numbered::Known(Profile::General);
+    }
+    if number == 1 {
+        return Numbered::Known(Profile::Phoenix);
+    }
+    Numbered::Unknown
 }
 
 // The tint that a byte holds as two's complement; !x is -1 - x.

@@ -1,8 +1,8 @@
 -- The numbers are tried one after the other. Assumes nothing.
 use borrow.Author.Tests.{eq-eqb, ne-eqb}
-use Rattle.settings.specs.Profiles.{profileWith}
-use Rattle.settings.proofs.profiles.profile_with.Statement.{statement}
-use Rattle.settings.proofs.profiles.profile_with.Tie as tie
+use Rattle.profiles.specs.Numbers.{profileWith}
+use Rattle.profiles.proofs.with_number.Statement.{statement}
+use Rattle.profiles.proofs.with_number.Tie as tie
 
 returns : tie.Need-returns
 unfolding profileWith
@@ -16,5 +16,5 @@ returns-3 : tie.Need-returns-3
 unfolding profileWith
 returns-3 c = simp (ne-eqb _ _ (c .before .if1 .left), ne-eqb _ _ (c .if2 .left))
 
-pub profile-with-spec : {M : Type 1} → statement M
-profile-with-spec = tie.close (tie.spec returns returns-2 returns-3)
+pub with-number-spec : {M : Type 1} → statement M
+with-number-spec = tie.close (tie.spec returns returns-2 returns-3)

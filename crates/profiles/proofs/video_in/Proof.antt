@@ -2,9 +2,9 @@
 use borrow.Author.Needs.{needs}
 use mir.Syntax.{w8}
 use mir.ValLaws.{toZ-ofZ}
-use Rattle.phoenix.specs.Video.{videoIn}
-use Rattle.phoenix.proofs.video_in.Statement.{statement}
-use Rattle.phoenix.proofs.video_in.Tie as tie
+use Rattle.profiles.specs.Video.{videoIn}
+use Rattle.profiles.proofs.video_in.Statement.{statement}
+use Rattle.profiles.proofs.video_in.Tie as tie
 
 array-read-tint-of : tie.Need-array-read-tint-of
 array-read-tint-of c = search needs

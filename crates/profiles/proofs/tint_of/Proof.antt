@@ -5,9 +5,9 @@ use native.Mathlib.Omega.{arith}
 use borrow.Author.Needs.{needs}
 use mir.Syntax.{w8}
 use mir.Val.{toZ}
-use Rattle.phoenix.proofs.Tints.{tint-bits}
-use Rattle.phoenix.proofs.tint_of.Statement.{statement}
-use Rattle.phoenix.proofs.tint_of.Tie as tie
+use Rattle.profiles.proofs.Tints.{tint-bits}
+use Rattle.profiles.proofs.tint_of.Statement.{statement}
+use Rattle.profiles.proofs.tint_of.Tie as tie
 
 cast-result : tie.Need-cast-result
 cast-result c = search needs

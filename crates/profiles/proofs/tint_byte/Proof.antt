@@ -1,7 +1,7 @@
 -- Both ways give the tint's own bits. Assumes nothing.
-use Rattle.phoenix.proofs.Tints.{below, not-below}
-use Rattle.phoenix.proofs.tint_byte.Statement.{statement}
-use Rattle.phoenix.proofs.tint_byte.Tie as tie
+use Rattle.profiles.proofs.Tints.{below, not-below}
+use Rattle.profiles.proofs.tint_byte.Statement.{statement}
+use Rattle.profiles.proofs.tint_byte.Tie as tie
 
 cast-result : tie.Need-cast-result
 cast-result c = below _ (c .before .fits .tint) (c .if1 .taken) .cast

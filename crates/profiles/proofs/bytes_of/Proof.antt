@@ -2,9 +2,9 @@
 use borrow.Author.Needs.{needs}
 use mir.Syntax.{w8}
 use mir.ValLaws.{toZ-ofZ}
-use Rattle.phoenix.specs.Video.{bytesOf}
-use Rattle.phoenix.proofs.bytes_of.Statement.{statement}
-use Rattle.phoenix.proofs.bytes_of.Tie as tie
+use Rattle.profiles.specs.Video.{bytesOf}
+use Rattle.profiles.proofs.bytes_of.Statement.{statement}
+use Rattle.profiles.proofs.bytes_of.Tie as tie
 
 tint-byte-requires : tie.Need-tint-byte-requires
 tint-byte-requires c κs = search needs
