@@ -60,7 +60,7 @@ recordsOf w = map recordOf w
 abbrev pub sizeOf : Wall → ℕ
 sizeOf w = panelSize * length w + 2
 
--- form 1 has no room for a profile: it holds general panels, whose number is 0, and would lose that another is not
+-- form 1 has no room for a profile: it holds general panels, whose number is 0, and would lose any other profile
 unfoldable pub losesNothing : Wall → Bool
 losesNothing [] = true
 losesNothing (p ∷ w) = eqb (profileNumber (p .profile)) 0 && losesNothing w
