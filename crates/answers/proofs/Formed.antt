@@ -76,7 +76,7 @@ module _ {A : Type 0} (f : Panel → A) (same : (row : ℕ) (vs : List ℕ) (p :
   by-verdict-keeps Damaged w b = refl
   by-verdict-keeps (Intact i g n) w b = all-keep i g (command (dataOf b (Intact i g n))) w
 
-  pub played-keeps : (w : Wall) (b : List ℕ) → map f (played w b .wall) ≡ map f w
+  played-keeps : (w : Wall) (b : List ℕ) → map f (played w b .wall) ≡ map f w
   unfolding played
   played-keeps w b = by-verdict-keeps (verdictOf b) w b
 

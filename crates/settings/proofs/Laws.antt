@@ -1,6 +1,6 @@
 -- What callers cite of the settings. Assumes nothing.
 use mathlib.Core.Path.{_≡_, refl, sym, ap, _∙_}
-use mathlib.Core.Bool.{Bool, true, false, cond, false≢true, and-false, _||_}
+use mathlib.Core.Bool.{Bool, true, false, cond, false≢true, and-false, _&&_, _||_}
 use mathlib.Core.List.{List, [], _∷_, flatten}
 use Prim.Native.Nat.{ℕ, zero, suc, _+_, _-_, _≤_, _<_}
 use native.Mathlib.Numerals.{add-one}
@@ -8,7 +8,7 @@ use native.Mathlib.Omega.{arith}
 use borrow.Author.Tests.{eqb-true, leb-true, ltb-true, ne-eqb}
 use lib.Dec.{eqb, leb, ltb}
 use lib.ListN.{length, getD, take, drop, List·getD-map}
-use lib.Seq.{drop-cons}
+use lib.Seq.{drop-cons, drop-length}
 use Rattle.settings.specs.declared.Profile.{Profile}
 use Rattle.settings.specs.declared.Profile.the-variants.{General, Phoenix}
 use Rattle.settings.specs.declared.Found.{Found}
@@ -138,7 +138,7 @@ pub first-and-more : {p : ℕ} → p < valueCount → rangesOf p ≡ firstRange 
 unfolding settings allowedByRow allowedValues flatten
 first-and-more h = alike rangesOf (λ p. firstRange p ∷ drop 1 (rangesOf p)) valueCount refl h
 
--- Behind the video, a Phoenix panel's rows are a general panel's.
+-- But for the video, a Phoenix panel's rows are a general panel's.
 pub all-else : {row : ℕ} → row < rowCount → (row ≡ videoRow → ⊥) → setting row .allowed Phoenix ≡ setting row .allowed General
 unfolding settings
 all-else {row} h ne =
@@ -159,6 +159,22 @@ allowed-count [] [] e = refl
 allowed-count [] (v ∷ vs) e = absurd (false≢true e)
 allowed-count (r ∷ rs) [] e = absurd (false≢true e)
 allowed-count (r ∷ rs) (v ∷ vs) e = ap suc (allowed-count rs vs (both (within r v) _ e .1))
+
+-- Values tried one after the other: what is allowed from value k on.
+unfoldable pub allowedAfter : List (List Range) → List ℕ → ℕ → Bool
+allowedAfter rs vs k = allAllowed (drop k rs) (drop k vs)
+
+pub allowed-step : (rs : List (List Range)) (vs : List ℕ) (k : ℕ) → k < length rs → k < length vs
+    → allowedAfter rs vs k ≡ within (getD rs k []) (getD vs k 0) && allowedAfter rs vs (k + 1)
+unfolding allowedAfter allAllowed
+allowed-step rs vs k h hv = rw (drop-cons rs k [] h, drop-cons vs k 0 hv, add-one)
+
+pub allowed-end : (rs : List (List Range)) (vs : List ℕ) (k : ℕ) → k ≡ length rs → k ≡ length vs → allowedAfter rs vs k ≡ true
+unfolding allowedAfter allAllowed
+allowed-end rs vs k e d =
+    let no-ranges = rw (← e) at (drop-length rs) in
+    let no-values = rw (← d) at (drop-length vs) in
+    rw (no-ranges, no-values)
 
 pub allowed-many : (profile : Profile) (row : ℕ) (vs : List ℕ) → allowedFor profile row vs ≡ true → length vs ≡ byteCount row
 allowed-many profile row vs e = allowed-count (setting row .allowed profile) vs e ∙ as-many profile row

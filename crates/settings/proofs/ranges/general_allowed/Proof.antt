@@ -2,31 +2,28 @@
 -- Assumes nothing.
 use mathlib.Core.Path.{_≡_, refl, sym, ap, _∙_}
 use mathlib.Core.Bool.{Bool, true, false, _&&_}
-use mathlib.Core.List.{List, []}
+use mathlib.Core.List.{List}
 use Prim.Native.Nat.{ℕ, _+_, _-_, _≤_, _<_}
-use native.Mathlib.Numerals.{add-one}
 use native.Mathlib.Omega.{arith}
 use borrow.Author.Needs.{needs}
 use borrow.Author.Tests.{not-true, not-false}
-use lib.ListN.{length, getD, drop}
-use lib.Seq.{drop-cons, drop-length}
+use lib.ListN.{length, getD}
 use Rattle.settings.specs.declared.Profile.the-variants.{General}
-use Rattle.settings.specs.Settings.{setting, byteCount, place, within, allAllowed, valueCount}
+use Rattle.settings.specs.Settings.{setting, byteCount, place, within, valueCount}
 use Rattle.settings.specs.Private.Numbers.{rangesOf, firstRange, rangeOf, spanOf, paperTable}
 use Rattle.settings.specs.declared.Span.{Span}
 use Rattle.settings.specs.declared.Table.{Table}
 use Rattle.lists.proofs.Each.{in-each}
-use Rattle.settings.proofs.Laws.{place-fits, at-place, other-many}
+use Rattle.settings.proofs.Laws.{place-fits, at-place, other-many, allowedAfter, allowed-step, allowed-end}
 use Rattle.settings.proofs.ranges.general_allowed.Statement.{statement}
 use Rattle.settings.proofs.ranges.general_allowed.Tie as tie
 
-rest : ℕ → List ℕ → ℕ → Bool
-rest row vs k = allAllowed (drop k (setting row .allowed General)) (drop k vs)
+abbrev rest : ℕ → List ℕ → ℕ → Bool
+rest row vs k = allowedAfter (setting row .allowed General) vs k
 
 step : (row k : ℕ) (vs : List ℕ) → k < byteCount row → k < length vs
     → rest row vs k ≡ within (rangesOf (place row + k)) (getD vs k 0) && rest row vs (k + 1)
-unfolding rest allAllowed
-step row k vs h hv = rw (drop-cons (setting row .allowed General) k [], drop-cons vs k 0, add-one, at-place row k h)
+step row k vs h hv = rw (← at-place row k h) (allowed-step (setting row .allowed General) vs k h hv)
 
 first-in : {t : Table} {p : ℕ} (d : Span) → t ≡ paperTable → p < valueCount → rangeOf (getD (t .ranges) p d) ≡ firstRange p
 unfolding paperTable
@@ -73,7 +70,7 @@ allowed-at-requires c κs =
     (h, first-in _ (table .the-table .ensures) h)
 
 returns-2 : tie.Need-returns-2 Inv-loop μ-loop
-unfolding rest
+unfolding allowedAfter
 returns-2 c =
     let loop = c .before .before .before .before .before in
     let start = loop .before .before .before .before .before .before .before in
@@ -98,16 +95,14 @@ loop-again c =
     (omega arith, loop .loop .inv .1 ∙ step (start .args .row) (loop .loop .k) values (omega arith) (omega arith) ∙ simp here)
 
 returns-3 : tie.Need-returns-3 Inv-loop μ-loop
-unfolding rest allAllowed
+unfolding allowedAfter
 returns-3 c =
     let loop = c .before in
     let start = loop .before .before .before .before .before .before .before in
     let values = start .args .values .now in
     let all : loop .loop .k ≡ byteCount (start .args .row) = omega arith in
     let all-values : loop .loop .k ≡ length values = omega arith in
-    let no-ranges = rw (← all) at (drop-length (setting (start .args .row) .allowed General)) in
-    let no-values = rw (← all-values) at (drop-length values) in
-    sym (loop .loop .inv .1 ∙ rw (no-ranges, no-values))
+    sym (loop .loop .inv .1 ∙ allowed-end (setting (start .args .row) .allowed General) values (loop .loop .k) all all-values)
 
 pub general-allowed-spec : {M : Type 1} → statement M
 general-allowed-spec =

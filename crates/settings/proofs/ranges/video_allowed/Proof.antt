@@ -3,21 +3,19 @@ use mathlib.Core.Path.{_≡_, refl, sym, ap, ap₂, _∙_}
 use mathlib.Core.Bool.{Bool, true, false, cond, or-false, _&&_, _||_}
 use mathlib.Core.List.{List, [], _∷_}
 use Prim.Native.Nat.{ℕ, _+_, _-_, _≤_, _<_}
-use native.Mathlib.Numerals.{add-one}
 use native.Mathlib.Omega.{arith}
 use borrow.Author.Needs.{needs}
 use borrow.Author.Tests.{not-true, not-false}
 use lib.Dec.{eqb}
-use lib.ListN.{length, getD, drop}
-use lib.Seq.{drop-cons, drop-length}
+use lib.ListN.{length, getD}
 use Rattle.settings.specs.declared.Profile.the-variants.{Phoenix}
 use Rattle.settings.specs.declared.Span.{Span}
 use Rattle.settings.specs.declared.More.{More}
 use Rattle.settings.specs.declared.Table.{Table}
-use Rattle.settings.specs.Settings.{Range, settings, within, allAllowed, videoAllowed, videoRow, mostValues}
+use Rattle.settings.specs.Settings.{Range, settings, within, videoAllowed, videoRow, mostValues}
 use Rattle.settings.specs.Private.Numbers.{inRange, videoRange, spanOf, rangeOf, isMore, tintBelow, paperTable}
 use Rattle.lists.proofs.Each.{alike, in-each}
-use Rattle.settings.proofs.Laws.{other-many}
+use Rattle.settings.proofs.Laws.{other-many, allowedAfter, allowed-step, allowed-end}
 use Rattle.settings.proofs.ranges.video_allowed.Statement.{statement}
 use Rattle.settings.proofs.ranges.video_allowed.Tie as tie
 
@@ -34,13 +32,12 @@ value {k} v h =
     (alike (λ k. getD (videoAllowed Phoenix) k []) (λ k. videoRange k ∷ cond (eqb (tintBelow .0) k) (q ∷ []) []) mostValues refl h)
     ∙ second (videoRange k) q (eqb (tintBelow .0) k) v
 
-rest : List ℕ → ℕ → Bool
-rest vs k = allAllowed (drop k (videoAllowed Phoenix)) (drop k vs)
+abbrev rest : List ℕ → ℕ → Bool
+rest vs k = allowedAfter (videoAllowed Phoenix) vs k
 
 step : (k : ℕ) (vs : List ℕ) → k < mostValues → k < length vs
     → rest vs k ≡ (inRange (videoRange k) (getD vs k 0) || isMore k (getD vs k 0) tintBelow) && rest vs (k + 1)
-unfolding rest allAllowed
-step k vs h hv = rw (drop-cons (videoAllowed Phoenix) k [] h, drop-cons vs k 0 hv, add-one, value (getD vs k 0) h)
+step k vs h hv = rw (← value (getD vs k 0) h) (allowed-step (videoAllowed Phoenix) vs k h hv)
 
 first-in : {t : Table} {k : ℕ} (d : Span) → t ≡ paperTable → k < mostValues → rangeOf (getD (t .phoenix .ranges) k d) ≡ videoRange k
 unfolding paperTable
@@ -97,7 +94,7 @@ tried c =
     ∙ ap₂ (λ (r : Range) (m : More). inRange r v || isMore k v m) first (below-in (loop .before .before .the-table2 .ensures)))
 
 returns-2 : tie.Need-returns-2 Inv-loop μ-loop
-unfolding rest settings
+unfolding allowedAfter settings
 returns-2 c =
     let loop = c .before .before .before .before .before in
     let values = loop .before .before .before .before .before .before .before .args .values .now in
@@ -118,14 +115,13 @@ loop-again c =
     (omega arith, loop .loop .inv .1 ∙ step (loop .loop .k) values (omega arith) (omega arith) ∙ simp here)
 
 returns-3 : tie.Need-returns-3 Inv-loop μ-loop
-unfolding rest allAllowed settings
+unfolding allowedAfter settings
 returns-3 c =
     let loop = c .before in
     let values = loop .before .before .before .before .before .before .before .args .values .now in
     let all : loop .loop .k ≡ mostValues = omega arith in
     let all-values : loop .loop .k ≡ length values = omega arith in
-    let no-values = rw (← all-values) at (drop-length values) in
-    sym (loop .loop .inv .1 ∙ rw (all, rw all at no-values))
+    sym (loop .loop .inv .1 ∙ allowed-end (videoAllowed Phoenix) values (loop .loop .k) all all-values)
 
 pub video-allowed-spec : {M : Type 1} → statement M
 video-allowed-spec =
