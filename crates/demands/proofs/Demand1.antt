@@ -28,11 +28,12 @@ use Rattle.answers.specs.Judged.{command}
 use Rattle.answers.specs.Played.{turned, playedBy, played}
 use Rattle.lists.proofs.Mapped.{map-same}
 use Rattle.answers.proofs.Turns.{stays}
+use Rattle.forms.specs.declared.Form.{Form}
 use Rattle.image_write.specs.declared.Written.the-variants.{Bytes as WrittenBytes, WouldLose, NoRoom as NotWritten}
-use Rattle.image_write.specs.Written.{imageOf, recordsOf, sizeOf, losesNothing, writtenOf, bytesWritten, outputOf as imageOutput}
+use Rattle.image_write.specs.Written.{setupOf, sizeOf, losesNothing, writtenOf, bytesWritten, outputOf as imageOutput}
 use Rattle.image_read.specs.declared.Refusal.{Refusal as ImageRefusal}
 use Rattle.image_read.specs.declared.Refusal.the-variants.{Nothing as Sound}
-use Rattle.image_read.specs.Whole.{wholeRefusal, recordsIn}
+use Rattle.image_read.specs.Whole.{formOf, wholeRefusal, recordsIn}
 use Rattle.image_read.specs.Read.{Reading, isSound, refused, recordRefusal, readRecords, readOf}
 use Rattle.image_read.proofs.OnTheWay.{wallWith}
 use Rattle.image.proofs.Back.{image-size}
@@ -97,12 +98,12 @@ answer-alone out r = go (leb longest (length out))
 
 pub image-alone : ImageAlone
 unfolding writtenOf imageOutput
-image-alone t f out = go (losesNothing (panelsOf t)) (leb (sizeOf (panelsOf t)) (length out))
+image-alone form t f out = go (losesNothing form (panelsOf t)) (leb (sizeOf form (panelsOf t)) (length out))
   where
     go : (a b : Bool)
-        → let n = bytesWritten (cond a (cond b (WrittenBytes (sizeOf (panelsOf t))) NotWritten) WouldLose) in
-        drop n (cond (a && b) (laidOver (imageOf (recordsOf (panelsOf t))) out) out) ≡ drop n out
-    go true true = rw (← image-size (panelsOf t) (f .good)) (behind-over (imageOf (recordsOf (panelsOf t))) out)
+        → let n = bytesWritten (cond a (cond b (WrittenBytes (sizeOf form (panelsOf t))) NotWritten) WouldLose) in
+        drop n (cond (a && b) (laidOver (setupOf form (panelsOf t)) out) out) ≡ drop n out
+    go true true = rw (← image-size form (panelsOf t) (f .good)) (behind-over (setupOf form (panelsOf t)) out)
     go true false = refl
     go false b = refl
 
@@ -114,15 +115,15 @@ either : (t : Bool) (r : Reading) (why : ImageRefusal) → NoneRefused r → Non
 either true r why h = h
 either false r why h = λ n. refl
 
-records-refused : (w : Wall) (records : List (List ℕ)) → NoneRefused (readRecords w records)
+records-refused : (form : Form) (w : Wall) (records : List (List ℕ)) → NoneRefused (readRecords form w records)
 unfolding readRecords
-records-refused w [] n = absurd (n refl)
-records-refused w (bytes ∷ records) n =
-    either (isSound (recordRefusal w bytes)) _ (recordRefusal w bytes) (records-refused (wallWith w bytes) records) n
+records-refused form w [] n = absurd (n refl)
+records-refused form w (bytes ∷ records) n =
+    either (isSound (recordRefusal form w bytes)) _ (recordRefusal form w bytes) (records-refused form (wallWith form w bytes) records) n
 
 pub read-refused : ReadRefused
 unfolding readOf
-read-refused image n = either (isSound (wholeRefusal image)) _ (wholeRefusal image) (records-refused [] (recordsIn image)) n
+read-refused image n = either (isSound (wholeRefusal image)) _ (wholeRefusal image) (records-refused (formOf image) [] (recordsIn image)) n
 
 -- A refused call of the host: it gives nothing out, and stays.
 abbrev Stays : State → Move → Type 0

@@ -2,7 +2,7 @@
 use Prim.Native.Nat.{ℕ, _<_}
 use mathlib.Core.Bool.{Bool, true, false, cond, _&&_}
 use mathlib.Core.Logic.{_⊎_, inl, inr}
-use mathlib.Core.Path.{_≡_, refl, ap, _∙_}
+use mathlib.Core.Path.{_≡_, refl, sym, ap, _∙_}
 use mathlib.Core.List.{List, [], map}
 use lib.Dec.{leb, eqb}
 use lib.ListN.{length, getD, length-map, List·getD-map}
@@ -17,7 +17,7 @@ use Rattle.packet.specs.Packet.{monitorId, verdictOf, dataOf}
 use Rattle.panels.specs.declared.Panel.{Panel}
 use Rattle.panels.specs.declared.Place.{Place}
 use Rattle.panels.specs.declared.Place.the-variants.{At, Nowhere}
-use Rattle.panels.specs.Wall.{Wall, blank, panelsOf, placeOf}
+use Rattle.panels.specs.Wall.{Wall, blank, tableOf, panelsOf, placeOf}
 use Rattle.packet.specs.Answered.{isHeard}
 use Rattle.panels.specs.Addressed.{reaches}
 use Rattle.panels.specs.WellFormed.{GoodPanel, GoodWall}
@@ -29,11 +29,10 @@ use Rattle.answers.specs.Judged.{Command, getOf, setOf, unavailable, command, j
 use Rattle.answers.specs.Played.{turned, replyFrom, damagedReply, playedBy, played}
 use Rattle.answers.proofs.Formed.{stored-own, stored-others, played-formed}
 use Rattle.demands.proofs.Cases.{p-cases}
-use Rattle.image_read.specs.declared.Read.{Read}
+use Rattle.image_read.specs.Read.{Reading}
 use Rattle.image_read.proofs.Sound.{read-formed}
 use Rattle.image_read.proofs.Order.{read-any-order, read-by-code, left-out}
-use Rattle.image_write.proofs.Losing.{was-written}
-use Rattle.image.proofs.Back.{front-is-image, table-back}
+use Rattle.image.proofs.Back.{written-back}
 use Rattle.line.proofs.Streams.{stream-after}
 use Rattle.demands.specs.Demand2.{SetBy, OnlyAddressed, Answer·Is, Answers, Received, empty, add, remove, image, burst, InRange, ReadsBack, AnyOrder, ByCode, LeftOut, Cases}
 
@@ -142,9 +141,9 @@ received w events = stream-after [] w events
 
 -- The image.
 pub reads-back : ReadsBack
-reads-back t f out n written =
-    let back = table-back f (was-written (panelsOf t) out n written .0) in
-    rw (front-is-image (panelsOf t) (f .good) out n written) (ap (λ (r : Read). r .refusal) back, ap (λ (r : Read). r .table) back)
+reads-back form t f out n written =
+    let back = written-back form (panelsOf t) (f .good) (f .few) out n written in
+    (ap (λ (r : Reading). r .refusal) back, ap (λ (r : Reading). tableOf (r .wall)) back ∙ sym (f .held))
 
 pub any-order : AnyOrder
 any-order = read-any-order

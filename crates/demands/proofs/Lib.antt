@@ -4,5 +4,6 @@ pub mod Demand1
 pub mod Demand2
 pub mod Demand3
 pub mod Profiles
+pub mod Forms
 pub mod WrongBoxes
 pub mod HostAndBox

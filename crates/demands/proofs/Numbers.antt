@@ -1,24 +1,28 @@
 -- The numbers that calls refuse by. Assumes nothing.
-use Prim.Native.Nat.{_+_}
-use mathlib.Core.Path.{_≡_, refl}
+use Prim.Native.Nat.{ℕ, _+_, _*_}
+use mathlib.Core.Path.{_≡_, refl, ap, _∙_}
 use mathlib.Core.Bool.{Bool, true, false, cond, _&&_, _||_}
+use mathlib.Core.List.{List, [], _∷_}
 use lib.Dec.{leb, eqb}
 use lib.ListN.{length}
 use Rattle.settings.specs.declared.Profile.the-variants.{General, Phoenix}
 use Rattle.profiles.specs.declared.Numbered.the-variants.{Known, Unknown}
-use Rattle.profiles.specs.Numbers.{profileWith}
+use Rattle.profiles.specs.Numbers.{profileNumber, profileWith, ifKnown}
 use Rattle.packet.specs.declared.Written.the-variants.{Bytes as PacketBytes, TooLong, NoRoom as NoPacket}
 use Rattle.packet.specs.Packet.{writtenOf as packetWritten}
 use Rattle.panels.specs.declared.Place.{Place}
 use Rattle.panels.specs.declared.Place.the-variants.{At, Nowhere}
 use Rattle.panels.specs.declared.Refusal.the-variants.{Nothing, Full, IdZero, IdTaken, GroupZero, UnknownProfile, NoPanel}
-use Rattle.panels.specs.Wall.{placeOf}
-use Rattle.panels.specs.Calls.{refusalOf as tableNumber, ifThere, ifKnown, addRefusal}
+use Rattle.panels.specs.Wall.{Wall, placeOf}
+use Rattle.panels.specs.Calls.{refusalOf as tableNumber, ifThere, addRefusal}
 use Rattle.answers.specs.declared.Sent.the-variants.{Bytes as AnswerBytes, NoRoom as NoAnswer}
 use Rattle.answers.specs.Reply.{sentBytes, sentOf}
 use Rattle.image_write.specs.declared.Written.the-variants.{Bytes as ImageBytes, WouldLose, NoRoom as NoImage}
-use Rattle.image_write.specs.Written.{sizeOf, losesNothing, writtenOf as imageWritten}
-use Rattle.demands.specs.Numbers.{Add, Remove, imageNumber, answerNumber, packetNumber, Image, Answer, Packet}
+use Rattle.forms.specs.declared.Form.{Form}
+use Rattle.forms.specs.declared.Form.the-variants.{One, Two}
+use Rattle.image_write.specs.Written.{recordSize, sizeOf, losesNothing, writtenOf as imageWritten}
+use Rattle.image_write.proofs.Losing.{two-holds}
+use Rattle.demands.specs.Numbers.{Add, Remove, imageNumber, answerNumber, packetNumber, allGeneral, ImageOne, ImageTwo, Answer, Packet}
 
 pub add-number : Add
 unfolding addRefusal profileWith
@@ -27,7 +31,7 @@ add-number w i g n = go (leb 32 (length w)) (eqb (i .0) 0) (placeOf i w) (eqb (g
     go : (a b : Bool) (q : Place) (c d e : Bool)
         → tableNumber
         (cond a Full
-        (cond b IdZero (ifThere q IdTaken (cond c GroupZero (ifKnown (cond d (Known General) (cond e (Known Phoenix) Unknown)) Nothing UnknownProfile)))))
+        (cond b IdZero (ifThere q IdTaken (cond c GroupZero (ifKnown (cond d (Known General) (cond e (Known Phoenix) Unknown)) (λ profile. Nothing) UnknownProfile)))))
         ≡ cond a 1 (cond b 2 (ifThere q 3 (cond c 4 (cond (d || e) 0 5))))
     go true b q c d e = refl
     go false true q c d e = refl
@@ -44,14 +48,29 @@ remove-number w i = go (placeOf i w)
     go (At k) = refl
     go Nowhere = refl
 
-pub image-number : Image
+-- form 1 holds exactly the walls of general panels
+general-held : (w : Wall) → losesNothing One w ≡ allGeneral w
+unfolding losesNothing
+general-held [] = refl
+general-held (p ∷ w) = ap (λ (t : Bool). eqb (profileNumber (p .profile)) 0 && t) (general-held w)
+
+image-number : (form : Form) (w : Wall) (out : List ℕ)
+    → imageNumber (imageWritten form w out) ≡ cond (losesNothing form w) (cond (leb (sizeOf form w) (length out)) 0 19) 31
 unfolding imageWritten imageNumber
-image-number w out = go (losesNothing w) (leb (sizeOf w) (length out))
+image-number form w out = go (losesNothing form w) (leb (sizeOf form w) (length out))
   where
-    go : (a b : Bool) → imageNumber (cond a (cond b (ImageBytes (sizeOf w)) NoImage) WouldLose) ≡ cond a (cond b 0 19) 31
+    go : (a b : Bool) → imageNumber (cond a (cond b (ImageBytes (sizeOf form w)) NoImage) WouldLose) ≡ cond a (cond b 0 19) 31
     go true true = refl
     go true false = refl
     go false b = refl
+
+pub image-one : ImageOne
+unfolding recordSize
+image-one w out = image-number One w out ∙ ap (λ (t : Bool). cond t (cond (leb (35 * length w + 2) (length out)) 0 19) 31) (general-held w)
+
+pub image-two : ImageTwo
+unfolding recordSize
+image-two w out = image-number Two w out ∙ ap (λ (t : Bool). cond t (cond (leb (36 * length w + 2) (length out)) 0 19) 31) (two-holds w)
 
 pub answer-number : Answer
 unfolding sentOf answerNumber

@@ -23,8 +23,7 @@ use Rattle.panels.specs.Addressed.{reaches}
 use Rattle.panels.proofs.Values.{set-row}
 use Rattle.answers.specs.Judged.{setOf, judge, stored, taken, notAvailable, panelAfter}
 use Rattle.answers.specs.Played.{turned, played}
-use Rattle.image.proofs.General.{read-general}
-use Rattle.demands.specs.Profiles.{OwnProfile, TintBack, inPhoenixRange, VideoAllowed, SeenAsSet, ReadGeneral}
+use Rattle.demands.specs.Profiles.{OwnProfile, TintBack, inPhoenixRange, VideoAllowed, SeenAsSet}
 
 -- one panel and a set
 one-set : (r : Bool) (t : Bool) (q p : Panel) → cond r (panelAfter (cond t (taken q) notAvailable) p) p ≡ cond (r && t) q p
@@ -96,6 +95,3 @@ seven v = refl
 pub seen-as-set : SeenAsSet
 unfolding videoOf stored
 seen-as-set p v good phoenix h = rw (phoenix, set-row videoRow (bytesOf v) (p .values) (seven v) (good .full), video-back v h)
-
-pub reads-general : ReadGeneral
-reads-general = read-general

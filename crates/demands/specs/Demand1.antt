@@ -23,6 +23,7 @@ use Rattle.answers.specs.declared.Reply.{Reply}
 use Rattle.answers.specs.Reply.{sentOf, bytesSent, outputOf as answerOutput}
 use Rattle.answers.specs.Judged.{command, judge, notAvailable}
 use Rattle.answers.specs.Played.{played}
+use Rattle.forms.specs.declared.Form.{Form}
 use Rattle.image_read.specs.declared.Refusal.the-variants.{Nothing as Sound}
 use Rattle.image_write.specs.Written.{writtenOf, bytesWritten, outputOf as imageOutput}
 use Rattle.image_read.specs.Read.{readOf}
@@ -65,5 +66,5 @@ AnswerAlone = (out : List ℕ) (r : Reply) → let n = bytesSent (sentOf out r) 
 
 abbrev pub ImageAlone : Type 0
 ImageAlone =
-    (t : Table) → WellFormed t → (out : List ℕ)
-    → let n = bytesWritten (writtenOf (panelsOf t) out) in drop n (imageOutput (panelsOf t) out) ≡ drop n out
+    (form : Form) (t : Table) → WellFormed t → (out : List ℕ)
+    → let n = bytesWritten (writtenOf form (panelsOf t) out) in drop n (imageOutput form (panelsOf t) out) ≡ drop n out

@@ -6,6 +6,7 @@ use mathlib.Core.Logic.{_⊎_}
 use mathlib.Core.Path.{_≡_}
 use mathlib.Core.List.{List, [], _∷_, map, Forall₂}
 use lib.ListN.{length, getD, take}
+use Rattle.settings.specs.declared.Profile.{Profile}
 use Rattle.settings.specs.Settings.{setCode, getCode, allowedFor, rowCount}
 use Rattle.packet.specs.declared.MonitorId.{MonitorId}
 use Rattle.packet.specs.declared.GroupId.{GroupId}
@@ -24,10 +25,11 @@ use Rattle.answers.specs.Judged.{command, setOf}
 use Rattle.answers.specs.Played.{played}
 use Rattle.demands.specs.Cases.{Case, tried, cases}
 use Rattle.line.specs.Session.{Event, session, burstsAfter, receiverOf, streamed}
+use Rattle.forms.specs.declared.Form.{Form}
 use Rattle.image_read.specs.declared.Refusal.the-variants.{Nothing as Sound}
 use Rattle.image_write.specs.declared.Written.the-variants.{Bytes}
 use Rattle.image_write.specs.Written.{writtenOf, outputOf}
-use Rattle.image_read.specs.Whole.{wholeRefusal, recordsIn}
+use Rattle.image_read.specs.Whole.{formOf, wholeRefusal, recordsIn}
 use Rattle.image_read.specs.Fields.{fieldsIn}
 use Rattle.image_read.specs.Read.{isSound, readOf, inTable}
 use Rattle.image_read.specs.Entries.{Entry, bytesOf, freshEntry, Permuted, Without, GiveAlike, SameHead}
@@ -81,30 +83,34 @@ pub data Comes : Table → Type 0 where
 abbrev pub InRange : Type 0
 InRange = (t : Table) → Comes t → WellFormed t
 
--- A written setup reads back as the same table: all that is not refused, by 31 or 19.
+-- A written setup of either form reads back as the same table: all that is not refused, by 31 or 19.
 abbrev pub ReadsBack : Type 0
 ReadsBack =
-    (t : Table) → WellFormed t → (out : List ℕ) (n : ℕ) → writtenOf (panelsOf t) out ≡ Bytes n
-    → let image = take n (outputOf (panelsOf t) out) in
+    (form : Form) (t : Table) → WellFormed t → (out : List ℕ) (n : ℕ) → writtenOf form (panelsOf t) out ≡ Bytes n
+    → let image = take n (outputOf form (panelsOf t) out) in
     (inTable (readOf image) .refusal ≡ Sound) × (inTable (readOf image) .table ≡ t)
 
--- Fields go by code: an image without fault, and another whose records hold the same fields in any order, read as the same wall
-abbrev pub AnyOrder : Type 0
-AnyOrder =
-    (image other : List ℕ) → isSound (wholeRefusal other) ≡ true → Forall₂ (SameHead Permuted) (recordsIn image) (recordsIn other)
+-- Fields go by code: an image without fault, and another, of the same form or the other one, whose records hold the same fields
+-- in any order, read as the same wall
+abbrev pub Alike : (Profile → List Entry → List Entry → Type 0) → Type 0
+Alike P =
+    (image other : List ℕ) → isSound (wholeRefusal other) ≡ true
+    → Forall₂ (SameHead P (formOf image) (formOf other)) (recordsIn image) (recordsIn other)
     → readOf image .refusal ≡ Sound → readOf other ≡ readOf image
+
+abbrev pub AnyOrder : Type 0
+AnyOrder = Alike (λ profile. Permuted)
 
 -- or whose records give each setting the same values, where a code that is not there gives its fresh ones;
 abbrev pub ByCode : Type 0
-ByCode =
-    (image other : List ℕ) → isSound (wholeRefusal other) ≡ true → Forall₂ (SameHead GiveAlike) (recordsIn image) (recordsIn other)
-    → readOf image .refusal ≡ Sound → readOf other ≡ readOf image
+ByCode = Alike GiveAlike
 
--- and fields without a code read as with that field at its fresh value.
+-- and fields without a code read as with that field at its fresh value, which is that of the record's own profile.
 abbrev pub LeftOut : Type 0
 LeftOut =
-    (row : ℕ) (es : List Entry) → row < rowCount → Without (setCode row) es → fieldsIn (bytesOf es) .refusal ≡ Sound
-    → fieldsIn (bytesOf (freshEntry row ∷ es)) ≡ fieldsIn (bytesOf es)
+    (profile : Profile) (row : ℕ) (es : List Entry) → row < rowCount → Without (setCode row) es
+    → fieldsIn profile (bytesOf es) .refusal ≡ Sound
+    → fieldsIn profile (bytesOf (freshEntry profile row ∷ es)) ≡ fieldsIn profile (bytesOf es)
 
 -- the ten P cases of 01
 abbrev pub Cases : Type 0

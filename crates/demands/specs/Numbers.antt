@@ -1,11 +1,12 @@
 -- The numbers that calls refuse by, 0 where nothing is refused. 01, "Table calls and numbers": each is given exactly when its
 -- row says, lower numbers first. 11 to 18 go with the order of reading, in `image_read`; 21 and 22 with the machine, in `host`.
 use Prim.Native.Nat.{ℕ, _+_, _*_}
-use mathlib.Core.Bool.{cond, _&&_, _||_}
+use mathlib.Core.Bool.{Bool, true, cond, _&&_, _||_}
 use mathlib.Core.Path.{_≡_}
-use mathlib.Core.List.{List}
+use mathlib.Core.List.{List, [], _∷_}
 use lib.Dec.{leb, eqb}
 use lib.ListN.{length}
+use Rattle.profiles.specs.Numbers.{profileNumber}
 use Rattle.packet.specs.declared.MonitorId.{MonitorId}
 use Rattle.packet.specs.declared.GroupId.{GroupId}
 use Rattle.packet.specs.declared.Written.{Written as PacketWritten}
@@ -17,9 +18,10 @@ use Rattle.answers.specs.declared.Reply.{Reply}
 use Rattle.answers.specs.declared.Sent.{Sent}
 use Rattle.answers.specs.declared.Sent.the-variants.{Bytes as AnswerBytes, NoRoom as NoAnswerRoom}
 use Rattle.answers.specs.Reply.{sentOf}
+use Rattle.forms.specs.declared.Form.the-variants.{One, Two}
 use Rattle.image_write.specs.declared.Written.{Written as ImageWritten}
 use Rattle.image_write.specs.declared.Written.the-variants.{Bytes as ImageBytes, WouldLose, NoRoom as NoImageRoom}
-use Rattle.image_write.specs.Written.{losesNothing, writtenOf as imageWritten}
+use Rattle.image_write.specs.Written.{writtenOf as imageWritten}
 
 -- 32 panels are there, ID 0, ID in the table, group 0, a profile that is neither 0 nor 1
 abbrev pub Add : Type 0
@@ -48,11 +50,18 @@ packetNumber (PacketBytes n) = 0
 packetNumber TooLong = 19
 packetNumber NoPacketRoom = 19
 
--- 31 where a panel is Phoenix; then 19, lent output too short: image under 35n + 2 bytes, answer or packet under 40; data that
--- fits no packet is refused so too
-abbrev pub Image : Type 0
-Image = (w : Wall) (out : List ℕ)
-    → imageNumber (imageWritten w out) ≡ cond (losesNothing w) (cond (leb (35 * length w + 2) (length out)) 0 19) 31
+-- form 1: 31 where a panel is not general; then, in either form, 19, lent output too short: image under 35n + 2 bytes in form 1
+-- and 36n + 2 in form 2, answer or packet under 40; data that fits no packet is refused so too
+abbrev pub allGeneral : Wall → Bool
+allGeneral [] = true
+allGeneral (p ∷ w) = eqb (profileNumber (p .profile)) 0 && allGeneral w
+
+abbrev pub ImageOne : Type 0
+ImageOne =
+    (w : Wall) (out : List ℕ) → imageNumber (imageWritten One w out) ≡ cond (allGeneral w) (cond (leb (35 * length w + 2) (length out)) 0 19) 31
+
+abbrev pub ImageTwo : Type 0
+ImageTwo = (w : Wall) (out : List ℕ) → imageNumber (imageWritten Two w out) ≡ cond (leb (36 * length w + 2) (length out)) 0 19
 
 abbrev pub Answer : Type 0
 Answer = (out : List ℕ) (r : Reply) → answerNumber (sentOf out r) ≡ cond (leb 40 (length out)) 0 19

@@ -1,6 +1,6 @@
 -- Walls of both profiles, and the tint with its sign. 02, A1.
 use Prim.Native.Nat.{ℕ, _<_}
-use mathlib.Core.Bool.{Bool, true, cond, _&&_}
+use mathlib.Core.Bool.{Bool, cond, _&&_}
 use mathlib.Core.Path.{_≡_}
 use mathlib.Core.List.{List}
 use lib.Dec.{leb}
@@ -22,8 +22,6 @@ use Rattle.panels.specs.Addressed.{reaches}
 use Rattle.panels.specs.WellFormed.{GoodPanel}
 use Rattle.answers.specs.Judged.{command, setOf, stored}
 use Rattle.answers.specs.Played.{played}
-use Rattle.image_read.specs.Read.{readOf}
-use Rattle.image_write.specs.Written.{losesNothing}
 
 -- A set to a wall of both profiles: exactly the panels that it addresses and whose own profile allows it have the values, and
 -- every other is as it was.
@@ -55,7 +53,3 @@ abbrev pub SeenAsSet : Type 0
 SeenAsSet =
     (p : Panel) (v : Video) → GoodPanel p → p .profile ≡ Phoenix → mag (v .tint) < 128
     → videoOf (stored videoRow (bytesOf v) p) ≡ PhoenixSeen v
-
--- What is read is general, so that form 1 holds it whole.
-abbrev pub ReadGeneral : Type 0
-ReadGeneral = (image : List ℕ) → losesNothing (readOf image .wall) ≡ true

@@ -1,8 +1,9 @@
-// Reads setup images and prints each as the writer makes it of the table read. Standard input has for each image its length
-// as two bytes, high byte first, and then that many bytes.
+// Reads setup images of either form and prints each as the writer makes it of the table read, in form 2 and in form 1.
+// Standard input has for each image its length as two bytes, high byte first, and then that many bytes.
 ghost use Prim.Native.Nat.{_≤_, _<_};
 ghost use lib.ListN.{length};
 ghost use Rattle.panels.specs.WellFormed.{WellFormed};
+use forms::Form;
 use image_write::Written;
 use panels::Table;
 
@@ -37,18 +38,27 @@ fn read_item(buf: &mut [u8]) -> Item
     Item::Image(size)
 }
 
-// The table's image in upper-case hex.
-fn print_image(t: Table)
+fn print_hex(bytes: &[u8]) {
+    let mut digits = [0u8; 2308];
+    let count = text::hex(bytes, &mut digits);
+    io::write_all(1, text::front(&digits, count));
+}
+
+// The table's image in a form, in upper-case hex, or the refusal.
+fn print_image(form: Form, t: Table)
     requires { ⌜ WellFormed t ⌝ }
 {
-    let mut out = [0u8; 1122];
-    let written = image_write::write_image(t, &mut out);
-    let Written::Bytes(n) = written else {
-        return;
-    };
-    let mut digits = [0u8; 2244];
-    let count = text::hex(text::front(&out, n), &mut digits);
-    io::write_all(1, text::front(&digits, count));
+    let mut out = [0u8; 1154];
+    let written = image_write::write_image(form, t, &mut out);
+    match written {
+        Written::Bytes(n) => print_hex(text::front(&out, n)),
+        Written::WouldLose => {
+            io::write_all(1, b"refused 31");
+        }
+        Written::NoRoom => {
+            io::write_all(1, b"refused 19");
+        }
+    }
 }
 
 fn print_reading(bytes: &[u8]) {
@@ -65,7 +75,9 @@ fn print_reading(bytes: &[u8]) {
         return;
     }
     let table = read.table;
-    print_image(table);
+    print_image(Form::Two, table);
+    io::write_all(1, b" ");
+    print_image(Form::One, table);
 }
 
 fn print_last(word: &[u8], number: u64) {

@@ -11,9 +11,10 @@ use lib.Dec.{ltb, eqb}
 use lib.ListN.{length}
 use Rattle.panels.specs.Wall.{mostPanels}
 use Rattle.lists.proofs.Both.{both}
+use Rattle.forms.specs.Forms.{isForm}
 use Rattle.image_read.specs.declared.Refusal.{Refusal}
 use Rattle.image_read.specs.declared.Refusal.the-variants.{Nothing, TooShort, OtherForm, TooMany, NoStarts, Starts, Record, Field, Value}
-use Rattle.image_read.specs.Whole.{formOf, countOf, startsAt, edge, rises, startsFit, wholeRefusal}
+use Rattle.image_read.specs.Whole.{lastByte, countOf, startsAt, edge, rises, startsFit, wholeRefusal}
 use Rattle.image_read.specs.Read.{isSound}
 
 pub sound-nothing : (r : Refusal) → isSound r ≡ true → r ≡ Nothing
@@ -29,7 +30,7 @@ sound-nothing Value e = absurd (false≢true e)
 
 pub record Fits (image : List ℕ) : Type 0 where
   pub two : 2 ≤ length image
-  pub form : formOf image ≡ 1
+  pub form : isForm (lastByte image) ≡ true
   pub few : countOf image ≤ mostPanels
   pub room : 2 * countOf image + 2 ≤ length image
   pub starts : startsFit image ≡ true
@@ -38,7 +39,7 @@ pub fits : (image : List ℕ) → isSound (wholeRefusal image) ≡ true → Fits
 unfolding wholeRefusal
 fits image e = go _ _ _ _ _ refl refl refl refl refl e
   where
-    go : (a b c d f : Bool) → ltb (length image) 2 ≡ a → eqb (formOf image) 1 ≡ b → ltb mostPanels (countOf image) ≡ c
+    go : (a b c d f : Bool) → ltb (length image) 2 ≡ a → isForm (lastByte image) ≡ b → ltb mostPanels (countOf image) ≡ c
         → ltb (length image) (2 * countOf image + 2) ≡ d → startsFit image ≡ f
         → isSound (cond a TooShort (cond b (cond c TooMany (cond d NoStarts (cond f Nothing Starts))) OtherForm)) ≡ true → Fits image
     go true b c d f ea eb ec ed ef e = absurd (false≢true e)
@@ -47,7 +48,7 @@ fits image e = go _ _ _ _ _ refl refl refl refl refl e
     go false true false true f ea eb ec ed ef e = absurd (false≢true e)
     go false true false false false ea eb ec ed ef e = absurd (false≢true e)
     go false true false false true ea eb ec ed ef e =
-        record { two = ltb-false _ _ ea; form = eqb-true _ _ eb; few = ltb-false _ _ ec; room = ltb-false _ _ ed; starts = ef }
+        record { two = ltb-false _ _ ea; form = eb; few = ltb-false _ _ ec; room = ltb-false _ _ ed; starts = ef }
 
 rising : (image : List ℕ) (k m : ℕ) → rises image k m ≡ true → (j : ℕ) → k ≤ j → j < k + m → edge image j < edge image (suc j)
 unfolding rises

@@ -7,7 +7,7 @@ use native.Mathlib.Omega.{arith}
 use borrow.Author.Tests.{ne-eqb}
 use lib.ListN.{length, getD, length-append, length-set}
 use lib.Seq.{take-at, drop-at, getD-set-same, getD-set-other}
-use Rattle.settings.specs.declared.Profile.the-variants.{General}
+use Rattle.settings.specs.declared.Profile.{Profile}
 use Rattle.settings.specs.declared.Found.{Found}
 use Rattle.settings.specs.declared.Found.the-variants.{Set, Get, Nothing}
 use Rattle.settings.specs.Settings.{foundBy, setCode, byteCount, allowedFor, valuesWith, rowCount}
@@ -36,15 +36,15 @@ unfolding rowOf rowFound
 row-is e h c = ap rowFound (ap foundBy (sym c) ∙ set-found h)
 
 -- an entry that can be taken
-pub record Good (e : Entry) : Type 0 where
+pub record Good (profile : Profile) (e : Entry) : Type 0 where
   pub in-table : rowOf e < rowCount
   pub code : setCode (rowOf e) ≡ e .code
-  pub allowed : allowedFor General (rowOf e) (e .values) ≡ true
+  pub allowed : allowedFor profile (rowOf e) (e .values) ≡ true
 
 -- every entry is good, and no later one has its code
-abbrev pub GoodEntries : List Entry → Type 0
-GoodEntries [] = Unit {0}
-GoodEntries (e ∷ es) = Good e × Without (e .code) es × GoodEntries es
+abbrev pub GoodEntries : Profile → List Entry → Type 0
+GoodEntries profile [] = Unit {0}
+GoodEntries profile (e ∷ es) = Good profile e × Without (e .code) es × GoodEntries profile es
 
 abbrev pub Unseen : List Bool → List Entry → Type 0
 Unseen seen [] = Unit {0}
@@ -59,8 +59,8 @@ bytes-cons : (e : Entry) (es : List Entry) → bytesOf (e ∷ es) ≡ e .code �
 unfolding bytesOf flatten
 bytes-cons e es = refl
 
-pub count-of : {e : Entry} → Good e → length (e .values) ≡ byteCount (rowOf e)
-count-of {e} g = allowed-many General _ (e .values) (g .allowed)
+pub count-of : {profile : Profile} {e : Entry} → Good profile e → length (e .values) ≡ byteCount (rowOf e)
+count-of {profile} {e} g = allowed-many profile _ (e .values) (g .allowed)
 
 -- the front of the bytes, where an entry with its row's count stands there
 module _ (e : Entry) (rest : List ℕ) (row : ℕ) (n : length (e .values) ≡ byteCount row) where
@@ -70,23 +70,23 @@ module _ (e : Entry) (rest : List ℕ) (row : ℕ) (n : length (e .values) ≡ b
   front-behind : behind row (e .code ∷ length (e .values) ∷ (e .values ++ rest)) ≡ rest
   front-behind = let s : 2 + byteCount row ≡ suc (suc (byteCount row)) = omega arith in rw s (drop-at (e .values) rest (byteCount row) n)
 
-pub other-rows : {d e : Entry} → Good d → Good e → (e .code ≡ d .code → ⊥) → rowOf e ≡ rowOf d → ⊥
+pub other-rows : {profile : Profile} {d e : Entry} → Good profile d → Good profile e → (e .code ≡ d .code → ⊥) → rowOf e ≡ rowOf d → ⊥
 other-rows g h ne same = ne (sym (h .code) ∙ ap setCode same ∙ g .code)
 
-still-unseen : {d : Entry} → Good d → (seen : List Bool) (es : List Entry) → Without (d .code) es → GoodEntries es → Unseen seen es → Unseen (seenWith (rowOf d) seen) es
+still-unseen : {profile : Profile} {d : Entry} → Good profile d → (seen : List Bool) (es : List Entry) → Without (d .code) es → GoodEntries profile es → Unseen seen es → Unseen (seenWith (rowOf d) seen) es
 still-unseen g seen [] w good u = tt
-still-unseen {d} g seen (e ∷ es) (ne, w) (h, without, good) (new, u) =
+still-unseen {profile} {d} g seen (e ∷ es) (ne, w) (h, without, good) (new, u) =
     (getD-set-other seen (rowOf d) (rowOf e) true false (other-rows g h ne) ∙ new, still-unseen g seen es w good u)
 
 -- Good entries are all taken.
-pub all-taken : (es : List Entry) (seen : List Bool) (values : List ℕ) → GoodEntries es → Unseen seen es
-    → fieldsFrom seen values (bytesOf es) ≡ record { refusal = Sound; values = stored es values }
-all-taken [] seen values good u = fields-step seen values (bytesOf []) End (unfold stepAt bytesOf flatten in refl)
-all-taken (e ∷ es) seen values (g, without, good) (new, u) =
+pub all-taken : (profile : Profile) (es : List Entry) (seen : List Bool) (values : List ℕ) → GoodEntries profile es → Unseen seen es
+    → fieldsFrom profile seen values (bytesOf es) ≡ record { refusal = Sound; values = stored es values }
+all-taken profile [] seen values good u = fields-step profile seen values (bytesOf []) End (unfold stepAt bytesOf flatten in refl)
+all-taken profile (e ∷ es) seen values (g, without, good) (new, u) =
     let n = count-of g in
     let left = e .code ∷ length (e .values) ∷ (e .values ++ bytesOf es) in
     let vs = front-values e (bytesOf es) (rowOf e) n in
-    let takes-e : Takes seen left (rowOf e) = record {
+    let takes-e : Takes profile seen left (rowOf e) = record {
       in-table = g .in-table;
       code = sym (g .code);
       new = new;
@@ -94,9 +94,9 @@ all-taken (e ∷ es) seen values (g, without, good) (new, u) =
       count = n;
       allowed = rw vs (g .allowed);
     } in
-    ap (fieldsFrom seen values) (bytes-cons e es)
-    ∙ fields-step seen values left (Field (rowOf e)) (takes-it takes-e)
-    ∙ rw (vs, front-behind e (bytesOf es) (rowOf e) n) (all-taken es (seenWith (rowOf e) seen) (valuesWith (rowOf e) (e .values) values) good (still-unseen g seen es without good u))
+    ap (fieldsFrom profile seen values) (bytes-cons e es)
+    ∙ fields-step profile seen values left (Field (rowOf e)) (takes-it takes-e)
+    ∙ rw (vs, front-behind e (bytesOf es) (rowOf e) n) (all-taken profile es (seenWith (rowOf e) seen) (valuesWith (rowOf e) (e .values) values) good (still-unseen g seen es without good u))
 
 -- And where there is no fault the entries are good.
 seen-apart : (row : ℕ) (seen : List Bool) (r : ℕ) → row < length seen → getD (seenWith row seen) r false ≡ false → (r ≡ row → ⊥) × (getD seen r false ≡ false)
@@ -113,47 +113,47 @@ were-unseen d seen (e ∷ es) h (new, u) =
     (((λ same. apart (unfold rowOf in ap (λ c. rowFound (foundBy c)) same)), without), (new′, u′))
 
 -- only where no byte is left the fields end
-never-end : (seen : List Bool) (left : List ℕ) → 0 < length left → stepAt seen left ≡ End → ⊥
+never-end : (profile : Profile) (seen : List Bool) (left : List ℕ) → 0 < length left → stepAt profile seen left ≡ End → ⊥
 unfolding stepAt
-never-end seen left h e = by-found (foundBy (getD left 0 0)) (rw (ne-eqb (length left) 0 (λ z. omega arith)) at e)
+never-end profile seen left h e = by-found (foundBy (getD left 0 0)) (rw (ne-eqb (length left) 0 (λ z. omega arith)) at e)
   where
     by-tests : (r : ℕ) (a b : Bool) → cond a Broken (cond b (Field r) NotAllowed) ≡ End → ⊥
     by-tests r true b e = let z : _≡_ {A = ℕ} 0 1 = cc in omega arith
     by-tests r false true e = let z : _≡_ {A = ℕ} 0 1 = cc in omega arith
     by-tests r false false e = let z : _≡_ {A = ℕ} 0 1 = cc in omega arith
 
-    by-found : (f : Found) → fieldBy f seen left ≡ End → ⊥
-    by-found (Set r) e = by-tests r (getD seen r false || misfits r left) (allowedFor General r (valuesIn r left)) e
+    by-found : (f : Found) → fieldBy profile f seen left ≡ End → ⊥
+    by-found (Set r) e = by-tests r (getD seen r false || misfits r left) (allowedFor profile r (valuesIn r left)) e
     by-found (Get r) e = let z : _≡_ {A = ℕ} 0 1 = cc in omega arith
     by-found Nothing e = let z : _≡_ {A = ℕ} 0 1 = cc in omega arith
 
-pub no-fault : (es : List Entry) (seen : List Bool) (values : List ℕ) → length seen ≡ rowCount → fieldsFrom seen values (bytesOf es) .refusal ≡ Sound
-    → GoodEntries es × Unseen seen es
-no-fault [] seen values n e = (tt, tt)
-no-fault (e ∷ es) seen values n sound = go (stepAt seen left) refl
-    (λ row r. no-fault es (seenWith row seen) (valuesWith row (e .values) values) (length-set seen row true ∙ n) r)
-    (ap (λ (b : List ℕ). fieldsFrom seen values b .refusal) (sym (bytes-cons e es)) ∙ sound)
+pub no-fault : (profile : Profile) (es : List Entry) (seen : List Bool) (values : List ℕ) → length seen ≡ rowCount → fieldsFrom profile seen values (bytesOf es) .refusal ≡ Sound
+    → GoodEntries profile es × Unseen seen es
+no-fault profile [] seen values n e = (tt, tt)
+no-fault profile (e ∷ es) seen values n sound = go (stepAt profile seen left) refl
+    (λ row r. no-fault profile es (seenWith row seen) (valuesWith row (e .values) values) (length-set seen row true ∙ n) r)
+    (ap (λ (b : List ℕ). fieldsFrom profile seen values b .refusal) (sym (bytes-cons e es)) ∙ sound)
   where
     left : List ℕ
     left = e .code ∷ length (e .values) ∷ (e .values ++ bytesOf es)
 
-    go : (s : Step) → stepAt seen left ≡ s
-        → ((row : ℕ) → fieldsFrom (seenWith row seen) (valuesWith row (e .values) values) (bytesOf es) .refusal ≡ Sound → GoodEntries es × Unseen (seenWith row seen) es)
-        → fieldsFrom seen values left .refusal ≡ Sound → GoodEntries (e ∷ es) × Unseen seen (e ∷ es)
+    go : (s : Step) → stepAt profile seen left ≡ s
+        → ((row : ℕ) → fieldsFrom profile (seenWith row seen) (valuesWith row (e .values) values) (bytesOf es) .refusal ≡ Sound → GoodEntries profile es × Unseen (seenWith row seen) es)
+        → fieldsFrom profile seen values left .refusal ≡ Sound → GoodEntries profile (e ∷ es) × Unseen seen (e ∷ es)
     go (Field row) st ih sound =
-        let t = takes seen left row st in
+        let t = takes profile seen left row st in
         let vs = front-values e (bytesOf es) row (t .count) in
         let is-row = row-is e (t .in-table) (sym (t .code)) in
-        let next = fields-step seen values left (Field row) st ∙ ap₂ (λ (v b : List ℕ). fieldsFrom (seenWith row seen) (valuesWith row v values) b) vs (front-behind e (bytesOf es) row (t .count)) in
+        let next = fields-step profile seen values left (Field row) st ∙ ap₂ (λ (v b : List ℕ). fieldsFrom profile (seenWith row seen) (valuesWith row v values) b) vs (front-behind e (bytesOf es) row (t .count)) in
         let (good, u) = ih row (ap (λ (f : Fields). f .refusal) (sym next) ∙ sound) in
         let (without, u′) = were-unseen e seen es (rw (is-row, n) (t .in-table)) (rw is-row u) in (
           (record { in-table = rw is-row (t .in-table); code = rw is-row (sym (t .code)); allowed = rw is-row (rw vs at (t .allowed)) }, without, good),
           (rw is-row (t .new), u′),
         )
     go NotAllowed st ih sound =
-        let f = ap (λ (f : Fields). f .refusal) (fields-step seen values left NotAllowed st) in
+        let f = ap (λ (f : Fields). f .refusal) (fields-step profile seen values left NotAllowed st) in
         let z : _≡_ {A = ℕ} 0 1 = cc in absurd (omega arith)
     go Broken st ih sound =
-        let f = ap (λ (f : Fields). f .refusal) (fields-step seen values left Broken st) in
+        let f = ap (λ (f : Fields). f .refusal) (fields-step profile seen values left Broken st) in
         let z : _≡_ {A = ℕ} 0 1 = cc in absurd (omega arith)
-    go End st ih sound = absurd (never-end seen left (omega arith) st)
+    go End st ih sound = absurd (never-end profile seen left (omega arith) st)

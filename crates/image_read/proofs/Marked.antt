@@ -7,18 +7,24 @@ use borrow.Author.Tests.{eqb-true, eqb-false}
 use lib.Dec.{eqb}
 use lib.ListN.{length, getD, drop, set, replicate}
 use lib.Seq.{getD-set-same, getD-set-other}
+use Rattle.settings.specs.declared.Profile.{Profile}
+use Rattle.profiles.specs.declared.Numbered.{Numbered}
+use Rattle.profiles.specs.declared.Numbered.the-variants.{Known, Unknown}
+use Rattle.profiles.specs.Numbers.{ifKnown}
 use Rattle.packet.specs.Packet.{monitorId}
 use Rattle.panels.specs.declared.Panel.{Panel}
 use Rattle.panels.specs.declared.Place.{Place}
 use Rattle.panels.specs.declared.Place.the-variants.{At, Nowhere}
-use Rattle.panels.specs.Wall.{Wall, blank, placeFrom}
+use Rattle.panels.specs.Wall.{Wall, placeFrom}
 use Rattle.panels.specs.Calls.{ifThere}
+use Rattle.forms.specs.declared.Form.{Form}
+use Rattle.forms.specs.Forms.{headSize, profileIn}
 use Rattle.image_read.specs.declared.Refusal.the-variants.{Record}
 use Rattle.image_read.specs.declared.ReadPanel.{ReadPanel}
 use Rattle.image_read.specs.Fields.{fieldsIn}
-use Rattle.image_read.specs.Read.{isSound, headFits, recordRefusal, panelIn}
-use Rattle.image_read.specs.Private.Marked.{Marks, headFitsBy, panelBy}
-use Rattle.image_read.proofs.Sound.{head-of}
+use Rattle.image_read.specs.Read.{isSound, headFits, recordRefusal, panelWith, panelIn}
+use Rattle.image_read.specs.Private.Marked.{Marks, headFitsBy, noPanel, panelBy}
+use Rattle.image_read.proofs.Sound.{head-of, panel-known}
 
 pub none-marked : (n : ℕ) → Marks (replicate n false) []
 unfolding placeFrom
@@ -56,8 +62,8 @@ one-more {seen} {w} p m h = record { marked = λ i. rw (there-snoc i 0 w p) (go 
     go i true e = subst (λ (j : ℕ). getD (set seen (p .id .0) true) j false ≡ true) (eqb-true _ _ e) (getD-set-same seen (p .id .0) true false h)
     go i false e = getD-set-other seen (p .id .0) i true false (λ s. eqb-false _ _ e (sym s)) ∙ m .marked i
 
-module _ {seen : List Bool} {w : Wall} (m : Marks seen w) (bytes : List ℕ) where
-  head-alike : headFitsBy seen bytes ≡ headFits w bytes
+module _ {seen : List Bool} {w : Wall} (m : Marks seen w) (form : Form) (bytes : List ℕ) where
+  head-alike : headFitsBy form seen bytes ≡ headFits form w bytes
   unfolding headFitsBy headFits
   head-alike = rw (m .marked (getD bytes 0 0), not-there (placeFrom (monitorId (getD bytes 0 0)) 0 w))
     where
@@ -65,16 +71,20 @@ module _ {seen : List Bool} {w : Wall} (m : Marks seen w) (bytes : List ℕ) whe
       not-there (At k) = refl
       not-there Nowhere = refl
 
-  pub refusal-alike : panelBy seen bytes .refusal ≡ recordRefusal w bytes
-  unfolding panelBy recordRefusal
-  refusal-alike = rw head-alike (go (headFits w bytes))
-    where
-      go : (t : Bool)
-          → cond {A = ReadPanel} t (record { refusal = fieldsIn (drop 2 bytes) .refusal; panel = panelIn bytes }) (record { refusal = Record; panel = blank }) .refusal
-          ≡ cond t (fieldsIn (drop 2 bytes) .refusal) Record
-      go true = refl
-      go false = refl
+  -- what is read of a profile, and what its fields are refused by
+  read-with : Profile → ReadPanel
+  read-with profile = record { refusal = fieldsIn profile (drop (headSize form) bytes) .refusal; panel = panelWith form bytes profile }
 
-  pub panel-alike : isSound (recordRefusal w bytes) ≡ true → panelBy seen bytes .panel ≡ panelIn bytes
+  pub refusal-alike : panelBy form seen bytes .refusal ≡ recordRefusal form w bytes
+  unfolding panelBy recordRefusal read-with
+  refusal-alike = rw head-alike (go (headFits form w bytes) (profileIn form bytes))
+    where
+      go : (t : Bool) (n : Numbered)
+          → cond t (ifKnown n read-with noPanel) noPanel .refusal ≡ cond t (ifKnown n (λ profile. read-with profile .refusal) Record) Record
+      go true (Known profile) = refl
+      go true Unknown = refl
+      go false n = refl
+
+  pub panel-alike : isSound (recordRefusal form w bytes) ≡ true → panelBy form seen bytes .panel ≡ panelIn form bytes
   unfolding panelBy
-  panel-alike e = rw (head-alike, head-of w bytes e)
+  panel-alike e = let (fit, (profile, known)) = head-of form w bytes e in rw (head-alike, fit, known) (sym (panel-known form bytes profile known))

@@ -6,6 +6,7 @@ use mathlib.Core.List.{List, [], _∷_, _++_}
 use lib.ListN.{length, drop, set}
 use Rattle.settings.specs.Settings.{setCode, byteCount}
 use Rattle.panels.specs.Wall.{Wall, valuesOf}
+use Rattle.forms.specs.declared.Form.{Form}
 use Rattle.image_read.specs.Read.{panelIn}
 use Rattle.image_read.specs.Entries.{Entry}
 
@@ -15,8 +16,8 @@ seenWith row seen = set seen row true
 abbrev pub behind : ℕ → List ℕ → List ℕ
 behind row left = drop (2 + byteCount row) left
 
-abbrev pub wallWith : Wall → List ℕ → Wall
-wallWith w bytes = w ++ panelIn bytes ∷ []
+abbrev pub wallWith : Form → Wall → List ℕ → Wall
+wallWith form w bytes = w ++ panelIn form bytes ∷ []
 
 abbrev pub entryOf : ℕ → List ℕ → Entry
 entryOf row values = record { code = setCode row; values = valuesOf row values }

@@ -1,14 +1,17 @@
 -- The fields of a record as they were meant, whatever their order: for the statements that fields go by code and not by
--- place. 01, "Setup image, form 1": reading takes fields in any order; a code not there means its fresh value.
+-- place. 01, "Setup image, form 1": reading takes fields in any order; a code not there means its fresh value, and 02, A2: that
+-- of the record's own profile.
 use Prim.Native.Nat.{ℕ, _<_}
 use mathlib.Core.Path.{_≡_}
-use mathlib.Core.Bool.{cond}
-use mathlib.Core.List.{List, [], _∷_, map, flatten}
+use mathlib.Core.Bool.{true, cond}
+use mathlib.Core.List.{List, [], _∷_, _++_, map, flatten}
 use lib.Dec.{eqb}
 use lib.ListN.{length}
-use Rattle.settings.specs.declared.Profile.the-variants.{General}
+use Rattle.settings.specs.declared.Profile.{Profile}
 use Rattle.settings.specs.Settings.{setCode, freshValues, rowCount}
 use Rattle.panels.specs.Wall.{valuesOf}
+use Rattle.forms.specs.declared.Form.{Form}
+use Rattle.forms.specs.Forms.{headOf, holds}
 use Rattle.image_read.specs.declared.Refusal.the-variants.{Nothing as Sound}
 use Rattle.image_read.specs.Fields.{fieldsIn}
 
@@ -22,8 +25,8 @@ unfolding flatten
 bytesOf es = flatten (map (λ (e : Entry). e .code ∷ length (e .values) ∷ e .values) es)
 
 -- a row's field at its fresh values
-abbrev pub freshEntry : ℕ → Entry
-freshEntry row = record { code = setCode row; values = valuesOf row (freshValues General) }
+abbrev pub freshEntry : Profile → ℕ → Entry
+freshEntry profile row = record { code = setCode row; values = valuesOf row (freshValues profile) }
 
 -- the same fields in another order
 pub data Permuted : List Entry → List Entry → Type 0 where
@@ -42,15 +45,20 @@ abbrev pub givenOr : List ℕ → ℕ → List Entry → List ℕ
 givenOr fresh row [] = fresh
 givenOr fresh row (e ∷ es) = cond (eqb (e .code) (setCode row)) (e .values) (givenOr fresh row es)
 
-abbrev pub given : ℕ → List Entry → List ℕ
-given row es = givenOr (valuesOf row (freshValues General)) row es
+abbrev pub given : Profile → ℕ → List Entry → List ℕ
+given profile row es = givenOr (valuesOf row (freshValues profile)) row es
 
 -- the second fields have no fault, and give each row what the first give it
-pub record GiveAlike (these those : List Entry) : Type 0 where
-  pub sound : fieldsIn (bytesOf those) .refusal ≡ Sound
-  pub rows : (row : ℕ) → row < rowCount → given row those ≡ given row these
+pub record GiveAlike (profile : Profile) (these those : List Entry) : Type 0 where
+  pub sound : fieldsIn profile (bytesOf those) .refusal ≡ Sound
+  pub rows : (row : ℕ) → row < rowCount → given profile row those ≡ given profile row these
 
--- two records with the same ID and group, and fields that stand in a relation
-abbrev pub SameHead : (List Entry → List Entry → Type 0) → List ℕ → List ℕ → Type 0
-SameHead P a b =
-    (id group : ℕ) × (these those : List Entry) × (a ≡ id ∷ group ∷ bytesOf these) × (b ≡ id ∷ group ∷ bytesOf those) × P these those
+-- a record of a form, whose head says ID, group and profile
+abbrev pub RecordOf : Form → ℕ → ℕ → Profile → List Entry → List ℕ → Type 0
+RecordOf form id group profile es bytes = (holds form profile ≡ true) × (bytes ≡ headOf form id group profile ++ bytesOf es)
+
+-- two records, each of its form, whose heads say the same, and fields that stand in a relation
+abbrev pub SameHead : (Profile → List Entry → List Entry → Type 0) → Form → Form → List ℕ → List ℕ → Type 0
+SameHead P f g a b =
+    (id group : ℕ) × (profile : Profile) × (these those : List Entry)
+    × RecordOf f id group profile these a × RecordOf g id group profile those b × P profile these those

@@ -12,9 +12,9 @@ use settings::Profile;
 use settings::ROW_COUNT;
 
 // What stands at the front of the bytes that are left, where some rows were seen before.
-fn step_at(left: &[u8], seen: &[bool]) -> Step
+fn step_at(profile: Profile, left: &[u8], seen: &[bool]) -> Step
     requires { ⌜ length (now seen) ≡ rowCount ⌝ }
-    ensures { λ r. ⌜ r ≡ stepAt (now (seen .entry)) (now (left .entry)) ⌝ }
+    ensures { λ r. ⌜ r ≡ stepAt profile (now (seen .entry)) (now (left .entry)) ⌝ }
 {
     let n = left.len();
     if n == 0 {
@@ -34,21 +34,21 @@ fn step_at(left: &[u8], seen: &[bool]) -> Step
     if left[1] as usize != count {
         return Step::Broken;
     }
-    if !settings::allowed(Profile::General, row, &left[2..2 + count]) {
+    if !settings::allowed(profile, row, &left[2..2 + count]) {
         return Step::NotAllowed;
     }
     Step::Field(row)
 }
 
-// The values of a panel whose record goes on with these bytes.
-pub fn fields_of(bytes: &[u8]) -> Fields
-    ensures { λ r. ⌜ r ≡ fieldsIn (now (bytes .entry)) ⌝ }
+// The values of a panel of a profile whose record goes on with these bytes.
+pub fn fields_of(profile: Profile, bytes: &[u8]) -> Fields
+    ensures { λ r. ⌜ r ≡ fieldsIn profile (now (bytes .entry)) ⌝ }
 {
-    let mut values = settings::fresh(Profile::General);
+    let mut values = settings::fresh(profile);
     let mut seen = [false; ROW_COUNT];
     let mut at = 0;
     loop {
-        let step = step_at(&bytes[at..], &seen);
+        let step = step_at(profile, &bytes[at..], &seen);
         match step {
             Step::Field(row) => {
                 let from = at + 2;

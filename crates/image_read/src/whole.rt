@@ -2,14 +2,24 @@
 ghost use mathlib.Core.Path.{_≡_};
 ghost use Prim.Native.Nat.{_+_, _*_, _≤_, _<_};
 ghost use lib.ListN.{length};
-ghost use Rattle.image_read.specs.Whole.{countOf, edge, startsFit, wholeRefusal};
+ghost use Rattle.image_read.specs.Whole.{formOf, countOf, edge, startsFit, wholeRefusal};
 use crate::Refusal;
+use forms::Form;
 use panels::MOST_PANELS;
 
 fn wide(b: u8) -> usize
     ensures { λ r. ⌜ (r ≡ b) × (r < 256) ⌝ }
 {
     b as usize
+}
+
+// The form, by the last byte of an image that has one.
+pub fn form_of(image: &[u8]) -> Form
+    requires { ⌜ 2 ≤ length (now image) ⌝ }
+    ensures { λ r. ⌜ r ≡ formOf (now (image .entry)) ⌝ }
+{
+    let n = image.len();
+    forms::with_byte(image[n - 1])
 }
 
 // The trailer's count, of an image of at least two bytes.
@@ -62,7 +72,7 @@ pub fn refusal_of(image: &[u8]) -> Refusal
     if len < 2 {
         return Refusal::TooShort;
     }
-    if image[len - 1] != 1 {
+    if !forms::is_form(image[len - 1]) {
         return Refusal::OtherForm;
     }
     let n = count_of(image);

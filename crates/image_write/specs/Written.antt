@@ -1,11 +1,12 @@
--- The setup image of a wall. 01, "Setup image, form 1"; 02, A1: refusal 31.
+-- The setup image of a wall, in either form. 01, "Setup image, form 1"; 02, A2, and refusal 31.
 use Prim.Native.Nat.{ℕ, _+_, _*_, _/_, _%_}
 use mathlib.Core.Bool.{Bool, true, cond, _&&_}
 use mathlib.Core.List.{List, [], _∷_, _++_, map, flatten}
-use lib.Dec.{leb, eqb}
+use lib.Dec.{leb}
 use lib.ListN.{length}
-use Rattle.profiles.specs.Numbers.{profileNumber}
 use Rattle.settings.specs.Settings.{setCode, byteCount, rowCount, valueCount}
+use Rattle.forms.specs.declared.Form.{Form}
+use Rattle.forms.specs.Forms.{formByte, headSize, headOf, holds}
 use Rattle.lists.specs.Lists.{startOf, each, laidOver}
 use Rattle.panels.specs.declared.Panel.{Panel}
 use Rattle.panels.specs.Wall.{Wall, valuesOf}
@@ -16,15 +17,15 @@ use Rattle.image_write.specs.declared.Written.the-variants.{Bytes, Would
 abbrev pub fieldHead : ℕ
 fieldHead = 2
 
--- how many the fields of a record have, the record with ID and group, and a panel in all, with the two bytes of its start
+-- how many the fields of a record have, the record with its head, and a panel in all, with the two bytes of its start
 abbrev pub fieldsSize : ℕ
 fieldsSize = fieldHead * rowCount + valueCount
 
-abbrev pub recordSize : ℕ
-recordSize = 2 + fieldsSize
+unfoldable pub recordSize : Form → ℕ
+recordSize form = headSize form + fieldsSize
 
-abbrev pub panelSize : ℕ
-panelSize = recordSize + 2
+abbrev pub panelSize : Form → ℕ
+panelSize form = recordSize form + 2
 
 -- a field: set code, length, values
 abbrev pub field : ℕ → List ℕ → List ℕ
@@ -34,10 +35,10 @@ field row values = setCode row ∷ byteCount row ∷ values
 unfoldable pub fieldsOf : List ℕ → List (List ℕ)
 fieldsOf values = each (λ row. field row (valuesOf row values)) rowCount
 
--- a record: ID, group, then fields
-unfoldable pub recordOf : Panel → List ℕ
+-- a record: the head, then fields
+unfoldable pub recordOf : Form → Panel → List ℕ
 unfolding flatten
-recordOf p = p .id .0 ∷ p .group .0 ∷ flatten (fieldsOf (p .values))
+recordOf form p = headOf form (p .id .0) (p .group .0) (p .profile) ++ flatten (fieldsOf (p .values))
 
 -- a start as two bytes, high byte first
 abbrev pub highLow : ℕ → List ℕ
@@ -47,27 +48,31 @@ highLow n = n / 256 ∷ n % 256 ∷ []
 unfoldable pub startsOf : List (List ℕ) → List (List ℕ)
 startsOf records = each (λ k. highLow (startOf records k)) (length records)
 
--- records first, the trailer last: n starts, then n, then the form byte 1
-unfoldable pub imageOf : List (List ℕ) → List ℕ
+-- records first, the trailer last: n starts, then n, then the form byte
+unfoldable pub imageOf : Form → List (List ℕ) → List ℕ
 unfolding flatten
-imageOf records = flatten records ++ flatten (startsOf records) ++ length records ∷ 1 ∷ []
+imageOf form records = flatten records ++ flatten (startsOf records) ++ length records ∷ formByte form ∷ []
 
 -- panels in table order
-abbrev pub recordsOf : Wall → List (List ℕ)
-recordsOf w = map recordOf w
+abbrev pub recordsOf : Form → Wall → List (List ℕ)
+recordsOf form w = map (recordOf form) w
+
+abbrev pub setupOf : Form → Wall → List ℕ
+setupOf form w = imageOf form (recordsOf form w)
 
 -- how many bytes that is: behind the starts stand n and the form byte
-abbrev pub sizeOf : Wall → ℕ
-sizeOf w = panelSize * length w + 2
+abbrev pub sizeOf : Form → Wall → ℕ
+sizeOf form w = panelSize form * length w + 2
 
--- form 1 has no room for a profile: it holds general panels, whose number is 0, and would lose any other profile
-unfoldable pub losesNothing : Wall → Bool
-losesNothing [] = true
-losesNothing (p ∷ w) = eqb (profileNumber (p .profile)) 0 && losesNothing w
+-- a form holds all that a wall has: for each panel it has room
+unfoldable pub losesNothing : Form → Wall → Bool
+losesNothing form [] = true
+losesNothing form (p ∷ w) = holds form (p .profile) && losesNothing form w
 
 -- what writing answers: 31 comes before 19
-unfoldable pub writtenOf : Wall → List ℕ → Written
-writtenOf w out = cond (losesNothing w) (cond (leb (sizeOf w) (length out)) (Bytes (sizeOf w)) NoRoom) WouldLose
+unfoldable pub writtenOf : Form → Wall → List ℕ → Written
+writtenOf form w out =
+    cond (losesNothing form w) (cond (leb (sizeOf form w) (length out)) (Bytes (sizeOf form w)) NoRoom) WouldLose
 
 -- how many bytes were written, none on a refusal
 abbrev pub bytesWritten : Written → ℕ
@@ -76,5 +81,5 @@ bytesWritten WouldLose = 0
 bytesWritten NoRoom = 0
 
 -- the output after it: past the image it is untouched, and on a refusal it is as before
-unfoldable pub outputOf : Wall → List ℕ → List ℕ
-outputOf w out = cond (losesNothing w && leb (sizeOf w) (length out)) (laidOver (imageOf (recordsOf w)) out) out
+unfoldable pub outputOf : Form → Wall → List ℕ → List ℕ
+outputOf form w out = cond (losesNothing form w && leb (sizeOf form w) (length out)) (laidOver (setupOf form w) out) out

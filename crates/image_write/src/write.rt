@@ -8,10 +8,10 @@ ghost use Rattle.lists.specs.Lists.{each, laidAt};
 ghost use Rattle.panels.specs.Wall.{valuesOf, panelsOf, mostPanels};
 ghost use Rattle.panels.specs.WellFormed.{WellFormed};
 ghost use Rattle.image_write.specs.Written.{field, fieldsOf, recordOf, recordsOf, highLow, fieldHead, fieldsSize, recordSize, panelSize};
+ghost use Rattle.forms.specs.Forms.{headSize, headOf};
 use crate::FIELD_HEAD;
-use crate::RECORD_HEAD;
-use crate::RECORD_SIZE;
 use crate::START_SIZE;
+use forms::Form;
 use panels::Panel;
 use panels::Table;
 use settings::ROW_COUNT;
@@ -43,39 +43,57 @@ fn all_fields(out: &mut [u8], at: usize, values: [u8; VALUE_COUNT])
     }
 }
 
-// A record: ID, group, then fields.
-fn one_record(out: &mut [u8], at: usize, p: Panel)
-    requires { ⌜ (length (p .values) ≡ valueCount) × (at + recordSize ≤ length (now out)) ⌝ }
-    ensures { λ _. ⌜ now (out .exit) ≡ laidAt at (recordOf p) (now (out .entry)) ⌝ }
+// A record's head: ID, group, and in form 2 the profile's number.
+fn head(form: Form, out: &mut [u8], at: usize, p: Panel)
+    requires { ⌜ at + headSize form ≤ length (now out) ⌝ }
+    ensures { λ _. ⌜ now (out .exit) ≡ laidAt at (headOf form (p .id .0) (p .group .0) (p .profile)) (now (out .entry)) ⌝ }
 {
     out[at] = p.id.0;
     out[at + 1] = p.group.0;
+    match form {
+        Form::One => {}
+        Form::Two => {
+            let profile = p.profile;
+            out[at + 2] = profiles::number_of(profile);
+        }
+    }
+}
+
+// A record: its head, then fields.
+fn one_record(form: Form, out: &mut [u8], at: usize, p: Panel)
+    requires { ⌜ (length (p .values) ≡ valueCount) × (at + recordSize form ≤ length (now out)) ⌝ }
+    ensures { λ _. ⌜ now (out .exit) ≡ laidAt at (recordOf form p) (now (out .entry)) ⌝ }
+{
+    head(form, out, at, p);
     let values = p.values;
-    all_fields(out, at + RECORD_HEAD, values);
+    all_fields(out, at + forms::head_size(form), values);
 }
 
 // The records, in table order.
-pub fn records(out: &mut [u8], t: Table)
-    requires { ⌜ WellFormed t × (recordSize * (t .count) ≤ length (now out)) ⌝ }
-    ensures { λ _. ⌜ now (out .exit) ≡ laidAt 0 (flatten (recordsOf (panelsOf t))) (now (out .entry)) ⌝ }
+pub fn records(form: Form, out: &mut [u8], t: Table)
+    requires { ⌜ WellFormed t × (recordSize form * (t .count) ≤ length (now out)) ⌝ }
+    ensures { λ _. ⌜ now (out .exit) ≡ laidAt 0 (flatten (recordsOf form (panelsOf t))) (now (out .entry)) ⌝ }
 {
+    let size = crate::record_size(form);
     let mut k = 0;
     while k < t.count {
         let p = t.panels[k];
-        one_record(out, RECORD_SIZE * k, p);
+        one_record(form, out, size * k, p);
         k += 1;
     }
 }
 
 // The starts of n records, behind the last of them, high byte first.
-pub fn starts(out: &mut [u8], n: usize)
-    requires { ⌜ (n ≤ mostPanels) × (panelSize * n ≤ length (now out)) ⌝ }
-    ensures { λ _. ⌜ now (out .exit) ≡ laidAt (recordSize * n) (flatten (each (λ k. highLow (recordSize * k)) n)) (now (out .entry)) ⌝ }
+pub fn starts(form: Form, out: &mut [u8], n: usize)
+    requires { ⌜ (n ≤ mostPanels) × (panelSize form * n ≤ length (now out)) ⌝ }
+    ensures { λ _. ⌜ now (out .exit) ≡ laidAt (recordSize form * n) (flatten (each (λ k. highLow (recordSize form * k)) n)) (now (out .entry)) ⌝ }
 {
+    let size = crate::record_size(form);
+    let end = size * n;
     let mut k = 0;
     while k < n {
-        let start = RECORD_SIZE * k;
-        let at = RECORD_SIZE * n + START_SIZE * k;
+        let start = size * k;
+        let at = end + START_SIZE * k;
         out[at] = (start / 256) as u8;
         out[at + 1] = (start % 256) as u8;
         k += 1;

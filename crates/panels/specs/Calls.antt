@@ -5,8 +5,7 @@ use mathlib.Core.List.{[], _∷_, _++_}
 use lib.Dec.{eqb, leb}
 use lib.ListN.{length, take, drop}
 use Rattle.profiles.specs.declared.Numbered.{Numbered}
-use Rattle.profiles.specs.declared.Numbered.the-variants.{Known, Unknown}
-use Rattle.profiles.specs.Numbers.{profileWith}
+use Rattle.profiles.specs.Numbers.{profileWith, ifKnown}
 use Rattle.packet.specs.declared.MonitorId.{MonitorId}
 use Rattle.packet.specs.declared.GroupId.{GroupId}
 use Rattle.panels.specs.declared.Place.{Place}
@@ -30,20 +29,15 @@ abbrev pub ifThere : {A : Type 0} → Place → A → A → A
 ifThere (At k) a b = a
 ifThere Nowhere a b = b
 
-abbrev pub ifKnown : {A : Type 0} → Numbered → A → A → A
-ifKnown (Known profile) a b = a
-ifKnown Unknown a b = b
-
 unfoldable pub addRefusal : Wall → MonitorId → GroupId → ℕ → Refusal
 addRefusal w i g n =
     cond (leb mostPanels (length w)) Full
     (cond (eqb (i .0) 0) IdZero
-    (ifThere (placeOf i w) IdTaken (cond (eqb (g .0) 0) GroupZero (ifKnown (profileWith n) Nothing UnknownProfile))))
+    (ifThere (placeOf i w) IdTaken (cond (eqb (g .0) 0) GroupZero (ifKnown (profileWith n) (λ profile. Nothing) UnknownProfile))))
 
 -- the fresh panel of a profile, if there is one
 abbrev pub freshOf : Numbered → MonitorId → GroupId → Wall
-freshOf (Known profile) i g = freshPanel i g profile ∷ []
-freshOf Unknown i g = []
+freshOf numbered i g = ifKnown numbered (λ profile. freshPanel i g profile ∷ []) []
 
 -- that panel at the end, unless it is refused
 unfoldable pub added : Wall → MonitorId → GroupId → ℕ → Wall

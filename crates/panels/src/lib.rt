@@ -56,7 +56,7 @@ pub struct Changed {
     pub table: Table,
 }
 
-fn blank_panel() -> Panel
+pub fn blank_panel() -> Panel
     ensures { λ r. ⌜ r ≡ blank ⌝ }
 {
     Panel {

@@ -13,3 +13,8 @@ profileNumber Phoenix = 1
 
 unfoldable pub profileWith : ℕ → Numbered
 profileWith n = cond (eqb n 0) (Known General) (cond (eqb n 1) (Known Phoenix) Unknown)
+
+-- what comes of the profile that a number has, and what comes where it has none
+abbrev pub ifKnown : {A : Type 0} → Numbered → (Profile → A) → A → A
+ifKnown (Known profile) some none = some profile
+ifKnown Unknown some none = none

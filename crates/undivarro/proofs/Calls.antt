@@ -11,7 +11,7 @@ use Rattle.lists.proofs.Both.{both}
 use Rattle.packet.specs.declared.Verdict.{Verdict}
 use Rattle.packet.specs.declared.Verdict.the-variants.{Empty, Damaged, Intact}
 use Rattle.packet.specs.Packet.{verdictOf, dataOf, longest}
-use Rattle.panels.specs.Wall.{Wall, tableOf, panelsOf}
+use Rattle.panels.specs.Wall.{Wall, panelsOf}
 use Rattle.panels.specs.WellFormed.{WellFormed}
 use Rattle.panels.proofs.Laws.{panels-of-table}
 use Rattle.answers.specs.declared.Reply.{Reply}
@@ -20,28 +20,27 @@ use Rattle.answers.specs.Reply.{sentBytes, silence}
 use Rattle.answers.specs.Judged.{command}
 use Rattle.answers.specs.Played.{turned, playedBy, played}
 use Rattle.answers.specs.Played as answers
-use Rattle.answers.proofs.Formed.{played-profiles, played-formed}
+use Rattle.answers.proofs.Formed.{played-formed}
+use Rattle.forms.specs.declared.Form.{Form}
 use Rattle.image_read.specs.declared.Refusal.{Refusal}
 use Rattle.image_read.specs.declared.Read.{Read}
-use Rattle.image_write.specs.Written.{sizeOf, losesNothing, panelSize}
-use Rattle.image_write.proofs.Losing.{by-profiles}
-use Rattle.image.proofs.General.{read-general}
+use Rattle.image_write.specs.Written.{setupOf, sizeOf, losesNothing, panelSize}
 use Rattle.image_read.specs.Read.{isSound, readRefusalOf, readOf, inTable}
 use Rattle.image_read.proofs.Sound.{read-formed}
-use Rattle.undivarro.specs.Calls.{refused, given, refusalFor, afterPlay}
-use Rattle.undivarro.specs.Private.Setup.{setupOf}
+use Rattle.undivarro.specs.Calls.{refused, given, refusalFor, afterBurst}
 
--- where nothing is refused there is room
-room-there : (read : Refusal) (room : Bool) → refusalFor read room ≡ 0 → room ≡ true
+-- where nothing is refused nothing would be lost, and there is room
+all-there : (read : Refusal) (held room : Bool) → refusalFor read held room ≡ 0 → (held ≡ true) × (room ≡ true)
 unfolding refusalFor
-room-there read room e = go (isSound read) refl room e
+all-there read held room e = go (isSound read) refl held room e
   where
-    go : (t : Bool) → isSound read ≡ t → (b : Bool) → cond t (cond b 0 19) (readRefusalOf read) ≡ 0 → b ≡ true
-    go true s true e = refl
-    go true s false e = absurd (omega arith)
-    go false s b e = absurd (eqb-false _ 0 s e)
+    go : (t : Bool) → isSound read ≡ t → (a b : Bool) → cond t (cond a (cond b 0 19) 31) (readRefusalOf read) ≡ 0 → (a ≡ true) × (b ≡ true)
+    go true s true true e = (refl, refl)
+    go true s true false e = absurd (omega arith)
+    go true s false b e = absurd (omega arith)
+    go false s a b e = absurd (eqb-false _ 0 s e)
 
--- What was read, and the test of the room.
+-- What was read, and the tests of what would be lost and of the room.
 module _ (image : List ℕ) (read : Read) (is-read : read ≡ inTable (readOf image)) where
   pub formed-read : WellFormed (read .table)
   formed-read = subst WellFormed (sym (ap (λ (r : Read). r .table) is-read)) (read-formed image)
@@ -49,23 +48,18 @@ module _ (image : List ℕ) (read : Read) (is-read : read ≡ inTable (readOf im
   pub wall-read : panelsOf (read .table) ≡ readOf image .wall
   wall-read = ap (λ (r : Read). panelsOf (r .table)) is-read ∙ panels-of-table (readOf image .wall)
 
-  pub general-read : losesNothing (panelsOf (read .table)) ≡ true
-  general-read = ap losesNothing wall-read ∙ read-general image
-
-  count-read : read .table .count ≡ length (readOf image .wall)
-  unfolding tableOf
-  count-read = ap (λ (r : Read). r .table .count) is-read
-
-  module _ (answer out : ℕ) (room : Bool) (is-room : room ≡ (leb longest answer && leb (panelSize * read .table .count + 2) out)) (n : ℕ) (is-refusal : n ≡ refusalFor (read .refusal) room) where
-    pub refusal-is : n ≡ refusalFor (readOf image .refusal) (leb longest answer && leb (sizeOf (readOf image .wall)) out)
+  module _ (form : Form) (answer out : ℕ) (held room : Bool) (is-held : held ≡ losesNothing form (panelsOf (read .table)))
+      (is-room : room ≡ (leb longest answer && leb (sizeOf form (panelsOf (read .table))) out)) (n : ℕ) (is-refusal : n ≡ refusalFor (read .refusal) held room) where
+    pub refusal-is : n ≡ refusalFor (readOf image .refusal) (losesNothing form (readOf image .wall)) (leb longest answer && leb (sizeOf form (readOf image .wall)) out)
     refusal-is =
-        is-refusal
-        ∙ ap₂ refusalFor (ap (λ (r : Read). r .refusal) is-read) (is-room ∙ ap (λ (k : ℕ). leb longest answer && leb (panelSize * k + 2) out) count-read)
+        is-refusal ∙ ap (λ (r : Read). refusalFor (r .refusal) held room) is-read
+        ∙ ap₂ (refusalFor (readOf image .refusal)) (is-held ∙ ap (losesNothing form) wall-read) (is-room ∙ ap (λ (w : Wall). leb longest answer && leb (sizeOf form w) out) wall-read)
 
-    pub enough : n ≡ 0 → (longest ≤ answer) × (sizeOf (readOf image .wall) ≤ out)
+    pub enough : n ≡ 0 → (losesNothing form (readOf image .wall) ≡ true) × ((longest ≤ answer) × (sizeOf form (readOf image .wall) ≤ out))
     enough z =
-        let (a, b) = both _ _ (room-there (readOf image .refusal) _ (sym refusal-is ∙ z)) in
-        (leb-true _ _ a, leb-true _ _ b)
+        let (held, room) = all-there (readOf image .refusal) _ _ (sym refusal-is ∙ z) in
+        let (a, b) = both _ _ room in
+        (held, (leb-true _ _ a, leb-true _ _ b))
 
 -- a burst leaves as many panels as there were
 by-verdict-count : (v : Verdict) (w : Wall) (b : List ℕ) → length (playedBy v w b .wall) ≡ length w
@@ -89,29 +83,26 @@ module _ (image burst : List ℕ) (read : Read) (is-read : read ≡ inTable (rea
   wall-played : panelsOf (p .table) ≡ played (readOf image .wall) burst .wall
   wall-played = ap (λ (q : Played). panelsOf (q .table)) same-played ∙ panels-of-table _
 
-  pub general-played : losesNothing (panelsOf (p .table)) ≡ true
-  general-played =
-      ap losesNothing wall-played ∙ by-profiles _ (readOf image .wall) (played-profiles (readOf image .wall) burst) ∙ read-general image
+  pub size-played : (form : Form) → sizeOf form (panelsOf (p .table)) ≡ sizeOf form (readOf image .wall)
+  size-played form = ap (λ (k : ℕ). panelSize form * k + 2) (ap length wall-played ∙ played-count (readOf image .wall) burst)
 
-  pub size-played : sizeOf (panelsOf (p .table)) ≡ sizeOf (readOf image .wall)
-  size-played = ap (λ (k : ℕ). panelSize * k + 2) (ap length wall-played ∙ played-count (readOf image .wall) burst)
-
-  pub given-played : (answer out : List ℕ)
-      → given (sentBytes (p .reply)) (setupOf (panelsOf (p .table))) answer out
-      ≡ given (sentBytes (played (readOf image .wall) burst .reply)) (setupOf (played (readOf image .wall) burst .wall)) answer out
-  given-played answer out =
-      ap₂ (λ (r : Reply) (w : Wall). given (sentBytes r) (setupOf w) answer out) (ap (λ (q : Played). q .reply) same-played) wall-played
+  pub given-played : (form : Form) (answer out : List ℕ)
+      → given (sentBytes (p .reply)) (setupOf form (panelsOf (p .table))) answer out
+      ≡ given (sentBytes (played (readOf image .wall) burst .reply)) (setupOf form (played (readOf image .wall) burst .wall)) answer out
+  given-played form answer out =
+      ap₂ (λ (r : Reply) (w : Wall). given (sentBytes r) (setupOf form w) answer out) (ap (λ (q : Played). q .reply) same-played) wall-played
 
 -- Both ends of each call.
-module _ (image burst answer out : List ℕ) (n : ℕ)
-    (is : n ≡ refusalFor (readOf image .refusal) (leb longest (length answer) && leb (sizeOf (readOf image .wall)) (length out))) where
-  pub play-refused : (n ≡ 0 → ⊥) → refused n answer out ≡ afterPlay image burst answer out
-  unfolding afterPlay
+module _ (form : Form) (image burst answer out : List ℕ) (n : ℕ)
+    (is : n ≡ refusalFor (readOf image .refusal) (losesNothing form (readOf image .wall)) (leb longest (length answer) && leb (sizeOf form (readOf image .wall)) (length out))) where
+  pub play-refused : (n ≡ 0 → ⊥) → refused n answer out ≡ afterBurst form image burst answer out
+  unfolding afterBurst
   play-refused h = sym (rw (sym is, ne-eqb n 0 h))
 
   pub play-given : n ≡ 0
-      → given (sentBytes (played (readOf image .wall) burst .reply)) (setupOf (played (readOf image .wall) burst .wall)) answer out ≡ afterPlay image burst answer out
-  unfolding afterPlay
+      → given (sentBytes (played (readOf image .wall) burst .reply)) (setupOf form (played (readOf image .wall) burst .wall)) answer out
+      ≡ afterBurst form image burst answer out
+  unfolding afterBurst
   play-given z = sym (rw (sym is, eq-eqb n 0 z))
 
 -- no bytes are played

@@ -1,4 +1,5 @@
--- What a call from C leaves: three numbers, and every byte of both buffers. 01, "For C".
+-- What a call from C leaves: three numbers, and every byte of both buffers. 01, "For C"; 02, A2: play and read write form 2, and
+-- back writes form 1.
 use Prim.Native.Nat.{ℕ}
 use mathlib.Core.Bool.{Bool, cond, _&&_}
 use mathlib.Core.List.{List, []}
@@ -9,7 +10,9 @@ use Rattle.lists.specs.Lists.{laidOver}
 use Rattle.answers.specs.Reply.{sentBytes}
 use Rattle.answers.specs.Played.{played}
 use Rattle.image_read.specs.declared.Refusal.{Refusal}
-use Rattle.image_write.specs.Written.{recordsOf, imageOf, sizeOf}
+use Rattle.forms.specs.declared.Form.{Form}
+use Rattle.forms.specs.declared.Form.the-variants.{One, Two}
+use Rattle.image_write.specs.Written.{setupOf, sizeOf, losesNothing}
 use Rattle.image_read.specs.Read.{isSound, readRefusalOf, readOf}
 use Rattle.undivarro.specs.declared.Outcome.{Outcome}
 
@@ -19,8 +22,11 @@ pub record After : Type 0 where
   pub out : List ℕ
 
 -- both lengths 0, both buffers as before
+abbrev pub refusedBy : ℕ → Outcome
+refusedBy number = record { refusal = number; answered = 0; written = 0 }
+
 abbrev pub refused : ℕ → List ℕ → List ℕ → After
-refused number answer out = record { outcome = record { refusal = number; answered = 0; written = 0 }; answer = answer; out = out }
+refused number answer out = record { outcome = refusedBy number; answer = answer; out = out }
 
 -- an answer and an image at the front of the buffers, and their lengths; the bytes past them are untouched
 abbrev pub given : List ℕ → List ℕ → List ℕ → List ℕ → After
@@ -30,18 +36,29 @@ given sent setup answer out = record {
   out = laidOver setup out;
 }
 
--- reading faults are 11 to 18; then 19 where there is no room
-unfoldable pub refusalFor : Refusal → Bool → ℕ
-refusalFor read room = cond (isSound read) (cond room 0 19) (readRefusalOf read)
+-- reading faults are 11 to 18; then 31 where the form would lose something; then 19 where there is no room
+unfoldable pub refusalFor : Refusal → Bool → Bool → ℕ
+refusalFor read held room = cond (isSound read) (cond held (cond room 0 19) 31) (readRefusalOf read)
 
--- there is room where the answer buffer has it for any packet, and the output for the image
-unfoldable pub afterPlay : List ℕ → List ℕ → List ℕ → List ℕ → After
-afterPlay image burst answer out =
+-- A burst played, and the setup then written in a form. There is room where the answer buffer has it for any packet, and the
+-- output for the image.
+unfoldable pub afterBurst : Form → List ℕ → List ℕ → List ℕ → List ℕ → After
+afterBurst form image burst answer out =
     let r = readOf image in
     let o = played (r .wall) burst in
-    let n = refusalFor (r .refusal) (leb longest (length answer) && leb (sizeOf (r .wall)) (length out)) in
-    cond (eqb n 0) (given (sentBytes (o .reply)) (imageOf (recordsOf (o .wall))) answer out) (refused n answer out)
+    let room = leb longest (length answer) && leb (sizeOf form (r .wall)) (length out) in
+    let n = refusalFor (r .refusal) (losesNothing form (r .wall)) room in
+    cond (eqb n 0) (given (sentBytes (o .reply)) (setupOf form (o .wall)) answer out) (refused n answer out)
 
--- reading is playing no bytes, where there is room for an answer
-unfoldable pub afterRead : List ℕ → List ℕ → After
-afterRead image out = afterPlay image [] (replicate longest 0) out
+-- writing a setup again in a form is playing no bytes, where there is room for an answer
+unfoldable pub afterMove : Form → List ℕ → List ℕ → After
+afterMove form image out = afterBurst form image [] (replicate longest 0) out
+
+abbrev pub afterPlay : List ℕ → List ℕ → List ℕ → List ℕ → After
+afterPlay = afterBurst Two
+
+abbrev pub afterRead : List ℕ → List ℕ → After
+afterRead = afterMove Two
+
+abbrev pub afterBack : List ℕ → List ℕ → After
+afterBack = afterMove One

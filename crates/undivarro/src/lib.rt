@@ -1,22 +1,20 @@
 // The exported functions, for C: a setup image read, a burst played on it, and the setup written out again.
 ghost use mathlib.Core.Path.{_≡_};
-ghost use Prim.Native.Nat.{_+_, _*_, _≤_};
+ghost use Prim.Native.Nat.{_≤_};
 ghost use mathlib.Core.Bool.{true, _&&_};
 ghost use lib.Dec.{leb};
 ghost use lib.ListN.{length};
 ghost use Rattle.packet.specs.Packet.{longest};
 ghost use Rattle.lists.specs.Lists.{laidOver};
-ghost use Rattle.panels.specs.Wall.{panelsOf, mostPanels};
+ghost use Rattle.panels.specs.Wall.{panelsOf};
 ghost use Rattle.panels.specs.WellFormed.{WellFormed};
 ghost use Rattle.answers.specs.Reply.{sentBytes};
-ghost use Rattle.image_write.specs.Written.{sizeOf, losesNothing, panelSize};
-ghost use Rattle.undivarro.specs.Private.Setup.{setupOf};
-ghost use Rattle.undivarro.specs.Calls.{refusalFor, afterPlay, afterRead};
+ghost use Rattle.image_write.specs.Written.{sizeOf, setupOf, losesNothing};
+ghost use Rattle.undivarro.specs.Calls.{refusedBy, refusalFor, afterMove, afterPlay, afterRead, afterBack};
 use answers::Reply;
 use answers::Sent;
+use forms::Form;
 use image_read::Refusal;
-use image_write::PANEL_SIZE;
-use image_write::TRAILER_SIZE;
 use image_write::Written;
 use packet::LONGEST;
 use panels::Table;
@@ -29,26 +27,40 @@ pub struct Outcome {
     pub written: u32,
 }
 
-// Room for any answer, and for the image of n panels.
-fn has_room(n: usize, answer: usize, out: usize) -> bool
-    requires { ⌜ n ≤ mostPanels ⌝ }
-    ensures { λ r. ⌜ r ≡ (leb longest answer && leb (panelSize * n + 2) out) ⌝ }
+// Room for any answer, and for a table's image.
+fn has_room(form: Form, t: Table, answer: usize, out: usize) -> bool
+    requires { ⌜ WellFormed t ⌝ }
+    ensures { λ r. ⌜ r ≡ (leb longest answer && leb (sizeOf form (panelsOf t)) out) ⌝ }
 {
     if answer < LONGEST {
         return false;
     }
-    PANEL_SIZE * n + TRAILER_SIZE <= out
+    image_write::size_of(form, t) <= out
 }
 
-// 11 to 18 for what was read, then 19 where there is no room, else 0.
-fn refusal_for(read: Refusal, room: bool) -> u32
-    ensures { λ r. ⌜ r ≡ refusalFor read room ⌝ }
+// 11 to 18 for what was read, then 31 where something would be lost, then 19 where there is no room, else 0.
+fn refusal_for(read: Refusal, held: bool, room: bool) -> u32
+    ensures { λ r. ⌜ r ≡ refusalFor read held room ⌝ }
 {
     let number = image_read::refusal_number(read);
     if number != 0 {
         return number as u32;
     }
+    if !held {
+        return 31;
+    }
     if room { 0 } else { 19 }
+}
+
+// A refusal leaves nothing.
+fn refused(refusal: u32) -> Outcome
+    ensures { λ r. ⌜ r ≡ refusedBy refusal ⌝ }
+{
+    Outcome {
+        refusal,
+        answered: 0,
+        written: 0,
+    }
 }
 
 // The answer at the front of an output with room for it, and its length.
@@ -64,13 +76,13 @@ fn put_answer(reply: Reply, out: &mut [u8]) -> u32
     }
 }
 
-// The image of a table that the form holds, at the front of an output with room for it, and its length.
-fn put_setup(t: Table, out: &mut [u8]) -> u32
-    requires { ⌜ WellFormed t × (losesNothing (panelsOf t) ≡ true) × (sizeOf (panelsOf t) ≤ length (now out)) ⌝ }
-    ensures { λ r. ⌜ r ≡ length (setupOf (panelsOf t)) ⌝ }
-    ensures { λ _. ⌜ now (out .exit) ≡ laidOver (setupOf (panelsOf t)) (now (out .entry)) ⌝ }
+// The image of a table that a form holds, at the front of an output with room for it, and its length.
+fn put_setup(form: Form, t: Table, out: &mut [u8]) -> u32
+    requires { ⌜ WellFormed t × (losesNothing form (panelsOf t) ≡ true) × (sizeOf form (panelsOf t) ≤ length (now out)) ⌝ }
+    ensures { λ r. ⌜ r ≡ length (setupOf form (panelsOf t)) ⌝ }
+    ensures { λ _. ⌜ now (out .exit) ≡ laidOver (setupOf form (panelsOf t)) (now (out .entry)) ⌝ }
 {
-    let written = image_write::write_image(t, out);
+    let written = image_write::write_image(form, t, out);
     match written {
         Written::Bytes(n) => n as u32,
         Written::WouldLose => 0,
@@ -78,7 +90,28 @@ fn put_setup(t: Table, out: &mut [u8]) -> u32
     }
 }
 
-// A burst played on a setup image: the answer, and the setup as it then is.
+// A setup image of either form read, and its table written in a form.
+fn moved(form: Form, image: &[u8], out: &mut [u8]) -> Outcome
+    ensures { λ r. ⌜ r ≡ afterMove form (now (image .entry)) (now (out .entry)) .outcome ⌝ }
+    ensures { λ _. ⌜ now (out .exit) ≡ afterMove form (now (image .entry)) (now (out .entry)) .out ⌝ }
+{
+    let read = image_read::read_image(image);
+    let table = read.table;
+    let why = read.refusal;
+    let held = image_write::loses_nothing(form, table);
+    let refusal = refusal_for(why, held, has_room(form, table, LONGEST, out.len()));
+    if refusal != 0 {
+        return refused(refusal);
+    }
+    let written = put_setup(form, table, out);
+    Outcome {
+        refusal: 0,
+        answered: 0,
+        written,
+    }
+}
+
+// A burst played on a setup image of either form: the answer, and the setup as it then is, in form 2, which holds every table.
 #[no_mangle]
 pub extern "C" fn undivarro_play(
     image: &[u8],
@@ -93,19 +126,16 @@ pub extern "C" fn undivarro_play(
     let read = image_read::read_image(image);
     let table = read.table;
     let why = read.refusal;
-    let refusal = refusal_for(why, has_room(table.count, answer.len(), out.len()));
+    let room = has_room(Form::Two, table, answer.len(), out.len());
+    let refusal = refusal_for(why, true, room);
     if refusal != 0 {
-        return Outcome {
-            refusal,
-            answered: 0,
-            written: 0,
-        };
+        return refused(refusal);
     }
     let played = answers::play(table, burst);
     let reply = played.reply;
     let after = played.table;
     let answered = put_answer(reply, answer);
-    let written = put_setup(after, out);
+    let written = put_setup(Form::Two, after, out);
     Outcome {
         refusal: 0,
         answered,
@@ -113,27 +143,20 @@ pub extern "C" fn undivarro_play(
     }
 }
 
-// A setup image read, and its table written out again.
+// A setup image of either form, written in form 2.
 #[no_mangle]
 pub extern "C" fn undivarro_read(image: &[u8], out: &mut [u8]) -> Outcome
     ensures { λ r. ⌜ r ≡ afterRead (now (image .entry)) (now (out .entry)) .outcome ⌝ }
     ensures { λ _. ⌜ now (out .exit) ≡ afterRead (now (image .entry)) (now (out .entry)) .out ⌝ }
 {
-    let read = image_read::read_image(image);
-    let table = read.table;
-    let why = read.refusal;
-    let refusal = refusal_for(why, has_room(table.count, LONGEST, out.len()));
-    if refusal != 0 {
-        return Outcome {
-            refusal,
-            answered: 0,
-            written: 0,
-        };
-    }
-    let written = put_setup(table, out);
-    Outcome {
-        refusal: 0,
-        answered: 0,
-        written,
-    }
+    moved(Form::Two, image, out)
+}
+
+// And written in form 1, for boxes that read no other: 31 where that would lose something.
+#[no_mangle]
+pub extern "C" fn undivarro_back(image: &[u8], out: &mut [u8]) -> Outcome
+    ensures { λ r. ⌜ r ≡ afterBack (now (image .entry)) (now (out .entry)) .outcome ⌝ }
+    ensures { λ _. ⌜ now (out .exit) ≡ afterBack (now (image .entry)) (now (out .entry)) .out ⌝ }
+{
+    moved(Form::One, image, out)
 }

@@ -7,6 +7,9 @@ use borrow.Author.Needs.{needs}
 use Rattle.image_play.proofs.print_reading.Statement.{statement}
 use Rattle.image_play.proofs.print_reading.Tie as tie
 
+formed : (c : tie.After-read-image) → WellFormed (c .read-image .result .table)
+formed c = subst WellFormed (ap (λ (r : Read). r .table) (sym (c .read-image .ensures))) (read-formed _)
+
 slice-aggregate-write-all : tie.Need-slice-aggregate-write-all
 slice-aggregate-write-all c = search needs
 
@@ -38,9 +41,16 @@ returns-2 : tie.Need-returns-2
 returns-2 c = search needs
 
 print-image-requires : tie.Need-print-image-requires
-print-image-requires c κs =
-    let read = c .before .before .before .read-image in
-    subst WellFormed (ap (λ (r : Read). r .table) (sym (read .ensures))) (read-formed _)
+print-image-requires c κs = formed (c .before .before .before)
+
+slice-aggregate-write-all-3 : tie.Need-slice-aggregate-write-all-3
+slice-aggregate-write-all-3 c = search needs
+
+write-all-requires-3 : tie.Need-write-all-requires-3
+write-all-requires-3 c κs = search needs
+
+print-image-requires-2 : tie.Need-print-image-requires-2
+print-image-requires-2 c κs = formed (c .before .before .before .before .before .before)
 
 returns-3 : tie.Need-returns-3
 returns-3 c = search needs
@@ -60,4 +70,7 @@ print-reading-spec =
     print-decimal-requires
     returns-2
     print-image-requires
+    slice-aggregate-write-all-3
+    write-all-requires-3
+    print-image-requires-2
     returns-3)

@@ -1,15 +1,15 @@
 -- The invariant: the answer is that of the panels from place k on. Assumes nothing.
 use mathlib.Core.Path.{_≡_, refl, sym, ap, _∙_}
-use mathlib.Core.Bool.{_&&_}
+use mathlib.Core.Bool.{Bool, true, false, _&&_}
 use Prim.Native.Nat.{ℕ, _+_, _-_, _≤_, _<_}
 use native.Mathlib.Numerals.{add-one}
 use native.Mathlib.Omega.{arith}
 use borrow.Author.Needs.{needs}
-use borrow.Author.Tests.{eq-eqb, ne-eqb}
-use lib.Dec.{eqb}
+use borrow.Author.Tests.{not-true, not-false}
 use lib.ListN.{length, getD, drop}
 use lib.Seq.{drop-cons, drop-length}
-use Rattle.profiles.specs.Numbers.{profileNumber}
+use Rattle.forms.specs.declared.Form.{Form}
+use Rattle.forms.specs.Forms.{holds}
 use Rattle.panels.specs.declared.Panel.{Panel}
 use Rattle.panels.specs.Wall.{Wall, blank, panelsOf}
 use Rattle.panels.proofs.Laws.{count-is, count-few, in-wall}
@@ -17,16 +17,16 @@ use Rattle.image_write.specs.Written.{losesNothing}
 use Rattle.image_write.proofs.loses_nothing.Statement.{statement}
 use Rattle.image_write.proofs.loses_nothing.Tie as tie
 
-step : (w : Wall) (k : ℕ) → k < length w
-    → losesNothing (drop k w) ≡ eqb (profileNumber (getD w k blank .profile)) 0 && losesNothing (drop (k + 1) w)
+step : (form : Form) (w : Wall) (k : ℕ) → k < length w
+    → losesNothing form (drop k w) ≡ holds form (getD w k blank .profile) && losesNothing form (drop (k + 1) w)
 unfolding losesNothing
-step w k h = rw (drop-cons w k blank h, add-one)
+step form w k h = rw (drop-cons w k blank h, add-one)
 
 abbrev Inv-loop : tie.InvT-loop
-Inv-loop t k₀ k = (k ≤ t .count) × (losesNothing (panelsOf t) ≡ losesNothing (drop k (panelsOf t)))
+Inv-loop form t k₀ k = (k ≤ t .count) × (losesNothing form (panelsOf t) ≡ losesNothing form (drop k (panelsOf t)))
 
 abbrev μ-loop : tie.MeasureT-loop
-μ-loop t k₀ k = t .count - k
+μ-loop form t k₀ k = t .count - k
 
 loop-holds : tie.Need-loop-holds Inv-loop μ-loop
 loop-holds c = (omega arith, refl)
@@ -37,21 +37,24 @@ mul-p c = omega (arith, count-few (c .before .before .pre))
 element-copy-out-p : tie.Need-element-copy-out-p Inv-loop μ-loop
 element-copy-out-p c = omega (arith, count-few (c .before .before .pre))
 
-number-of-requires : tie.Need-number-of-requires Inv-loop μ-loop
-number-of-requires c κs = search needs
+holds-requires : tie.Need-holds-requires Inv-loop μ-loop
+holds-requires c κs = search needs
 
--- what is read is the number of the wall's panel
-number : (c : tie.After-number-of Inv-loop μ-loop)
-    → let loop = c .before .before .before in profileNumber (getD (panelsOf (loop .before .args .t1)) (loop .loop .k) blank .profile) ≡ c .number-of .result
-number c =
+-- what is asked is whether there is room for the wall's panel, and so the wall's answer from here on
+from-here : (c : tie.After-holds Inv-loop μ-loop) (t : Bool) → c .holds .result ≡ t → let loop = c .before .before .before in
+    let a = loop .before .args in
+    losesNothing (a .form) (panelsOf (a .t2)) ≡ t && losesNothing (a .form) (drop (loop .loop .k + 1) (panelsOf (a .t2)))
+from-here c t e =
     let loop = c .before .before .before in
-    ap (λ (p : Panel). profileNumber (p .profile)) (sym (in-wall (loop .before .pre) (loop .loop .k) _ (omega arith))) ∙ sym (c .number-of .ensures)
+    let a = loop .before .args in
+    let f = loop .before .pre in
+    let w = panelsOf (a .t2) in
+    let k = loop .loop .k in
+    let held = ap (λ (p : Panel). holds (a .form) (p .profile)) (sym (in-wall f k _ (omega arith))) ∙ sym (c .holds .ensures) ∙ e in
+    loop .loop .inv .1 ∙ step (a .form) w k (omega (arith, count-is f)) ∙ ap (λ (t : Bool). t && losesNothing (a .form) (drop (k + 1) w)) held
 
 returns : tie.Need-returns Inv-loop μ-loop
-returns c =
-    let loop = c .before .before .before .before in
-    let other = ne-eqb _ 0 (λ e. c .if1 .taken (sym (number (c .before)) ∙ e)) in
-    sym (loop .loop .inv .1 ∙ step (panelsOf (loop .before .args .t1)) (loop .loop .k) (omega (arith, count-is (loop .before .pre))) ∙ simp other)
+returns c = sym (from-here (c .before) false (not-true _ (c .if1 .taken)))
 
 add-k : tie.Need-add-k Inv-loop μ-loop
 add-k c = omega (arith, count-few (c .before .before .before .before .before .pre))
@@ -60,16 +63,13 @@ loop-less : tie.Need-loop-less Inv-loop μ-loop
 loop-less c = omega arith
 
 loop-again : tie.Need-loop-again Inv-loop μ-loop
-loop-again c =
-    let loop = c .before .before .before .before in
-    let general = eq-eqb _ 0 (number (c .before) ∙ c .if1 .left) in
-    (omega arith, loop .loop .inv .1 ∙ step (panelsOf (loop .before .args .t1)) (loop .loop .k) (omega (arith, count-is (loop .before .pre))) ∙ simp general)
+loop-again c = (omega arith, from-here (c .before) true (not-false _ (c .if1 .left)))
 
 returns-2 : tie.Need-returns-2 Inv-loop μ-loop
 unfolding losesNothing
 returns-2 c =
     let loop = c .before in
-    let w = panelsOf (loop .before .args .t1) in
+    let w = panelsOf (loop .before .args .t2) in
     let all : loop .loop .k ≡ length w = omega (arith, count-is (loop .before .pre)) in
     sym (loop .loop .inv .1 ∙ rw (all, drop-length w))
 
@@ -82,7 +82,7 @@ loses-nothing-spec =
     loop-holds
     mul-p
     element-copy-out-p
-    number-of-requires
+    holds-requires
     returns
     add-k
     loop-less

@@ -2,7 +2,7 @@
 use mathlib.Core.Path.{_≡_, sym, ap, ap₂, _∙_}
 use mathlib.Core.Bool.{true}
 use mathlib.Core.List.{List, [], _∷_, _++_, flatten}
-use Prim.Native.Nat.{ℕ, _+_, _*_, _≤_}
+use Prim.Native.Nat.{ℕ, _+_, _-_, _*_, _≤_}
 use native.Mathlib.Omega.{arith}
 use borrow.Author.Tests.{le-leb, lt-leb, not-true, not-false}
 use lib.ListN.{length, set, length-set, length-append, length-map}
@@ -10,45 +10,50 @@ use Rattle.lists.specs.Lists.{each, laidOver, laidAt}
 use Rattle.panels.specs.Wall.{Wall, panelsOf}
 use Rattle.panels.specs.WellFormed.{GoodWall}
 use Rattle.panels.proofs.Laws.{count-is, count-few}
+use Rattle.forms.specs.declared.Form.{Form}
+use Rattle.forms.specs.Forms.{formByte}
 use Rattle.image_write.specs.declared.Written.the-variants.{Bytes}
-use Rattle.image_write.specs.Written.{highLow, recordsOf, imageOf, recordOf, sizeOf, losesNothing, writtenOf, outputOf, recordSize, panelSize}
+use Rattle.image_write.specs.Written.{highLow, recordsOf, imageOf, setupOf, recordOf, sizeOf, losesNothing, writtenOf, outputOf, recordSize, panelSize}
 use Rattle.lists.proofs.Laid.{length-laid, laid-over, laid-two, laid-then}
-use Rattle.image_write.proofs.Lengths.{records-long, starts-are, starts-count}
+use Rattle.image_write.proofs.Lengths.{records-long, starts-are, starts-count, products}
 use borrow.Author.Needs.{needs}
 use Rattle.image_write.proofs.write_image.Statement.{statement}
 use Rattle.image_write.proofs.write_image.Tie as tie
 
 -- the starts of n records, the output with the records in it, and with the starts behind them
-abbrev starts-of : ℕ → List ℕ
-starts-of n = flatten (each (λ k. highLow (recordSize * k)) n)
+abbrev starts-of : Form → ℕ → List ℕ
+starts-of form n = flatten (each (λ k. highLow (recordSize form * k)) n)
 
-abbrev with-records : Wall → List ℕ → List ℕ
-with-records w out = laidAt 0 (flatten (recordsOf w)) out
+abbrev with-records : Form → Wall → List ℕ → List ℕ
+with-records form w out = laidAt 0 (flatten (recordsOf form w)) out
 
-abbrev with-starts : Wall → List ℕ → List ℕ
-with-starts w out = laidAt (recordSize * length w) (starts-of (length w)) (with-records w out)
+abbrev with-starts : Form → Wall → List ℕ → List ℕ
+with-starts form w out = laidAt (recordSize form * length w) (starts-of form (length w)) (with-records form w out)
 
-module _ (w : Wall) (good : GoodWall w) (out : List ℕ) (room : panelSize * length w + 2 ≤ length out) where
-  starts-long : length (starts-of (length w)) ≡ 2 * length w
+module _ (form : Form) (w : Wall) (good : GoodWall w) (out : List ℕ) (room : sizeOf form w ≤ length out) where
+  sizes : panelSize form * length w ≡ recordSize form * length w + 2 * length w
+  sizes = products form 0 (length w) .0
+
+  starts-long : length (starts-of form (length w)) ≡ 2 * length w
   starts-long =
-      ap (λ (ls : List (List ℕ)). length (flatten ls)) (sym (starts-are w good)) ∙ starts-count (recordsOf w) ∙ ap (λ (m : ℕ). 2 * m) (length-map w recordOf)
+      ap (λ (ls : List (List ℕ)). length (flatten ls)) (sym (starts-are form w good)) ∙ starts-count form (recordsOf form w) ∙ ap (λ (m : ℕ). 2 * m) (length-map w (recordOf form))
 
-  long-1 : length (with-records w out) ≡ length out
-  long-1 = length-laid 0 (flatten (recordsOf w)) out (rw (records-long w good) (omega arith))
+  long-1 : length (with-records form w out) ≡ length out
+  long-1 = length-laid 0 (flatten (recordsOf form w)) out (rw (records-long form w good) (omega (arith, sizes)))
 
-  long-2 : length (with-starts w out) ≡ length out
-  long-2 = length-laid (recordSize * length w) (starts-of (length w)) (with-records w out) (rw (starts-long, long-1) (omega arith)) ∙ long-1
+  long-2 : length (with-starts form w out) ≡ length out
+  long-2 = length-laid (recordSize form * length w) (starts-of form (length w)) (with-records form w out) (rw (starts-long, long-1) (omega (arith, sizes))) ∙ long-1
 
-  image-laid : set (set (with-starts w out) (panelSize * length w) (length w)) (panelSize * length w + 1) 1 ≡ laidOver (imageOf (recordsOf w)) out
+  image-laid : set (set (with-starts form w out) (panelSize form * length w) (length w)) (panelSize form * length w + 1) (formByte form) ≡ laidOver (setupOf form w) out
   unfolding imageOf
   image-laid =
       let n = length w in
-      let r = flatten (recordsOf w) in
-      let trailer = n ∷ 1 ∷ [] in
-      let two = laid-two (panelSize * n) n 1 (with-starts w out) (rw long-2 (omega arith)) in
-      let first = laid-then 0 (recordSize * n) r (starts-of n) out (rw (records-long w good) (omega arith)) (rw starts-long (omega arith)) in
-      let more = laid-then 0 (panelSize * n) (r ++ starts-of n) trailer out (rw (length-append r (starts-of n), records-long w good, starts-long) (omega arith)) (omega arith) in
-      two ∙ ap (λ (l : List ℕ). laidAt (panelSize * n) trailer l) first ∙ more ∙ rw (starts-are w good, length-map w recordOf) (laid-over _ _)
+      let r = flatten (recordsOf form w) in
+      let trailer = n ∷ formByte form ∷ [] in
+      let two = laid-two (panelSize form * n) n (formByte form) (with-starts form w out) (rw long-2 (omega arith)) in
+      let first = laid-then 0 (recordSize form * n) r (starts-of form n) out (rw (records-long form w good) (omega arith)) (rw starts-long (omega (arith, sizes))) in
+      let more = laid-then 0 (panelSize form * n) (r ++ starts-of form n) trailer out (rw (length-append r (starts-of form n), records-long form w good, starts-long) (omega (arith, sizes))) (omega arith) in
+      two ∙ ap (λ (l : List ℕ). laidAt (panelSize form * n) trailer l) first ∙ more ∙ rw (starts-are form w good, length-map w (recordOf form)) (laid-over _ _)
 
 loses-nothing-requires : tie.Need-loses-nothing-requires
 loses-nothing-requires c κs = search needs
@@ -63,64 +68,87 @@ abbrev start : tie.Else1 → tie.Start
 start c = c .before .before .before
 
 -- nothing would be lost
-all-held : (c : tie.Else1) → losesNothing (panelsOf (start c .args .t)) ≡ true
+all-held : (c : tie.Else1) → let a = start c .args in losesNothing (a .form) (panelsOf (a .t)) ≡ true
 all-held c = sym (c .before .loses-nothing .ensures) ∙ not-false _ (c .if1 .left)
 
-mul-end : tie.Need-mul-end
-mul-end c = omega (arith, count-few (start c .pre))
-
-add-size : tie.Need-add-size
-add-size c = omega (arith, count-few (start c .pre))
+size-of-requires : tie.Need-size-of-requires
+size-of-requires c κs = search needs
 
 returns-2 : tie.Need-returns-2
 unfolding writtenOf outputOf
 returns-2 c =
-    let else1 = c .before in
-    let s = start else1 in
-    let short = lt-leb (sizeOf (panelsOf (s .args .t))) (length (s .args .out .now)) (omega (arith, count-is (s .pre))) in
+    let else1 = c .before .before in
+    let a = start else1 .args in
+    let short = lt-leb (sizeOf (a .form) (panelsOf (a .t))) (length (a .out .now)) (omega (arith, c .before .size-of .ensures)) in
     (simp (all-held else1, short), simp (all-held else1, short))
 
+-- there is room
+enough : (c : tie.Else2) → let a = start (c .before .before) .args in sizeOf (a .form) (panelsOf (a .t)) ≤ length (a .out .now)
+enough c = omega (arith, c .before .size-of .ensures)
+
+-- and what is behind the records
+ends : (c : tie.Else2) → let a = start (c .before .before) .args in
+    (c .before .size-of .result - 2 ≡ panelSize (a .form) * length (panelsOf (a .t))) × (panelSize (a .form) * a .t .count ≡ recordSize (a .form) * a .t .count + 2 * a .t .count)
+ends c = let a = start (c .before .before) .args in (omega (arith, c .before .size-of .ensures), products (a .form) 0 (a .t .count) .0)
+
+sub-end : tie.Need-sub-end
+sub-end c = omega (arith, c .before .size-of .ensures)
+
 records-requires : tie.Need-records-requires
-records-requires c κs = search needs
+records-requires c κs =
+    let else2 = c .before in
+    let s = start (else2 .before .before) in
+    let n = count-is (s .pre) in
+    (s .pre, omega (arith, rw (← n) at (enough else2), ends else2 .1))
 
 starts-requires : tie.Need-starts-requires
 starts-requires c κs =
     let records = c .before .before .before in
-    let s = start (records .before .before .before) in
-    (count-few (s .pre), omega (arith, records .records .kept .0))
+    let else2 = records .before .before in
+    let s = start (else2 .before .before) in
+    let n = count-is (s .pre) in
+    (count-few (s .pre), omega (arith, rw (← n) at (enough else2), records .records .kept .1 .0))
 
 cast-out : tie.Need-cast-out
-cast-out c = omega (arith, count-few (start (c .before .before .before .before .before .before .before .before .before) .pre))
+cast-out c = omega (arith, count-few (start (c .before .before .before .before .before .before .before .before .before .before) .pre))
 
 slice-write-out : tie.Need-slice-write-out
 slice-write-out c = search needs
+
+byte-of-requires : tie.Need-byte-of-requires
+byte-of-requires c κs = search needs
 
 add-out : tie.Need-add-out
 add-out c = search needs
 
 slice-write-out-2 : tie.Need-slice-write-out-2
-slice-write-out-2 c = simp length-set (omega (arith, c .before .before .starts .kept .0, c .before .before .before .before .before .before .records .kept .0))
+slice-write-out-2 c = simp length-set (omega arith)
 
 same-length : tie.Need-same-length
-same-length c = simp length-set (c .before .before .starts .kept .0 ∙ c .before .before .before .before .before .before .records .kept .0)
+same-length c = simp length-set (omega arith)
 
 returns-3 : tie.Need-returns-3
 unfolding writtenOf outputOf
 returns-3 c =
-    let starts = c .before .before in
+    let starts = c .before .before .before in
     let records = starts .before .before .before .before in
-    let else1 = records .before .before .before in
+    let else2 = records .before .before in
+    let else1 = else2 .before .before in
     let s = start else1 in
+    let form = s .args .form in
     let w = panelsOf (s .args .t) in
     let out = s .args .out .now in
     let n = count-is (s .pre) in
-    let room : sizeOf w ≤ length out = omega arith in
-    let fits = le-leb (sizeOf w) (length out) room in
-    let answer : writtenOf w out ≡ Bytes (sizeOf w) = simp (all-held else1, fits) in
-    let after : outputOf w out ≡ laidOver (imageOf (recordsOf w)) out = simp (all-held else1, fits) in
-    let held = starts .starts .ensures ∙ ap₂ (λ (m : ℕ) (l : List ℕ). laidAt (recordSize * m) (starts-of m) l) n (records .records .ensures) in (
-      ap (λ (m : ℕ). Bytes (panelSize * m + 2)) n ∙ sym answer,
-      ap₂ (λ (m : ℕ) (l : List ℕ). set (set l (panelSize * m) m) (panelSize * m + 1) 1) n held ∙ image-laid w (s .pre .good) out room ∙ sym after,
+    let size = else2 .before .size-of .ensures in
+    let room = enough else2 in
+    let fits = le-leb (sizeOf form w) (length out) room in
+    let answer : writtenOf form w out ≡ Bytes (sizeOf form w) = simp (all-held else1, fits) in
+    let after : outputOf form w out ≡ laidOver (setupOf form w) out = simp (all-held else1, fits) in
+    let held = starts .starts .ensures ∙ ap₂ (λ (m : ℕ) (l : List ℕ). laidAt (recordSize form * m) (starts-of form m) l) n (records .records .ensures) in (
+      ap Bytes size ∙ sym answer,
+      ap₂ (λ (e m : ℕ). set (set (starts .starts .last .1 .0) e m) (e + 1) (c .byte-of .result)) (ends else2 .0) n
+          ∙ ap₂ (λ (l : List ℕ) (b : ℕ). set (set l (panelSize form * length w) (length w)) (panelSize form * length w + 1) b) held (c .byte-of .ensures)
+          ∙ image-laid form w (s .pre .good) out room ∙ sym after,
     )
 
 pub write-image-spec : {M : Type 1} → statement M
@@ -129,13 +157,14 @@ write-image-spec =
     (tie.spec
     loses-nothing-requires
     returns
-    mul-end
-    add-size
+    size-of-requires
     returns-2
+    sub-end
     records-requires
     starts-requires
     cast-out
     slice-write-out
+    byte-of-requires
     add-out
     slice-write-out-2
     same-length

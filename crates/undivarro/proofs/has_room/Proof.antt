@@ -1,8 +1,10 @@
 -- Both tests. Assumes nothing.
-use mathlib.Core.Path.{sym}
+use mathlib.Core.Path.{sym, ap, _∙_}
+use Prim.Native.Nat.{ℕ}
 use native.Mathlib.Omega.{arith}
 use borrow.Author.Tests.{lt-leb, le-leb}
 use borrow.Author.Needs.{needs}
+use lib.Dec.{leb}
 use Rattle.packet.specs.Packet.{longest}
 use Rattle.undivarro.proofs.has_room.Statement.{statement}
 use Rattle.undivarro.proofs.has_room.Tie as tie
@@ -12,16 +14,14 @@ returns c =
     let short = lt-leb longest (c .before .args .answer) (omega arith) in
     sym (rw short)
 
-mul-result : tie.Need-mul-result
-mul-result c = search needs
-
-add-result : tie.Need-add-result
-add-result c = search needs
+size-of-requires : tie.Need-size-of-requires
+size-of-requires c κs = search needs
 
 returns-2 : tie.Need-returns-2
 returns-2 c =
-    let room = le-leb longest (c .before .args .answer) (omega arith) in
-    sym (rw room)
+    let a = c .before .before .args in
+    let room = le-leb longest (a .answer) (omega arith) in
+    ap (λ (n : ℕ). leb n (a .out)) (c .size-of .ensures) ∙ sym (rw room)
 
 pub has-room-spec : {M : Type 1} → statement M
-has-room-spec = tie.close (tie.spec returns mul-result add-result returns-2)
+has-room-spec = tie.close (tie.spec returns size-of-requires returns-2)

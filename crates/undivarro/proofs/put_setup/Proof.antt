@@ -1,4 +1,4 @@
--- Nothing would be lost and there is room, so the image is written; it has at most 1,122 bytes. Assumes nothing.
+-- Nothing would be lost and there is room, so the image is written; it has at most 1,154 bytes. Assumes nothing.
 use mathlib.Core.Path.{_≡_, sym, ap, _∙_}
 use mathlib.Core.Bool.{true}
 use mathlib.Core.List.{List}
@@ -8,28 +8,30 @@ use borrow.Author.Tests.{le-leb}
 use lib.ListN.{length}
 use Rattle.lists.specs.Lists.{laidOver}
 use Rattle.panels.specs.Wall.{Wall, panelsOf}
+use Rattle.forms.specs.declared.Form.{Form}
 use Rattle.image_write.specs.declared.Written.{Written}
 use Rattle.image_write.specs.declared.Written.the-variants.{Bytes}
-use Rattle.image_write.specs.Written.{sizeOf, losesNothing, writtenOf, bytesWritten, outputOf}
+use Rattle.image_write.specs.Written.{setupOf, sizeOf, losesNothing, writtenOf, bytesWritten, outputOf}
+use Rattle.image_write.proofs.Lengths.{products}
 use Rattle.image.proofs.Back.{image-size}
-use Rattle.undivarro.specs.Private.Setup.{setupOf}
 use borrow.Author.Needs.{needs}
 use Rattle.undivarro.proofs.put_setup.Statement.{statement}
 use Rattle.undivarro.proofs.put_setup.Tie as tie
 
-fits : (w : Wall) (out : List ℕ) → losesNothing w ≡ true → sizeOf w ≤ length out → (writtenOf w out ≡ Bytes (sizeOf w)) × (outputOf w out ≡ laidOver (setupOf w) out)
+fits : (form : Form) (w : Wall) (out : List ℕ) → losesNothing form w ≡ true → sizeOf form w ≤ length out
+    → (writtenOf form w out ≡ Bytes (sizeOf form w)) × (outputOf form w out ≡ laidOver (setupOf form w) out)
 unfolding writtenOf outputOf
-fits w out e h = (simp (e, le-leb _ _ h), simp (e, le-leb _ _ h))
+fits form w out e h = (simp (e, le-leb _ _ h), simp (e, le-leb _ _ h))
 
 -- what was written, whatever the match told
 laid : (c : tie.After-write-image) (s : Written) → c .write-image .result ≡ s
     → let a = c .before .before .before .args in
-    (bytesWritten s ≡ length (setupOf (panelsOf (a .t)))) × (c .write-image .last .1 .0 ≡ laidOver (setupOf (panelsOf (a .t))) (a .out .now))
+    (bytesWritten s ≡ length (setupOf (a .form) (panelsOf (a .t)))) × (c .write-image .last .1 .1 .0 ≡ laidOver (setupOf (a .form) (panelsOf (a .t))) (a .out .now))
 laid c s e =
     let start = c .before .before .before in
     let w = panelsOf (start .args .t) in
-    let f = fits w _ (start .pre .1) (start .pre .2) in
-    (ap bytesWritten (sym e ∙ c .write-image .ensures .0 ∙ f .0) ∙ sym (image-size w (start .pre .0 .good)), c .write-image .ensures .1 ∙ f .1)
+    let f = fits (start .args .form) w _ (start .pre .1) (start .pre .2) in
+    (ap bytesWritten (sym e ∙ c .write-image .ensures .0 ∙ f .0) ∙ sym (image-size (start .args .form) w (start .pre .0 .good)), c .write-image .ensures .1 ∙ f .1)
 
 write-image-requires : tie.Need-write-image-requires
 write-image-requires c κs = search needs
@@ -42,7 +44,7 @@ cast-result c =
     let call = c .before .before .before .before .before in
     let start = call .before .before .before in
     let w = panelsOf (start .args .t) in
-    omega (arith, image-size w (start .pre .0 .good), start .pre .0 .few, laid call _ (c .before .written .given .1) .0)
+    omega (arith, products (start .args .form) 0 (length w) .0, products (start .args .form) 0 (length w) .3, image-size (start .args .form) w (start .pre .0 .good), start .pre .0 .few, laid call _ (c .before .written .given .1) .0)
 
 enum-told : tie.Need-enum-told
 enum-told c = search needs

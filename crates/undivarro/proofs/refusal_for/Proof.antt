@@ -1,7 +1,7 @@
 -- The number of what was read is 0 where it is sound. Assumes nothing.
 use mathlib.Core.Path.{_≡_, sym, _∙_}
 use mathlib.Core.Bool.{true}
-use borrow.Author.Tests.{eq-eqb, ne-eqb}
+use borrow.Author.Tests.{eq-eqb, ne-eqb, not-true, not-false}
 use Rattle.image_read.specs.Read.{isSound}
 use Rattle.undivarro.specs.Calls.{refusalFor}
 use borrow.Author.Needs.{needs}
@@ -28,12 +28,19 @@ sound c = eq-eqb _ 0 (sym (c .before .refusal-number .ensures) ∙ c .if1 .left)
 
 returns-2 : tie.Need-returns-2
 unfolding refusalFor
-returns-2 c = sym (rw (sound (c .before), c .if2 .taken))
+returns-2 c = let lost = not-true (c .before .before .before .args .held) (c .if2 .taken) in sym (rw (sound (c .before), lost))
+
+all-held : (c : tie.Else2) → c .before .before .before .args .held ≡ true
+all-held c = not-false (c .before .before .before .args .held) (c .if2 .left)
 
 returns-3 : tie.Need-returns-3
 unfolding refusalFor
-returns-3 c = sym (rw (sound (c .before), c .if2 .left))
+returns-3 c = sym (rw (sound (c .before .before), all-held (c .before), c .if3 .taken))
+
+returns-4 : tie.Need-returns-4
+unfolding refusalFor
+returns-4 c = sym (rw (sound (c .before .before), all-held (c .before), c .if3 .left))
 
 pub refusal-for-spec : {M : Type 1} → statement M
 refusal-for-spec =
-    tie.close (tie.spec refusal-number-requires cast-result returns returns-2 returns-3)
+    tie.close (tie.spec refusal-number-requires cast-result returns returns-2 returns-3 returns-4)

@@ -1,7 +1,7 @@
 -- The invariant: the answer is what the records from k on make of the table so far. Assumes nothing.
 use mathlib.Core.Path.{_≡_, refl, sym, ap, ap₂, subst, _∙_}
 use mathlib.Core.Bool.{Bool, true, false, cond}
-use mathlib.Core.List.{[], _∷_, _++_}
+use mathlib.Core.List.{List, [], _∷_, _++_}
 use Prim.Native.Nat.{ℕ, suc, _+_, _-_, _≤_, _<_}
 use native.Mathlib.Numerals.{add-one}
 use native.Mathlib.Omega.{arith}
@@ -15,11 +15,12 @@ use Rattle.panels.specs.Wall.{Wall, tableOf, panelsOf, mostPanels}
 use Rattle.panels.specs.WellFormed.{WellFormed}
 use Rattle.panels.proofs.Laws.{panels-of-table, count-is, grown}
 use Rattle.panels.proofs.Formed.{empty-formed}
+use Rattle.forms.specs.declared.Form.{Form}
 use Rattle.image_read.specs.declared.Refusal.{Refusal}
 use Rattle.image_read.specs.declared.Refusal.the-variants.{Nothing}
 use Rattle.image_read.specs.declared.Read.{Read}
 use Rattle.image_read.specs.declared.ReadPanel.{ReadPanel}
-use Rattle.image_read.specs.Whole.{countOf, edge, recordIn, recordsIn}
+use Rattle.image_read.specs.Whole.{formOf, countOf, edge, recordIn, recordsIn}
 use Rattle.image_read.specs.Read.{isSound, readRefusalOf, recordRefusal, refused, readRecords, inTable}
 use Rattle.image_read.proofs.OnTheWay.{wallWith}
 use Rattle.lists.proofs.Each.{length-each}
@@ -31,21 +32,21 @@ use Rattle.image_read.proofs.records.all.Statement.{statement}
 use Rattle.image_read.proofs.records.all.Tie as tie
 
 abbrev Inv-loop : tie.InvT-loop
-Inv-loop image n t₀ seen₀ start₀ k₀ t seen start k =
+Inv-loop image form n t₀ seen₀ start₀ k₀ t seen start k =
     (k ≤ n) × WellFormed t × (length (panelsOf t) ≡ k) × (start ≡ edge image k) × (length seen ≡ 256) × Marks seen (panelsOf t)
-    × (readRecords [] (recordsIn image) ≡ readRecords (panelsOf t) (drop k (recordsIn image)))
+    × (readRecords (formOf image) [] (recordsIn image) ≡ readRecords (formOf image) (panelsOf t) (drop k (recordsIn image)))
 
 abbrev μ-loop : tie.MeasureT-loop
-μ-loop image n t₀ seen₀ start₀ k₀ t seen start k = n - k
+μ-loop image form n t₀ seen₀ start₀ k₀ t seen start k = n - k
 
 -- record k is the part of the image between its edges
 edges : (c : tie.After-edge-at Inv-loop μ-loop) → let loop = c .before .before in
-    let image = loop .before .before .before .before .args .image .now in
+    let image = loop .before .before .before .before .before .args .image .now in
     (loop .loop .start ≤ c .edge-at .result) × (c .edge-at .result ≤ length image) × (loop .loop .k < countOf image)
     × (take (c .edge-at .result - loop .loop .start) (drop (loop .loop .start) image) ≡ recordIn image (loop .loop .k))
 edges c =
     let loop = c .before .before in
-    let start = loop .before .before .before .before in
+    let start = loop .before .before .before .before .before in
     let image = start .args .image .now in
     let k = loop .loop .k in
     let f = fits image (start .pre) in
@@ -56,46 +57,51 @@ edges c =
 
 -- what was read of it
 read-it : (c : tie.After-panel-of Inv-loop μ-loop) → let loop = c .before .before .before .before .before in
-    c .panel-of .result ≡ panelBy (loop .loop .seen) (recordIn (loop .before .before .before .before .args .image .now) (loop .loop .k))
+    c .panel-of .result ≡ panelBy (formOf (loop .before .before .before .before .before .args .image .now)) (loop .loop .seen) (recordIn (loop .before .before .before .before .before .args .image .now) (loop .loop .k))
 read-it c =
     let loop = c .before .before .before .before .before in
     let (_, _, _, part) = edges (c .before .before .before) in
-    c .panel-of .ensures ∙ ap (panelBy (loop .loop .seen)) part
+    let form = loop .before .before .before .form-of .ensures in
+    c .panel-of .ensures ∙ ap₂ (λ (f : Form) (bytes : List ℕ). panelBy f (loop .loop .seen) bytes) form part
 
 refusal : (c : tie.After-panel-of Inv-loop μ-loop) → let loop = c .before .before .before .before .before in
-    c .panel-of .result .refusal ≡ recordRefusal (panelsOf (loop .loop .t)) (recordIn (loop .before .before .before .before .args .image .now) (loop .loop .k))
+    c .panel-of .result .refusal ≡ recordRefusal (formOf (loop .before .before .before .before .before .args .image .now)) (panelsOf (loop .loop .t)) (recordIn (loop .before .before .before .before .before .args .image .now) (loop .loop .k))
 refusal c =
     let loop = c .before .before .before .before .before in
-    ap (λ (r : ReadPanel). r .refusal) (read-it c) ∙ refusal-alike (loop .loop .inv .5) _
+    ap (λ (r : ReadPanel). r .refusal) (read-it c) ∙ refusal-alike (loop .loop .inv .5) _ _
 
 -- the records from k on
 from-here : (c : tie.After-panel-of Inv-loop μ-loop) (t : Bool) → let loop = c .before .before .before .before .before in
-    let image = loop .before .before .before .before .args .image .now in
+    let image = loop .before .before .before .before .before .args .image .now in
     let w = panelsOf (loop .loop .t) in
     let bytes = recordIn image (loop .loop .k) in
-    isSound (recordRefusal w bytes) ≡ t
-    → readRecords [] (recordsIn image)
-    ≡ cond t (readRecords (wallWith w bytes) (drop (loop .loop .k + 1) (recordsIn image))) (refused (recordRefusal w bytes))
+    let form = formOf image in
+    isSound (recordRefusal form w bytes) ≡ t
+    → readRecords form [] (recordsIn image)
+    ≡ cond t (readRecords form (wallWith form w bytes) (drop (loop .loop .k + 1) (recordsIn image))) (refused (recordRefusal form w bytes))
 from-here c t e =
     let loop = c .before .before .before .before .before in
-    let image = loop .before .before .before .before .args .image .now in
-    loop .loop .inv .6 ∙ records-step image (panelsOf (loop .loop .t)) (loop .loop .k) (edges (c .before .before .before) .2) ∙ rw e
+    let image = loop .before .before .before .before .before .args .image .now in
+    loop .loop .inv .6 ∙ records-step (formOf image) image (panelsOf (loop .loop .t)) (loop .loop .k) (edges (c .before .before .before) .2) ∙ rw e
 
 -- there is a place left for its panel
 few : (c : tie.After-edge-at Inv-loop μ-loop) → c .before .before .loop .k < mostPanels
 few c =
-    let start = c .before .before .before .before .before .before in
+    let start = c .before .before .before .before .before .before .before in
     omega (arith, edges c .2, fits (start .args .image .now) (start .pre) .few)
 
+form-of-requires : tie.Need-form-of-requires Inv-loop μ-loop
+form-of-requires c κs = fits _ (c .before .pre) .two
+
 count-of-requires : tie.Need-count-of-requires Inv-loop μ-loop
-count-of-requires c κs = fits _ (c .before .pre) .two
+count-of-requires c κs = fits _ (c .before .before .pre) .two
 
 empty-table-requires : tie.Need-empty-table-requires Inv-loop μ-loop
 empty-table-requires c κs = search needs
 
 loop-holds : tie.Need-loop-holds Inv-loop μ-loop
 loop-holds c =
-    let start = c .before .before .before in
+    let start = c .before .before .before .before in
     let image = start .args .image .now in
     let t = c .empty-table .ensures in
     let none : panelsOf (c .empty-table .result) ≡ [] = ap (λ (t : Table). panelsOf t) t ∙ panels-of-table [] in
@@ -106,7 +112,7 @@ add-edge-at c = omega arith
 
 edge-at-requires : tie.Need-edge-at-requires Inv-loop μ-loop
 edge-at-requires c κs =
-    let start = c .before .before .before .before .before in
+    let start = c .before .before .before .before .before .before in
     let n = c .before .before .before .count-of .ensures .0 in
     (n, omega (arith, fits (start .args .image .now) (start .pre) .room))
 
@@ -162,7 +168,7 @@ loop-again c =
     let number = c .before .before .before in
     let read = number .before in
     let loop = read .before .before .before .before .before in
-    let image = loop .before .before .before .before .args .image .now in
+    let image = loop .before .before .before .before .before .args .image .now in
     let k = loop .loop .k in
     let t = loop .loop .t in
     let w = panelsOf t in
@@ -170,32 +176,33 @@ loop-again c =
     let p = read .panel-of .result .panel in
     let f = loop .loop .inv .1 in
     let here = few (read .before .before .before) in
-    let yes : isSound (recordRefusal w bytes) ≡ true = eq-eqb _ 0 (sym (number .refusal-number .ensures ∙ ap readRefusalOf (refusal read)) ∙ c .before .before .if1 .left) in
-    let panel = ap (λ (r : ReadPanel). r .panel) (read-it read) ∙ panel-alike (loop .loop .inv .5) bytes yes in
-    let wall : w ++ p ∷ [] ≡ wallWith w bytes = ap (λ (q : Panel). w ++ q ∷ []) panel in
+    let form = formOf image in
+    let yes : isSound (recordRefusal form w bytes) ≡ true = eq-eqb _ 0 (sym (number .refusal-number .ensures ∙ ap readRefusalOf (refusal read)) ∙ c .before .before .if1 .left) in
+    let panel = ap (λ (r : ReadPanel). r .panel) (read-it read) ∙ panel-alike (loop .loop .inv .5) form bytes yes in
+    let wall : w ++ p ∷ [] ≡ wallWith form w bytes = ap (λ (q : Panel). w ++ q ∷ []) panel in
     let count : t .count ≡ k = count-is f ∙ loop .loop .inv .2 in
-    let table : _≡_ {A = Table} (record { panels = set (t .panels) k p; count = k + 1 }) (tableOf (wallWith w bytes)) =
+    let table : _≡_ {A = Table} (record { panels = set (t .panels) k p; count = k + 1 }) (tableOf (wallWith form w bytes)) =
     ap {B = Table} (λ (j : ℕ). record { panels = set (t .panels) j p; count = j + 1 }) (sym count) ∙ grown f (omega arith) p ∙ ap tableOf wall in
-    let panels = ap (λ (t : Table). panelsOf t) table ∙ panels-of-table (wallWith w bytes) in (
+    let panels = ap (λ (t : Table). panelsOf t) table ∙ panels-of-table (wallWith form w bytes) in (
       omega arith,
-      subst WellFormed (sym table) (formed-with f (omega (arith, loop .loop .inv .2)) bytes yes),
+      subst WellFormed (sym table) (formed-with form f (omega (arith, loop .loop .inv .2)) bytes yes),
       ap length panels ∙ simp length-append (omega (arith, loop .loop .inv .2)),
       read .before .before .before .edge-at .ensures,
       length-set (loop .loop .seen) (p .id .0) true ∙ loop .loop .inv .4,
       subst (Marks (set (loop .loop .seen) (p .id .0) true)) (wall ∙ sym panels) (one-more p (loop .loop .inv .5) (omega (arith, loop .loop .inv .4))),
-      from-here read true yes ∙ ap (λ (v : Wall). readRecords v (drop (k + 1) (recordsIn image))) (sym panels),
+      from-here read true yes ∙ ap (λ (v : Wall). readRecords form v (drop (k + 1) (recordsIn image))) (sym panels),
     )
 
 returns-2 : tie.Need-returns-2 Inv-loop μ-loop
 unfolding readRecords recordsIn
 returns-2 c =
     let loop = c .before in
-    let start = loop .before .before .before .before in
+    let start = loop .before .before .before .before .before in
     let image = start .args .image .now in
     let n = loop .before .before .count-of .ensures .0 in
     let all : loop .loop .k ≡ length (recordsIn image) = omega (arith, length-each (recordIn image) (countOf image)) in
     let none : drop (loop .loop .k) (recordsIn image) ≡ [] = rw all (drop-length (recordsIn image)) in
-    let end = loop .loop .inv .6 ∙ ap (readRecords (panelsOf (loop .loop .t))) none in
+    let end = loop .loop .inv .6 ∙ ap (readRecords (formOf image) (panelsOf (loop .loop .t))) none in
     ap {B = Read} (λ (t : Table). record { refusal = Nothing; table = t }) (loop .loop .inv .1 .held) ∙ ap inTable (sym end)
 
 pub all-spec : {M : Type 1} → statement M
@@ -204,6 +211,7 @@ all-spec =
     (tie.spec
     Inv-loop
     μ-loop
+    form-of-requires
     count-of-requires
     empty-table-requires
     loop-holds

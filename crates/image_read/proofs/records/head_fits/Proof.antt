@@ -1,48 +1,72 @@
 -- Each test decides a part of `headFitsBy`. Assumes nothing.
+use mathlib.Core.Path.{_≡_}
+use mathlib.Core.Bool.{true}
+use Prim.Native.Nat.{_≤_}
 use native.Mathlib.Omega.{arith}
 use borrow.Author.Tests.{le-leb, lt-leb, eq-eqb, ne-eqb}
 use borrow.Author.Needs.{needs}
+use lib.Dec.{leb}
+use lib.ListN.{length}
+use Rattle.forms.specs.Forms.{headSize}
+use Rattle.forms.proofs.Laws.{head-some}
 use Rattle.image_read.specs.Private.Marked.{headFitsBy}
 use Rattle.image_read.proofs.records.head_fits.Statement.{statement}
 use Rattle.image_read.proofs.records.head_fits.Tie as tie
 
+abbrev start : tie.After-head-size → tie.Start
+start c = c .before .before .before
+
+-- past the first test the head is whole
+whole : (c : tie.Else1) → let a = start (c .before) .args in leb (headSize (a .form)) (length (a .bytes .now)) ≡ true
+whole c = let a = start (c .before) .args in le-leb (headSize (a .form)) (length (a .bytes .now)) (omega (arith, c .before .head-size .ensures))
+
+two : (c : tie.Else1) → 2 ≤ length (start (c .before) .args .bytes .now)
+two c = omega (arith, c .before .head-size .ensures, head-some (start (c .before) .args .form))
+
+head-size-requires : tie.Need-head-size-requires
+head-size-requires c κs = search needs
+
 returns : tie.Need-returns
 unfolding headFitsBy
-returns c = simp (lt-leb _ _ (c .if1 .taken))
+returns c =
+    let a = start (c .before) .args in
+    simp (lt-leb (headSize (a .form)) (length (a .bytes .now)) (omega (arith, c .before .head-size .ensures)))
 
 shared-slice-read-id : tie.Need-shared-slice-read-id
-shared-slice-read-id c = search needs
+shared-slice-read-id c = omega (arith, two (c .before))
 
 returns-2 : tie.Need-returns-2
 unfolding headFitsBy
-returns-2 c = simp (le-leb _ _ (c .before .before .if1 .left), eq-eqb _ _ (c .if2 .taken))
+returns-2 c = simp (whole (c .before .before), eq-eqb _ _ (c .if2 .taken))
 
 shared-slice-read-if3 : tie.Need-shared-slice-read-if3
-shared-slice-read-if3 c = search needs
+shared-slice-read-if3 c = omega (arith, two (c .before .before .before))
 
 returns-3 : tie.Need-returns-3
 unfolding headFitsBy
 returns-3 c =
     let else2 = c .before .before in
-    simp (le-leb _ _ (else2 .before .before .if1 .left), ne-eqb _ _ (else2 .if2 .left), eq-eqb _ _ (c .if3 .taken))
+    simp (whole (else2 .before .before), ne-eqb _ _ (else2 .if2 .left), eq-eqb _ _ (c .if3 .taken))
 
 cast-result : tie.Need-cast-result
-cast-result c = omega (arith, c .before .shared-slice-known2 .given 0)
+cast-result c = omega (arith, c .before .shared-slice-known4 .given 0)
 
 shared-slice-read-result : tie.Need-shared-slice-read-result
-shared-slice-read-result c = omega (arith, c .before .before .shared-slice-known2 .given 0, c .before .before .before .before .before .before .pre)
+shared-slice-read-result c =
+    omega (arith, c .before .before .shared-slice-known4 .given 0, start (c .before .before .before .before .before .before) .pre)
 
 returns-4 : tie.Need-returns-4
 unfolding headFitsBy
 returns-4 c =
     let else3 = c .before in
     let else2 = else3 .before .before in
-    simp (le-leb _ _ (else2 .before .before .if1 .left), ne-eqb _ _ (else2 .if2 .left), ne-eqb _ _ (else3 .if3 .left))
+    simp (whole (else2 .before .before), ne-eqb _ _ (else2 .if2 .left), ne-eqb _ _ (else3 .if3 .left))
 
 pub head-fits-spec : {M : Type 1} → statement M
 head-fits-spec =
     tie.close
     (tie.spec
+    head-size-requires
     returns
     shared-slice-read-id
     returns-2

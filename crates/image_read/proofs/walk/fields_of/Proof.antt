@@ -8,7 +8,6 @@ use native.Mathlib.Omega.{arith}
 use borrow.Author.Needs.{needs}
 use lib.ListN.{length, take, drop, replicate, length-set, length-take, length-drop}
 use lib.Seq.{take-all, drop-drop}
-use Rattle.settings.specs.declared.Profile.the-variants.{General}
 use Rattle.settings.specs.Settings.{byteCount, valuesWith, valueCount, rowCount}
 use Rattle.settings.proofs.Laws.{fresh-count}
 use Rattle.panels.proofs.Values.{length-with}
@@ -21,37 +20,38 @@ use Rattle.image_read.proofs.walk.fields_of.Statement.{statement}
 use Rattle.image_read.proofs.walk.fields_of.Tie as tie
 
 abbrev Inv-loop : tie.InvT-loop
-Inv-loop bytes values₀ seen₀ at₀ values seen at =
-    (at ≤ length bytes) × (length values ≡ valueCount) × (length seen ≡ rowCount) × (fieldsIn bytes ≡ fieldsFrom seen values (drop at bytes))
+Inv-loop profile bytes values₀ seen₀ at₀ values seen at =
+    (at ≤ length bytes) × (length values ≡ valueCount) × (length seen ≡ rowCount) × (fieldsIn profile bytes ≡ fieldsFrom profile seen values (drop at bytes))
 
 abbrev μ-loop : tie.MeasureT-loop
-μ-loop bytes values₀ seen₀ at₀ values seen at = length bytes - at
+μ-loop profile bytes values₀ seen₀ at₀ values seen at = length bytes - at
 
 -- what the step says of the bytes that are left, and what they come to
 stepped : (c : tie.After-step-at Inv-loop μ-loop) → let loop = c .before .before .before in
-    stepAt (loop .loop .seen) (drop (loop .loop .at) (loop .before .before .before .args .bytes .now)) ≡ c .step-at .result
+    stepAt (loop .before .before .before .args .profile) (loop .loop .seen) (drop (loop .loop .at) (loop .before .before .before .args .bytes .now)) ≡ c .step-at .result
 stepped c =
     let loop = c .before .before .before in
     let bytes = loop .before .before .before .args .bytes .now in
     let at = loop .loop .at in
     let all = take-all (length bytes - at) (drop at bytes) (rw length-drop (omega arith)) in
-    sym (c .step-at .ensures ∙ ap (stepAt (loop .loop .seen)) all)
+    sym (c .step-at .ensures ∙ ap (stepAt (loop .before .before .before .args .profile) (loop .loop .seen)) all)
 
 goes-on : (c : tie.After-step-at Inv-loop μ-loop) (s : Step) → c .step-at .result ≡ s → let loop = c .before .before .before in
-    let left = drop (loop .loop .at) (loop .before .before .before .args .bytes .now) in
+    let a = loop .before .before .before .args in
+    let left = drop (loop .loop .at) (a .bytes .now) in
     let values = loop .loop .values in
-    fieldsIn (loop .before .before .before .args .bytes .now)
-    ≡ afterStep s values (λ row. fieldsFrom (seenWith row (loop .loop .seen)) (valuesWith row (valuesIn row left) values) (behind row left))
+    fieldsIn (a .profile) (a .bytes .now)
+    ≡ afterStep s values (λ row. fieldsFrom (a .profile) (seenWith row (loop .loop .seen)) (valuesWith row (valuesIn row left) values) (behind row left))
 goes-on c s e =
     let loop = c .before .before .before in
-    loop .loop .inv .3 ∙ fields-step (loop .loop .seen) (loop .loop .values) _ s (stepped c ∙ e)
+    loop .loop .inv .3 ∙ fields-step _ (loop .loop .seen) (loop .loop .values) _ s (stepped c ∙ e)
 
 -- what stands there where a field is taken
 found : (c : tie.After-known-told Inv-loop μ-loop) → let loop = c .before .before .before .before .before .before in
-    Takes (loop .loop .seen) (drop (loop .loop .at) (loop .before .before .before .args .bytes .now)) (c .before .step .given .0 .0)
+    Takes (loop .before .before .before .args .profile) (loop .loop .seen) (drop (loop .loop .at) (loop .before .before .before .args .bytes .now)) (c .before .step .given .0 .0)
 found c =
     let call = c .before .before .before in
-    takes _ _ _ (stepped call ∙ c .before .step .given .1)
+    takes _ _ _ _ (stepped call ∙ c .before .step .given .1)
 
 room : (c : tie.After-known-told Inv-loop μ-loop) → let loop = c .before .before .before .before .before .before in
     loop .loop .at + 2 + byteCount (c .before .step .given .0 .0) ≤ length (loop .before .before .before .args .bytes .now)
@@ -78,7 +78,10 @@ fresh-requires : tie.Need-fresh-requires Inv-loop μ-loop
 fresh-requires c κs = tt
 
 loop-holds : tie.Need-loop-holds Inv-loop μ-loop
-loop-holds c = (omega arith, ap length (c .fresh .ensures) ∙ (fresh-count General), refl, ap (λ (vs : List ℕ). fieldsFrom (replicate rowCount false) vs (c .before .before .args .bytes .now)) (sym (c .fresh .ensures)))
+loop-holds c =
+    let a = c .before .before .args in
+    let fresh = c .fresh .ensures in
+    (omega arith, ap length fresh ∙ fresh-count (a .profile), refl, ap (λ (vs : List ℕ). fieldsFrom (a .profile) (replicate rowCount false) vs (a .bytes .now)) (sym fresh))
 
 sub-step-at : tie.Need-sub-step-at Inv-loop μ-loop
 sub-step-at c = omega (arith, c .loop .inv)

@@ -10,7 +10,7 @@ use types.Run.{OneOf}
 use denote.Enum.Declared.{tagOf}
 use lib.Dec.{eqb}
 use lib.ListN.{length, getD, take, drop}
-use Rattle.settings.specs.declared.Profile.the-variants.{General}
+use Rattle.settings.specs.declared.Profile.{Profile}
 use Rattle.settings.specs.declared.Found.{Found}
 use Rattle.settings.specs.declared.Found.the-variants.{Set, Get, Nothing}
 use Rattle.settings.proofs.Found.{the-type}
@@ -22,28 +22,28 @@ use borrow.Author.Needs.{needs}
 use Rattle.image_read.proofs.walk.step_at.Statement.{statement}
 use Rattle.image_read.proofs.walk.step_at.Tie as tie
 
-not-set : (f : Found) (seen : List Bool) (left : List ℕ) → OneOf (1 ∷ 2 ∷ []) (tagOf the-type f) → Broken ≡ fieldBy f seen left
-not-set (Set row) seen left h = absurd (⊎-elim (λ e. omega arith) (λ e. omega arith) h)
-not-set (Get row) seen left h = refl
-not-set Nothing seen left h = refl
+not-set : (profile : Profile) (f : Found) (seen : List Bool) (left : List ℕ) → OneOf (1 ∷ 2 ∷ []) (tagOf the-type f) → Broken ≡ fieldBy profile f seen left
+not-set profile (Set row) seen left h = absurd (⊎-elim (λ e. omega arith) (λ e. omega arith) h)
+not-set profile (Get row) seen left h = refl
+not-set profile Nothing seen left h = refl
 
 -- the tests on a row's field, in order
-module _ (seen : List Bool) (left : List ℕ) (row : ℕ) (n : eqb (length left) 0 ≡ false) (found : foundBy (getD left 0 0) ≡ Set row) where
-  when-seen : getD seen row false ≡ true → Broken ≡ stepAt seen left
+module _ (profile : Profile) (seen : List Bool) (left : List ℕ) (row : ℕ) (n : eqb (length left) 0 ≡ false) (found : foundBy (getD left 0 0) ≡ Set row) where
+  when-seen : getD seen row false ≡ true → Broken ≡ stepAt profile seen left
   unfolding stepAt
   when-seen s = simp (n, found, s)
 
-  when-cut : getD seen row false ≡ false → length left < 2 + byteCount row → Broken ≡ stepAt seen left
+  when-cut : getD seen row false ≡ false → length left < 2 + byteCount row → Broken ≡ stepAt profile seen left
   unfolding stepAt
   when-cut s h = simp (n, found, s, lt-ltb (length left) (2 + byteCount row) h)
 
   module _ (s : getD seen row false ≡ false) (h : 2 + byteCount row ≤ length left) where
-    when-other : (getD left 1 0 ≡ byteCount row → ⊥) → Broken ≡ stepAt seen left
+    when-other : (getD left 1 0 ≡ byteCount row → ⊥) → Broken ≡ stepAt profile seen left
     unfolding stepAt
     when-other d = simp (n, found, s, le-ltb (length left) (2 + byteCount row) h, ne-eqb (getD left 1 0) (byteCount row) d)
 
-    when-whole : getD left 1 0 ≡ byteCount row → (t : Bool) → allowedFor General row (valuesIn row left) ≡ t
-        → cond t (Field row) NotAllowed ≡ stepAt seen left
+    when-whole : getD left 1 0 ≡ byteCount row → (t : Bool) → allowedFor profile row (valuesIn row left) ≡ t
+        → cond t (Field row) NotAllowed ≡ stepAt profile seen left
     unfolding stepAt
     when-whole d t a = simp (n, found, s, le-ltb (length left) (2 + byteCount row) h, eq-eqb (getD left 1 0) (byteCount row) d, a)
 
@@ -75,7 +75,7 @@ unfolding stepAt
 returns-2 c =
     let call = c .before in
     let a = call .before .before .before .before .before .args in
-    rw (some call, ← call .find-setting .ensures) (not-set (call .find-setting .result) (a .seen .now) (a .left .now) (c .match .keys2))
+    rw (some call, ← call .find-setting .ensures) (not-set (a .profile) (call .find-setting .result) (a .seen .now) (a .left .now) (c .match .keys2))
 
 byte-count-requires : tie.Need-byte-count-requires
 byte-count-requires c κs = in-table c
@@ -84,7 +84,7 @@ shared-slice-read-if2 : tie.Need-shared-slice-read-if2
 shared-slice-read-if2 c = omega (arith, in-table (c .before .before), c .before .before .before .before .before .before .before .before .before .before .pre)
 
 returns-3 : tie.Need-returns-3
-returns-3 c = let known = c .before .before .before in when-seen _ _ _ (some (known .before .before .before)) (found known) (c .if2 .taken)
+returns-3 c = let known = c .before .before .before in when-seen _ _ _ _ (some (known .before .before .before)) (found known) (c .if2 .taken)
 
 add-if3 : tie.Need-add-if3
 add-if3 c = omega (arith, place-fits (c .before .before .before .before .found .given .0 .0))
@@ -93,7 +93,7 @@ returns-4 : tie.Need-returns-4
 returns-4 c =
     let else2 = c .before in
     let known = else2 .before .before .before in
-    when-cut _ _ _ (some (known .before .before .before)) (found known) (else2 .if2 .left) (omega (arith, c .if3 .taken, else2 .before .before .byte-count .ensures))
+    when-cut _ _ _ _ (some (known .before .before .before)) (found known) (else2 .if2 .left) (omega (arith, c .if3 .taken, else2 .before .before .byte-count .ensures))
 
 shared-slice-read-if4 : tie.Need-shared-slice-read-if4
 shared-slice-read-if4 c = search needs
@@ -107,7 +107,7 @@ returns-5 c =
     let else2 = else3 .before in
     let known = else2 .before .before .before in
     let n = else2 .before .before .byte-count .ensures in
-    when-other _ _ _ (some (known .before .before .before)) (found known) (else2 .if2 .left) (omega (arith, else3 .if3 .left)) (λ e. c .if4 .taken (e ∙ sym n))
+    when-other _ _ _ _ (some (known .before .before .before)) (found known) (else2 .if2 .left) (omega (arith, else3 .if3 .left)) (λ e. c .if4 .taken (e ∙ sym n))
 
 add-allowed : tie.Need-add-allowed
 add-allowed c = search needs
@@ -128,18 +128,18 @@ allowed-requires c κs = in-table (c .before .before .before .before .before .be
 whole : (c : tie.After-allowed) (t : Bool) → c .allowed .result ≡ t → let known = c .before .before .before .before .before .before .before .before in
     let row = known .before .found .given .0 .0 in
     let a = known .before .before .before .before .before .before .before .before .args in
-    cond t (Field row) NotAllowed ≡ stepAt (a .seen .now) (a .left .now)
+    cond t (Field row) NotAllowed ≡ stepAt (a .profile) (a .seen .now) (a .left .now)
 whole c t e =
     let else4 = c .before .before in
     let else3 = else4 .before .before in
     let else2 = else3 .before in
     let known = else2 .before .before .before in
-    let left = known .before .before .before .before .before .before .before .before .args .left .now in
+    let a = known .before .before .before .before .before .before .before .before .args in
     let row = known .before .found .given .0 .0 in
     let n = else2 .before .before .byte-count .ensures in
     let m : 2 + else2 .before .before .byte-count .result - 2 ≡ byteCount row = omega arith in
-    let answer = c .allowed .ensures ∙ ap (λ (k : ℕ). allowedFor General row (take k (drop 2 left))) m in
-    when-whole _ _ _ (some (known .before .before .before)) (found known) (else2 .if2 .left) (omega (arith, else3 .if3 .left)) (else4 .if4 .left ∙ n) t (sym answer ∙ e)
+    let answer = c .allowed .ensures ∙ ap (λ (k : ℕ). allowedFor (a .profile) row (take k (drop 2 (a .left .now)))) m in
+    when-whole _ _ _ _ (some (known .before .before .before)) (found known) (else2 .if2 .left) (omega (arith, else3 .if3 .left)) (else4 .if4 .left ∙ n) t (sym answer ∙ e)
 
 returns-6 : tie.Need-returns-6
 returns-6 c = whole (c .before) false (not-true _ (c .if5 .taken))

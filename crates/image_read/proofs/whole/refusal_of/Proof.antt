@@ -3,43 +3,52 @@ use mathlib.Core.Path.{_≡_, sym, _∙_}
 use mathlib.Core.Bool.{true, false}
 use Prim.Native.Nat.{_+_, _*_}
 use native.Mathlib.Omega.{arith}
-use borrow.Author.Tests.{le-ltb, lt-ltb, eq-eqb, ne-eqb, not-true, not-false}
-use lib.Dec.{ltb, eqb}
+use borrow.Author.Tests.{le-ltb, lt-ltb, not-true, not-false}
+use lib.Dec.{ltb}
 use lib.ListN.{length}
 use Rattle.panels.specs.Wall.{mostPanels}
-use Rattle.image_read.specs.Whole.{formOf, countOf, wholeRefusal}
+use Rattle.forms.specs.Forms.{isForm}
+use Rattle.image_read.specs.Whole.{lastByte, countOf, wholeRefusal}
 use borrow.Author.Needs.{needs}
 use Rattle.image_read.proofs.whole.refusal_of.Statement.{statement}
 use Rattle.image_read.proofs.whole.refusal_of.Tie as tie
 
+abbrev start : tie.Else2 → tie.Start
+start c = c .before .before .before .before .before
+
 -- what the tests passed say
-two : (c : tie.Else2) → ltb (length (c .before .before .before .before .args .image .now)) 2 ≡ false
-two c = le-ltb _ _ (c .before .before .if1 .left)
+two : (c : tie.Else2) → ltb (length (start c .args .image .now)) 2 ≡ false
+two c = le-ltb _ _ (c .before .before .before .if1 .left)
 
-form : (c : tie.Else2) → eqb (formOf (c .before .before .before .before .args .image .now)) 1 ≡ true
-form c = eq-eqb _ _ (c .if2 .left)
+form : (c : tie.Else2) → isForm (lastByte (start c .args .image .now)) ≡ true
+form c = sym (c .before .is-form .ensures) ∙ not-false _ (c .if2 .left)
 
-few : (c : tie.Else3) → ltb mostPanels (countOf (c .before .before .before .before .before .before .args .image .now)) ≡ false
-few c = le-ltb mostPanels (countOf (c .before .before .before .before .before .before .args .image .now)) (omega (arith, c .before .count-of .ensures))
+few : (c : tie.Else3) → ltb mostPanels (countOf (start (c .before .before) .args .image .now)) ≡ false
+few c = le-ltb mostPanels (countOf (start (c .before .before) .args .image .now)) (omega (arith, c .before .count-of .ensures))
 
-room : (c : tie.Else4) → let image = c .before .before .before .before .before .before .before .args .image .now in ltb (length image) (2 * countOf image + 2) ≡ false
+room : (c : tie.Else4) → let image = start (c .before .before .before) .args .image .now in ltb (length image) (2 * countOf image + 2) ≡ false
 room c =
-    let image = c .before .before .before .before .before .before .before .args .image .now in
+    let image = start (c .before .before .before) .args .image .now in
     le-ltb (length image) (2 * countOf image + 2) (omega (arith, c .before .before .count-of .ensures))
 
 returns : tie.Need-returns
 unfolding wholeRefusal
 returns c = simp (lt-ltb _ _ (c .if1 .taken))
 
-sub-if2 : tie.Need-sub-if2
-sub-if2 c = search needs
+sub-is-form : tie.Need-sub-is-form
+sub-is-form c = search needs
 
-shared-slice-read-if2 : tie.Need-shared-slice-read-if2
-shared-slice-read-if2 c = search needs
+shared-slice-read-is-form : tie.Need-shared-slice-read-is-form
+shared-slice-read-is-form c = search needs
+
+is-form-requires : tie.Need-is-form-requires
+is-form-requires c κs = search needs
 
 returns-2 : tie.Need-returns-2
 unfolding wholeRefusal
-returns-2 c = simp (le-ltb _ _ (c .before .before .if1 .left), ne-eqb _ _ (c .if2 .taken))
+returns-2 c =
+    let call = c .before in
+    simp (le-ltb _ _ (call .before .before .if1 .left), sym (call .is-form .ensures) ∙ not-true _ (c .if2 .taken))
 
 count-of-requires : tie.Need-count-of-requires
 count-of-requires c κs = search needs
@@ -47,8 +56,8 @@ count-of-requires c κs = search needs
 returns-3 : tie.Need-returns-3
 unfolding wholeRefusal
 returns-3 c =
-    let image = c .before .before .before .before .before .before .args .image .now in
-    simp (two (c .before .before), form (c .before .before), lt-ltb mostPanels (countOf image) (omega (arith, c .before .count-of .ensures)))
+    let else2 = c .before .before in
+    simp (two else2, form else2, lt-ltb mostPanels (countOf (start else2 .args .image .now)) (omega (arith, c .before .count-of .ensures)))
 
 mul-if4 : tie.Need-mul-if4
 mul-if4 c = search needs
@@ -60,7 +69,7 @@ returns-4 : tie.Need-returns-4
 unfolding wholeRefusal
 returns-4 c =
     let call = c .before .before in
-    let image = call .before .before .before .before .before .args .image .now in
+    let image = start (call .before) .args .image .now in
     simp (two (call .before), form (call .before), few (c .before), lt-ltb (length image) (2 * countOf image + 2) (omega (arith, call .count-of .ensures)))
 
 starts-fit-requires : tie.Need-starts-fit-requires
@@ -85,8 +94,9 @@ refusal-of-spec =
     tie.close
     (tie.spec
     returns
-    sub-if2
-    shared-slice-read-if2
+    sub-is-form
+    shared-slice-read-is-form
+    is-form-requires
     returns-2
     count-of-requires
     returns-3

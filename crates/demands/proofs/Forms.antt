@@ -1,0 +1,44 @@
+-- A setup moved from form to form. Assumes nothing.
+use mathlib.Core.Path.{_≡_, sym, ap, subst, _∙_}
+use mathlib.Core.Bool.{true}
+use mathlib.Core.List.{List}
+use Prim.Native.Nat.{ℕ, _≤_}
+use lib.ListN.{length}
+use Rattle.panels.specs.Wall.{Wall, mostPanels}
+use Rattle.panels.specs.WellFormed.{GoodWall}
+use Rattle.panels.proofs.Laws.{panels-of-table}
+use Rattle.forms.specs.declared.Form.{Form}
+use Rattle.forms.specs.declared.Form.the-variants.{One}
+use Rattle.image_read.specs.declared.Refusal.{Refusal}
+use Rattle.image_read.specs.Read.{Reading, readOf}
+use Rattle.image_read.proofs.Sound.{read-formed}
+use Rattle.image_write.specs.Written.{setupOf, losesNothing}
+use Rattle.image.proofs.Back.{front-is-image, written-back}
+use Rattle.image.proofs.Held.{read-held}
+use Rattle.demands.specs.Forms.{Moved, SameTable, ReadGeneral, ThereAndBack, BackAndThere}
+
+-- the wall read is good and has at most 32 panels
+good-read : (image : List ℕ) → GoodWall (readOf image .wall)
+good-read image = subst GoodWall (panels-of-table (readOf image .wall)) (read-formed image .good)
+
+few-read : (image : List ℕ) → length (readOf image .wall) ≤ mostPanels
+few-read image = subst (λ (w : Wall). length w ≤ mostPanels) (panels-of-table (readOf image .wall)) (read-formed image .few)
+
+-- so that the other image is what the form's writer makes of it
+is-setup : {form : Form} {image other : List ℕ} → Moved form image other → other ≡ setupOf form (readOf image .wall)
+is-setup {form} {image} m = sym (m .moved) ∙ front-is-image form (readOf image .wall) (good-read image) (m .out) (m .count) (m .written)
+
+pub same-table : SameTable
+same-table form image other m =
+    ap readOf (sym (m .moved)) ∙ written-back form (readOf image .wall) (good-read image) (few-read image) (m .out) (m .count) (m .written)
+    ∙ ap {B = Reading} (λ (r : Refusal). record { refusal = r; wall = readOf image .wall }) (sym (m .sound))
+
+pub reads-general : ReadGeneral
+reads-general image one = subst (λ (f : Form). losesNothing f (readOf image .wall) ≡ true) one (read-held image)
+
+pub there-and-back : ThereAndBack
+there-and-back image there back own one to from mine =
+    is-setup from ∙ ap (λ (r : Reading). setupOf One (r .wall)) (same-table _ image there to) ∙ sym (is-setup mine)
+
+pub back-and-there : BackAndThere
+back-and-there image back there two from to = same-table _ back there to ∙ same-table _ image back from

@@ -1,0 +1,38 @@
+-- A setup moved from form to form. 02, A2.
+use Prim.Native.Nat.{ℕ}
+use mathlib.Core.Bool.{true}
+use mathlib.Core.Path.{_≡_}
+use mathlib.Core.List.{List}
+use lib.ListN.{take}
+use Rattle.forms.specs.declared.Form.{Form}
+use Rattle.forms.specs.declared.Form.the-variants.{One, Two}
+use Rattle.image_read.specs.declared.Refusal.the-variants.{Nothing as Sound}
+use Rattle.image_read.specs.Whole.{formOf}
+use Rattle.image_read.specs.Read.{readOf}
+use Rattle.image_write.specs.declared.Written.the-variants.{Bytes}
+use Rattle.image_write.specs.Written.{losesNothing, writtenOf, outputOf}
+
+-- an image is read without fault, and what a form's writer puts out of the table, where it does not refuse, is the other
+pub record Moved (form : Form) (image other : List ℕ) : Type 0 where
+  pub sound : readOf image .refusal ≡ Sound
+  pub out : List ℕ
+  pub count : ℕ
+  pub written : writtenOf form (readOf image .wall) out ≡ Bytes count
+  pub moved : take count (outputOf form (readOf image .wall) out) ≡ other
+
+-- The same table is read from both.
+abbrev pub SameTable : Type 0
+SameTable = (form : Form) (image other : List ℕ) → Moved form image other → readOf other ≡ readOf image
+
+-- Form 1 loses nothing of what is read from it: it is general. So the way back is never refused by 31,
+abbrev pub ReadGeneral : Type 0
+ReadGeneral = (image : List ℕ) → formOf image ≡ One → losesNothing One (readOf image .wall) ≡ true
+
+-- and to form 2 and back gives the image that form 1's writer makes of the same table.
+abbrev pub ThereAndBack : Type 0
+ThereAndBack =
+    (image there back own : List ℕ) → formOf image ≡ One → Moved Two image there → Moved One there back → Moved One image own → back ≡ own
+
+-- Form 2 to form 1, where it is not refused, and back gives the same table.
+abbrev pub BackAndThere : Type 0
+BackAndThere = (image back there : List ℕ) → formOf image ≡ Two → Moved One image back → Moved Two back there → readOf there ≡ readOf image

@@ -1,0 +1,48 @@
+-- The forms of a setup image, and all that differs between them. 01, "Setup image, form 1". 02, A2: form 2 puts the profile byte
+-- after the group, the form byte is 2, all else is as before.
+use Prim.Native.Nat.{ℕ}
+use mathlib.Core.Bool.{Bool, true, cond, _||_}
+use mathlib.Core.List.{List, [], _∷_}
+use lib.Dec.{eqb}
+use lib.ListN.{getD}
+use Rattle.settings.specs.declared.Profile.{Profile}
+use Rattle.settings.specs.declared.Profile.the-variants.{General}
+use Rattle.profiles.specs.declared.Numbered.{Numbered}
+use Rattle.profiles.specs.declared.Numbered.the-variants.{Known}
+use Rattle.profiles.specs.Numbers.{profileNumber, profileWith}
+use Rattle.forms.specs.declared.Form.{Form}
+use Rattle.forms.specs.declared.Form.the-variants.{One, Two}
+
+-- the form byte
+abbrev pub formByte : Form → ℕ
+formByte One = 1
+formByte Two = 2
+
+-- a byte that is a form's, and which form's it then is
+unfoldable pub isForm : ℕ → Bool
+isForm byte = eqb byte (formByte One) || eqb byte (formByte Two)
+
+unfoldable pub formWith : ℕ → Form
+formWith byte = cond (eqb byte (formByte One)) One Two
+
+-- a record's head: ID, group, and in form 2 the profile's number
+abbrev pub headSize : Form → ℕ
+headSize One = 2
+headSize Two = 3
+
+abbrev pub profileBytes : Form → Profile → List ℕ
+profileBytes One profile = []
+profileBytes Two profile = profileNumber profile ∷ []
+
+abbrev pub headOf : Form → ℕ → ℕ → Profile → List ℕ
+headOf form id group profile = id ∷ group ∷ profileBytes form profile
+
+-- the profile that a record says: form 1 has no room for one, and its records are general
+abbrev pub profileIn : Form → List ℕ → Numbered
+profileIn One bytes = Known General
+profileIn Two bytes = profileWith (getD bytes 2 0)
+
+-- so that it would lose any other
+abbrev pub holds : Form → Profile → Bool
+holds One profile = eqb (profileNumber profile) (profileNumber General)
+holds Two profile = true

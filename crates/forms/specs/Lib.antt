@@ -1,0 +1,2 @@
+-- What differs between the forms of a setup image.
+pub mod Forms

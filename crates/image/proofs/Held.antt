@@ -1,0 +1,35 @@
+-- A form holds whatever is read from its images. Assumes nothing.
+use mathlib.Core.Path.{_≡_, refl}
+use mathlib.Core.Bool.{Bool, true, false, cond}
+use mathlib.Core.List.{List, [], _∷_, _++_}
+use Prim.Native.Nat.{ℕ}
+use Rattle.panels.specs.Wall.{Wall}
+use Rattle.forms.specs.declared.Form.{Form}
+use Rattle.forms.specs.declared.Form.the-variants.{One, Two}
+use Rattle.forms.specs.Forms.{holds}
+use Rattle.image_write.specs.Written.{losesNothing}
+use Rattle.image_write.proofs.Losing.{one-more}
+use Rattle.image_read.specs.Whole.{formOf, wholeRefusal, recordsIn}
+use Rattle.image_read.specs.Read.{Reading, isSound, recordRefusal, panelIn, refused, readRecords, readOf}
+
+panel-held : (form : Form) (bytes : List ℕ) → holds form (panelIn form bytes .profile) ≡ true
+unfolding panelIn
+panel-held One bytes = refl
+panel-held Two bytes = refl
+
+either : (form : Form) (t : Bool) (a b : Reading) → losesNothing form (a .wall) ≡ true → losesNothing form (b .wall) ≡ true
+    → losesNothing form (cond t a b .wall) ≡ true
+either form true a b e d = e
+either form false a b e d = d
+
+records-held : (form : Form) (w : Wall) (records : List (List ℕ)) → losesNothing form w ≡ true → losesNothing form (readRecords form w records .wall) ≡ true
+unfolding readRecords losesNothing
+records-held form w [] e = e
+records-held form w (bytes ∷ records) e =
+    either form (isSound (recordRefusal form w bytes)) _ (refused (recordRefusal form w bytes))
+    (records-held form (w ++ panelIn form bytes ∷ []) records (one-more form w (panelIn form bytes) e (panel-held form bytes))) refl
+
+pub read-held : (image : List ℕ) → losesNothing (formOf image) (readOf image .wall) ≡ true
+unfolding readOf losesNothing
+read-held image =
+    either (formOf image) (isSound (wholeRefusal image)) _ (refused (wholeRefusal image)) (records-held (formOf image) [] (recordsIn image) refl) refl

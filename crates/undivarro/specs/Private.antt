@@ -1,2 +1,0 @@
--- What only this crate's contracts cite: `Setup` is the image of a wall.
-pub mod Setup
