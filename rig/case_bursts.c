@@ -73,7 +73,7 @@ static size_t make_set(struct source *s, enum burst_kind kind, unsigned row, uin
 /* The data bytes, which are 0 before; their number. */
 static size_t make_data(struct source *s, enum burst_kind kind, uint8_t *data)
 {
-    unsigned row = below(s, ROWS);
+    unsigned row = one_in(s, 4) ? VIDEO : below(s, ROWS);
     switch (kind) {
     case BURST_GET:
         data[0] = rows[row].get_code;

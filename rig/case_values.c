@@ -2,7 +2,7 @@
 
 #include "undivarro.h"
 
-enum { SHARPNESS_AT = 3, TINT_AT = 4, GAMMA_AT = 6 };
+enum { SHARPNESS_AT = 3, TINT_AT, GAMMA_AT = 6 };
 
 const struct row rows[ROWS] = {
     {0x18, 0x19, 1, {2, {1, 2}}, {3, {0, 3, 255}}},
@@ -50,7 +50,7 @@ void values(struct source *s, unsigned row, uint8_t profile, uint8_t *to)
 
 void spoil_value(struct source *s, unsigned row, uint8_t profile, uint8_t *to)
 {
-    unsigned at = below(s, rows[row].count);
+    unsigned at = row == VIDEO && one_in(s, 2) ? SHARPNESS_AT + below(s, 2) : below(s, rows[row].count);
     to[at] = one_in(s, 4) ? any_byte(s) : value(s, row, profile, at, false);
 }
 

@@ -21,7 +21,7 @@ extern const struct row rows[ROWS];
 /* All values of a setting, allowed for a panel of the profile. */
 void values(struct source *s, unsigned row, uint8_t profile, uint8_t *to);
 
-/* One value changed to one that is not allowed or, seldom, to any byte. */
+/* One value, of a video often sharpness or tint, changed to one that is not allowed or, seldom, to any byte. */
 void spoil_value(struct source *s, unsigned row, uint8_t profile, uint8_t *to);
 
 /* One value of a video changed to one that this profile alone allows. */
