@@ -6,8 +6,7 @@
 #include "status.h"
 
 static const char usage[] =
-    "usage: rig play IMAGE                           bursts from standard input, one in hex on each line; prints the\n"
-    "                                                answers\n"
+    "usage: rig play IMAGE                           plays bursts from standard input, one in hex on each line\n"
     "       rig new IMAGE [ID:GROUP[:phoenix] ...]   a new setup of up to 32 fresh panels, in this order\n"
     "       rig show IMAGE                           the panels of a setup\n"
     "       rig back IMAGE NEW                       the setup in form 1, for an older box, in a new file NEW\n"
