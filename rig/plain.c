@@ -124,9 +124,11 @@ struct undivarro_result plain_play(const uint8_t *image, size_t image_len,
         return refused(19);
 
     size_t answer_len = answer_burst(&wall, burst, burst_len, answer);
-    struct undivarro_result result = written(&wall, FORM_2, out, out_cap);
-    result.answer_len = (uint32_t)answer_len;
-    return result;
+    write_image(&wall, FORM_2, out);
+    return (struct undivarro_result){
+        .answer_len = (uint32_t)answer_len,
+        .image_len = (uint32_t)image_len_of(&wall, FORM_2),
+    };
 }
 
 struct undivarro_result plain_read(const uint8_t *image, size_t image_len,
