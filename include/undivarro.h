@@ -3,6 +3,10 @@
  * A setup image holds a wall of up to 32 panels with all their settings. The library keeps nothing between calls: the
  * caller hands in the image, gets the image after the burst, and hands that in with the next burst.
  *
+ * An image has one of two forms, told apart by its last byte, 1 or 2. In form 2 each panel has a profile, general or
+ * Phoenix, which says what its video may be; in form 1 every panel is general. Every function reads both forms.
+ * undivarro_play and undivarro_read write form 2; undivarro_back writes form 1, for boxes that know no other.
+ *
  * Every byte string is lent for the call as a pointer and a length. Any bytes and any lengths may be given; nothing
  * outside the lent lengths is read or written. The buffers that are written, answer and out, overlap neither each other
  * nor what is read: out is not image. A pointer whose length is 0 is not used. */
@@ -19,40 +23,56 @@ extern "C" {
 enum {
     UNDIVARRO_MAX_PANELS = 32,
     UNDIVARRO_ANSWER_CAP = 40,          /* what answer must have room for */
-    UNDIVARRO_IMAGE_CAP = 35 * 32 + 2   /* room for every image that is written: 35n + 2 bytes for n panels */
+    UNDIVARRO_IMAGE_CAP = 36 * 32 + 2   /* room for every image that is written: for n panels form 2 has 36n + 2 bytes,
+                                           form 1 35n + 2 */
+};
+
+/* The profile byte of a panel in form 2: the third of its record, after ID and group. */
+enum {
+    UNDIVARRO_GENERAL = 0,
+    UNDIVARRO_PHOENIX = 1               /* sharpness 0 to 10, tint -50 to +50 in two's complement, the rest as general */
 };
 
 /* refusal: 0, or the number of what was wrong; then both lengths are 0 and both buffers are as they were.
  *
  *   11  image: fewer than 2 bytes
- *   12  image: last byte is not 1
+ *   12  image: last byte is neither 1 nor 2
  *   13  image: panel count above 32
  *   14  image: shorter than 2n + 2 bytes
  *   15  image: starts don't fit
- *   16  record: under 2 bytes, ID 0, group 0, or ID seen before
+ *   16  record: under 2 bytes, in form 2 under 3, ID 0, group 0, ID seen before, or in form 2 an unknown profile
  *   17  field: not a set code, seen before in this record, length wrong, or cut off
- *   18  field: value not allowed
- *   19  answer_cap under 40, or out_cap under 35n + 2, n being the image's panel count
+ *   18  field: value not allowed for the panel's profile
+ *   31  undivarro_back only: a panel is Phoenix, which form 1 cannot say
+ *   19  answer_cap under 40, or out_cap under the size of the form written, 36n + 2, or 35n + 2 for undivarro_back; n
+ *       is the image's panel count
  *
  * 11 to 15 are tested on the whole image; then record after record, each its 16 and then field after field its 17 and
- * its 18; the first fault counts. 19 comes last. */
+ * its 18; the first fault counts. 31 comes after all of these, and 19 last. */
 struct undivarro_result {
     uint32_t refusal;
     uint32_t answer_len;                /* bytes written to answer; 0 is silence */
-    uint32_t image_len;                 /* bytes written to out: 35n + 2 */
+    uint32_t image_len;                 /* bytes written to out: 36n + 2, or 35n + 2 by undivarro_back */
 };
 
 /* Plays one burst on the wall of the image. A burst is all the bytes between two quiet marks of the line, of any number,
  * none included. The answer packet, ready to be sent, goes to the front of answer, and the image after the burst to the
- * front of out; the bytes past them stay as they were. A damaged burst is no refusal: its answer is NACK or silence. */
+ * front of out, in form 2; the bytes past them stay as they were. A damaged burst is no refusal: its answer is NACK or
+ * silence. Each panel judges a set by its own profile: of a group, one may take it while its neighbour keeps what it
+ * had. */
 struct undivarro_result undivarro_play(const uint8_t *image, size_t image_len,
                                        const uint8_t *burst, size_t burst_len,
                                        uint8_t *answer, size_t answer_cap,
                                        uint8_t *out, size_t out_cap);
 
-/* Reads an image and writes its wall to the front of out with all eight fields of each panel, by rising code: fields may
- * come in any order, and one that is left out has its fresh value. answer_len is 0. 19 speaks of out_cap only. */
+/* Reads an image and writes its wall to the front of out in form 2, with all eight fields of each panel, by rising code:
+ * fields may come in any order, and one that is left out has the fresh value of the panel's profile. answer_len is 0. 19
+ * speaks of out_cap only. */
 struct undivarro_result undivarro_read(const uint8_t *image, size_t image_len,
+                                       uint8_t *out, size_t out_cap);
+
+/* As undivarro_read, but writes form 1. It loses nothing: a wall with a Phoenix panel is refused by 31. */
+struct undivarro_result undivarro_back(const uint8_t *image, size_t image_len,
                                        uint8_t *out, size_t out_cap);
 
 #ifdef __cplusplus

@@ -51,21 +51,26 @@ struct outcome {
     uint8_t answer[UNDIVARRO_ANSWER_CAP], out[UNDIVARRO_IMAGE_CAP];
 };
 
-static uint8_t image[UNDIVARRO_IMAGE_CAP];
-static size_t image_len;
+/* 32 fresh general panels, all in group 9, as each form is written. */
+struct image {
+    size_t len;
+    uint8_t bytes[UNDIVARRO_IMAGE_CAP];
+};
+
+static struct image form_1, form_2;
 
 /* noipa: one piece of code for all, so that what stands around a call is the same for each. */
 __attribute__((noipa)) static uint64_t count_play(play_function *function, const uint8_t *burst, size_t len, struct outcome *o)
 {
     uint64_t before = count_now();
-    o->result = function(image, image_len, burst, len, o->answer, sizeof o->answer, o->out, sizeof o->out);
+    o->result = function(form_2.bytes, form_2.len, burst, len, o->answer, sizeof o->answer, o->out, sizeof o->out);
     return count_now() - before;
 }
 
-__attribute__((noipa)) static uint64_t count_read(read_function *function, struct outcome *o)
+__attribute__((noipa)) static uint64_t count_read(read_function *function, const struct image *image, struct outcome *o)
 {
     uint64_t before = count_now();
-    o->result = function(image, image_len, o->out, sizeof o->out);
+    o->result = function(image->bytes, image->len, o->out, sizeof o->out);
     return count_now() - before;
 }
 
@@ -93,7 +98,7 @@ static void print_row(const char *what, struct cost cost)
 
 struct trial {
     const char *what;
-    const uint8_t *form;
+    const uint8_t *packet;              /* without size, ID and checksum */
     size_t len;
     bool to_all;
     uint8_t spoil;
@@ -103,11 +108,11 @@ static const uint8_t get_power[] = {0, 0, 0, 0x19, 0};
 static const uint8_t set_video[] = {0, 0, 0, 0x32, 10, 20, 30, 40, 60, 70, 2, 0};
 static const uint8_t set_fan[] = {0, 0, 0, 0x61, 4, 0};
 static const struct trial trials[] = {
-    {"get of power, 5 bytes, to one of 32", get_power, sizeof get_power, false, 0},
-    {"set of video, 12 bytes, to one of 32", set_video, sizeof set_video, false, 0},
-    {"set of fan, 6 bytes, to all 32", set_fan, sizeof set_fan, true, 0},
-    {"set of video, 12 bytes, to all 32", set_video, sizeof set_video, true, 0},
-    {"damaged burst, 5 bytes, for one of 32 (NACK)", get_power, sizeof get_power, false, 1},
+    {"get of power, 5 bytes, to one of 32, form 2", get_power, sizeof get_power, false, 0},
+    {"set of video, 12 bytes, to one of 32, form 2", set_video, sizeof set_video, false, 0},
+    {"set of fan, 6 bytes, to all 32, form 2", set_fan, sizeof set_fan, true, 0},
+    {"set of video, 12 bytes, to all 32, form 2", set_video, sizeof set_video, true, 0},
+    {"damaged burst, 5 bytes, for one of 32 (NACK), form 2", get_power, sizeof get_power, false, 1},
 };
 enum { TRIALS = sizeof trials / sizeof trials[0] };
 
@@ -119,7 +124,7 @@ static struct cost cost_of_play(const struct trial *t)
     uint64_t proved_sum = 0, plain_sum = 0;
     for (unsigned k = 0; k < PANELS; k++) {
         uint8_t burst[UNDIVARRO_ANSWER_CAP];
-        memcpy(burst, t->form, t->len);
+        memcpy(burst, t->packet, t->len);
         burst[0] = (uint8_t)t->len;
         burst[1] = t->to_all ? 0 : (uint8_t)(k + 1);
         burst[t->len - 1] = t->spoil;
@@ -133,20 +138,33 @@ static struct cost cost_of_play(const struct trial *t)
     return (struct cost){proved_sum / PANELS, plain_sum / PANELS};
 }
 
-static struct cost cost_of_read(const char *what)
+struct reading {
+    const char *what;
+    const struct image *image;
+    read_function *proved, *plain;
+};
+
+/* The first is what every call above does with its image. */
+static const struct reading readings[] = {
+    {"image of 32, form 2 read and written", &form_2, undivarro_read, plain_read},
+    {"image of 32, form 1 read, form 2 written", &form_1, undivarro_read, plain_read},
+    {"image of 32, form 2 read, form 1 written", &form_2, undivarro_back, plain_back},
+};
+enum { READINGS = sizeof readings / sizeof readings[0] };
+
+static struct cost cost_of_reading(const struct reading *r)
 {
     static struct outcome proved, plain, none;
-    uint64_t around = count_read(no_read, &none);
-    uint64_t by_proved = count_read(undivarro_read, &proved) - around;
-    uint64_t by_plain = count_read(plain_read, &plain) - around;
-    check_same(what, &proved, &plain);
+    uint64_t around = count_read(no_read, r->image, &none);
+    uint64_t by_proved = count_read(r->proved, r->image, &proved) - around;
+    uint64_t by_plain = count_read(r->plain, r->image, &plain) - around;
+    check_same(r->what, &proved, &plain);
     return (struct cost){by_proved, by_plain};
 }
 
-/* 32 fresh panels, all in group 9, as they are written. */
-static void make_wall(void)
+static void make_images(void)
 {
-    uint8_t fresh[4 * PANELS + 2];
+    uint8_t fresh[4 * PANELS + 2];      /* form 1, records of ID and group */
     for (unsigned k = 0; k < PANELS; k++) {
         fresh[2 * k] = (uint8_t)(k + 1);
         fresh[2 * k + 1] = 9;
@@ -155,7 +173,8 @@ static void make_wall(void)
     }
     fresh[4 * PANELS] = PANELS;
     fresh[4 * PANELS + 1] = 1;
-    image_len = plain_read(fresh, sizeof fresh, image, sizeof image).image_len;
+    form_1.len = plain_back(fresh, sizeof fresh, form_1.bytes, sizeof form_1.bytes).image_len;
+    form_2.len = plain_read(fresh, sizeof fresh, form_2.bytes, sizeof form_2.bytes).image_len;
 }
 
 int main(void)
@@ -167,16 +186,17 @@ int main(void)
     }
     count_from = ends[0];
     count_to = ends[1];
-    make_wall();
+    make_images();
     count_now();
 
     struct cost costs[TRIALS];
     print_head("call");
     for (int i = 0; i < TRIALS; i++)
         print_row(trials[i].what, costs[i] = cost_of_play(&trials[i]));
-    const char *what = "image of 32 read and written";
-    struct cost image_cost = cost_of_read(what);
-    print_row(what, image_cost);
+    struct cost image_cost = cost_of_reading(&readings[0]);
+    print_row(readings[0].what, image_cost);
+    for (int i = 1; i < READINGS; i++)
+        print_row(readings[i].what, cost_of_reading(&readings[i]));
 
     putchar('\n');
     print_head("the burst alone");

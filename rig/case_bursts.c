@@ -3,9 +3,9 @@
 #include <string.h>
 
 const char *const burst_kind_names[BURST_KINDS] = {
-    "empty", "get", "set", "set with any values", "set with any length", "get with bytes behind it", "any code",
-    "no data", "36 bytes of data", "one byte changed", "one byte lost", "one byte added", "two bytes swapped",
-    "1 to 3 bytes", "41 to 300 bytes", "over 65,535 bytes", "random bytes",
+    "empty", "get", "set", "set with any values", "set of video for one profile", "set with any length",
+    "get with bytes behind it", "any code", "no data", "36 bytes of data", "one byte changed", "one byte lost",
+    "one byte added", "two bytes swapped", "1 to 3 bytes", "41 to 300 bytes", "over 65,535 bytes", "random bytes",
 };
 
 enum { AROUND_DATA = 4, MAX_PACKET = 40, MAX_DATA = MAX_PACKET - AROUND_DATA };
@@ -24,7 +24,8 @@ static void close_packet(uint8_t *burst, size_t len)
     set_checksum(burst, len);
 }
 
-static void address(struct source *s, const struct draft *d, uint8_t *id, uint8_t *group)
+/* A set that one profile alone allows goes to all or to a group more often. */
+static void address(struct source *s, enum burst_kind kind, const struct draft *d, uint8_t *id, uint8_t *group)
 {
     uint8_t an_id = any_byte(s), a_group = any_byte(s);
     if (d->count > 0) {
@@ -33,7 +34,7 @@ static void address(struct source *s, const struct draft *d, uint8_t *id, uint8_
     }
     *id = an_id;
     *group = 0;
-    switch (below(s, 8)) {
+    switch (below(s, kind == BURST_SET_ONE_PROFILE ? 3 : 8)) {
     case 0:
         *id = 0;
         break;
@@ -41,10 +42,10 @@ static void address(struct source *s, const struct draft *d, uint8_t *id, uint8_
         *group = a_group;
         *id = one_in(s, 2) ? 0 : an_id;
         break;
-    case 2:
+    case 3:
         *id = any_byte(s);
         break;
-    case 3:
+    case 4:
         *group = one_in(s, 2) ? 255 : any_byte(s);
         break;
     }
@@ -52,11 +53,16 @@ static void address(struct source *s, const struct draft *d, uint8_t *id, uint8_
 
 static size_t make_set(struct source *s, enum burst_kind kind, unsigned row, uint8_t *data)
 {
+    uint8_t profile = any_profile(s);
+    if (kind == BURST_SET_ONE_PROFILE)
+        row = VIDEO;
     size_t len = 1u + rows[row].count;
     data[0] = rows[row].set_code;
-    values(s, row, data + 1);
+    values(s, row, profile, data + 1);
     if (kind == BURST_SET_ANY_VALUE)
-        spoil_value(s, row, data + 1);
+        spoil_value(s, row, profile, data + 1);
+    if (kind == BURST_SET_ONE_PROFILE)
+        put_own_value(s, profile, data + 1);
     if (kind == BURST_SET_LENGTH) {
         data[len] = (uint8_t)below(s, 3);
         len = one_in(s, 2) ? len - 1 : one_in(s, 2) ? len + 1 : 1 + below(s, 9);
@@ -67,7 +73,7 @@ static size_t make_set(struct source *s, enum burst_kind kind, unsigned row, uin
 /* The data bytes, which are 0 before; their number. */
 static size_t make_data(struct source *s, enum burst_kind kind, uint8_t *data)
 {
-    unsigned row = below(s, ROWS);
+    unsigned row = one_in(s, 4) ? VIDEO : below(s, ROWS);
     switch (kind) {
     case BURST_GET:
         data[0] = rows[row].get_code;
@@ -172,14 +178,14 @@ static size_t spoil_burst(struct source *s, enum burst_kind kind, uint8_t *burst
 void make_burst(struct source *s, struct test_case *c, const struct draft *d)
 {
     enum burst_kind kind = below(s, BURST_KINDS);
-    if (one_in(s, 4))
-        kind = BURST_SET;
+    if (one_in(s, 3))
+        kind = one_in(s, 3) ? BURST_SET_ONE_PROFILE : BURST_SET;
     if (kind == BURST_VERY_LONG && !one_in(s, 60))
         kind = BURST_GET;
     c->burst_kind = kind;
 
     uint8_t *burst = c->burst, data[64] = {0};
-    address(s, d, &burst[1], &burst[2]);
+    address(s, kind, d, &burst[1], &burst[2]);
     enum burst_kind data_kind = kind;
     if (kind >= BURST_CHANGED && one_in(s, 2))
         data_kind = BURST_GET;

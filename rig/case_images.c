@@ -4,14 +4,14 @@
 
 const char *const image_kind_names[IMAGE_KINDS] = {
     "as written", "fields in any order", "fields left out", "no panels", "33 panels",
-    "record under 2 bytes", "record with ID 0", "record with group 0", "record with an ID seen before",
+    "record of 1 byte", "record of 2 bytes", "record with ID 0", "record with group 0", "record with an ID seen before",
+    "record with an unknown profile",
     "field with a get code", "field with any code", "field twice", "field with any length", "field cut off",
     "field of a code alone", "field with any value",
+    "Phoenix panel, video for general alone", "general panel, video for Phoenix alone",
     "any form byte", "any panel count", "shorter than its trailer", "starts that don't fit", "bytes before the trailer",
     "one to three bytes of noise", "0 to 3 bytes", "random bytes", "over 65,535 bytes",
 };
-
-enum { FORM = 1 };
 
 static size_t trailer_len(size_t n)
 {
@@ -36,7 +36,7 @@ static size_t put_together(const struct draft *d, uint8_t *image)
     memcpy(image + at, starts, 2 * n);
     at += 2 * n;
     image[at++] = (uint8_t)n;
-    image[at++] = FORM;
+    image[at++] = d->form;
     return at;
 }
 
@@ -120,7 +120,7 @@ static void make_random(struct source *s, struct test_case *c)
     fill_any(s, c->image, c->image_len);
     if (c->image_len >= 2 && !one_in(s, 4)) {
         c->image[c->image_len - 2] = (uint8_t)below(s, MAX_RECORDS + 1);
-        c->image[c->image_len - 1] = FORM;
+        c->image[c->image_len - 1] = (uint8_t)(1 + below(s, 2));
     }
 }
 
@@ -131,6 +131,12 @@ static uint8_t wrong_count(struct source *s)
     return one_in(s, 2) ? any_byte(s) : (uint8_t)below(s, MAX_RECORDS + 1);
 }
 
+static uint8_t any_form(struct source *s)
+{
+    static const uint8_t near[] = {0, 1, 2, 3, 255};
+    return one_in(s, 4) ? any_byte(s) : near[below(s, sizeof near)];
+}
+
 static void spoil_whole(struct source *s, struct test_case *c, size_t n, enum image_kind kind)
 {
     uint8_t *image = c->image;
@@ -138,7 +144,7 @@ static void spoil_whole(struct source *s, struct test_case *c, size_t n, enum im
     switch (kind) {
     case WHOLE_FORM:
         if (len > 0)
-            image[len - 1] = one_in(s, 2) ? 2 * below(s, 2) : any_byte(s);
+            image[len - 1] = any_form(s);
         break;
     case WHOLE_COUNT:
         if (len > 1)
@@ -178,12 +184,15 @@ void make_image(struct source *s, struct test_case *c, struct draft *d)
     };
     c->image_kind = one_in(s, 40) ? IMAGE_NO_PANELS : one_in(s, 200) ? IMAGE_33_PANELS : sound[below(s, 4)];
     make_draft(s, d, c->image_kind);
+    c->form = d->form;
+    c->no_video[UNDIVARRO_GENERAL] = video_left_out(d, UNDIVARRO_GENERAL);
+    c->no_video[UNDIVARRO_PHOENIX] = video_left_out(d, UNDIVARRO_PHOENIX);
 
-    unsigned spoilings = below(s, 2) ? 0 : below(s, 3) ? 1 : 2 + below(s, 2);
+    c->spoilings = below(s, 2) ? 0 : below(s, 3) ? 1 : 2 + below(s, 2);
     enum image_kind whole[3];
     unsigned wholes = 0;
-    while (spoilings-- > 0) {
-        enum image_kind kind = RECORD_SHORT + below(s, IMAGE_KINDS - RECORD_SHORT);
+    for (unsigned i = 0; i < c->spoilings; i++) {
+        enum image_kind kind = RECORD_1_BYTE + below(s, IMAGE_KINDS - RECORD_1_BYTE);
         if (kind == WHOLE_LONG && !one_in(s, 50))
             kind = FIELD_VALUE;
         if (kind >= WHOLE_FORM)

@@ -2,17 +2,23 @@
 
 #include <string.h>
 
+/* ID and group, in form 2 the profile too. */
+static size_t head_len(const struct draft *d)
+{
+    return d->form == 1 ? 2 : 3;
+}
+
 static void add_field(struct source *s, struct record *r, unsigned row)
 {
     r->row_of[r->fields] = (uint8_t)row;
     r->at[r->fields++] = (uint8_t)r->len;
     r->bytes[r->len++] = rows[row].set_code;
     r->bytes[r->len++] = rows[row].count;
-    values(s, row, r->bytes + r->len);
+    values(s, row, r->profile, r->bytes + r->len);
     r->len += rows[row].count;
 }
 
-static void make_record(struct source *s, struct record *r, uint8_t id, uint8_t group, enum image_kind kind)
+static void add_fields(struct source *s, struct record *r, enum image_kind kind)
 {
     uint8_t order[ROWS] = {0, 1, 2, 3, 4, 5, 6, 7};
     if (kind != IMAGE_WRITTEN)
@@ -23,9 +29,6 @@ static void make_record(struct source *s, struct record *r, uint8_t id, uint8_t 
             order[j] = held;
         }
     r->fields = 0;
-    r->bytes[0] = id;
-    r->bytes[1] = group;
-    r->len = 2;
     unsigned kept = kind == IMAGE_LEFT_OUT ? below(s, ROWS + 1) : ROWS;
     for (unsigned i = 0; i < kept; i++)
         add_field(s, r, order[i]);
@@ -46,18 +49,62 @@ static unsigned panel_count(struct source *s)
     }
 }
 
+/* In form 2 each any, or all alike, or all alike but one, often the last. */
+static void choose_profiles(struct source *s, struct draft *d)
+{
+    uint8_t most = d->form == 1 ? UNDIVARRO_GENERAL : any_profile(s);
+    bool mixed = d->form == 2 && one_in(s, 3);
+    for (size_t k = 0; k < d->count; k++)
+        d->records[k].profile = mixed ? any_profile(s) : most;
+    if (d->form == 2 && !mixed && d->count > 0 && one_in(s, 2))
+        d->records[one_in(s, 2) ? d->count - 1 : below(s, (unsigned)d->count)].profile = other_profile(most);
+}
+
 void make_draft(struct source *s, struct draft *d, enum image_kind kind)
 {
+    d->form = one_in(s, 3) ? 1 : 2;
     d->count = kind == IMAGE_NO_PANELS ? 0 : kind == IMAGE_33_PANELS ? MAX_RECORDS : panel_count(s);
+    choose_profiles(s, d);
     bool taken[256] = {[0] = true};
     uint8_t groups[4] = {(uint8_t)(1 + below(s, 254)), one_in(s, 2) ? 1 : 254, 255, 9};
     for (size_t k = 0; k < d->count; k++) {
+        struct record *r = &d->records[k];
         uint8_t id = one_in(s, 4) ? 255 : (uint8_t)(1 + below(s, 40));
         while (taken[id])
             id = any_byte(s);
         taken[id] = true;
-        make_record(s, &d->records[k], id, groups[below(s, 4)], kind);
+        r->bytes[0] = id;
+        r->bytes[1] = groups[one_in(s, 2) ? 0 : below(s, 4)];
+        r->bytes[2] = r->profile;       /* in form 1 the first field comes over it */
+        r->len = head_len(d);
+        add_fields(s, r, kind);
     }
+}
+
+/* The place of the record's video among its fields, or their number. */
+static unsigned video_at(const struct record *r)
+{
+    unsigned f = 0;
+    while (f < r->fields && r->row_of[f] != VIDEO)
+        f++;
+    return f;
+}
+
+bool video_left_out(const struct draft *d, uint8_t profile)
+{
+    for (size_t k = 0; k < d->count; k++)
+        if (d->records[k].profile == profile && video_at(&d->records[k]) == d->records[k].fields)
+            return true;
+    return false;
+}
+
+/* A value of the video that the other profile alone allows. */
+static void spoil_video(struct source *s, struct record *r)
+{
+    unsigned f = video_at(r);
+    if (f == r->fields)
+        add_field(s, r, VIDEO);
+    put_own_value(s, other_profile(r->profile), r->bytes + r->at[f] + 2);
 }
 
 static void spoil_field(struct source *s, struct record *r, enum image_kind kind)
@@ -78,7 +125,7 @@ static void spoil_field(struct source *s, struct record *r, enum image_kind kind
         if (r->len + 2 + rows[row].count <= RECORD_ROOM) {
             memmove(r->bytes + r->len, field, 2u + rows[row].count);
             if (one_in(s, 2))
-                values(s, row, r->bytes + r->len + 2);
+                values(s, row, r->profile, r->bytes + r->len + 2);
             r->len += 2u + rows[row].count;
         }
         break;
@@ -94,19 +141,38 @@ static void spoil_field(struct source *s, struct record *r, enum image_kind kind
             r->bytes[r->len++] = one_in(s, 2) ? rows[below(s, ROWS)].set_code : any_code(s);
         break;
     default:
-        spoil_value(s, row, field + 2);
+        spoil_value(s, row, r->profile, field + 2);
     }
+}
+
+/* Any record, or for a value that one profile alone allows one of the other profile; NULL where there is none. */
+static struct record *record_to_spoil(struct source *s, struct draft *d, enum image_kind kind)
+{
+    for (size_t i = 0, k = below(s, (unsigned)d->count); i < d->count; i++, k = (k + 1) % d->count) {
+        struct record *r = &d->records[k];
+        if ((kind == FIELD_GENERAL_ALONE && r->profile == UNDIVARRO_GENERAL)
+            || (kind == FIELD_PHOENIX_ALONE && r->profile == UNDIVARRO_PHOENIX))
+            continue;
+        return r;
+    }
+    return NULL;
+}
+
+static uint8_t unknown_profile(struct source *s)
+{
+    static const uint8_t near[] = {2, 3, 0x18, 0x32, 0x80, 0x81, 254, 255};
+    return one_in(s, 4) ? (uint8_t)(2 + below(s, 254)) : near[below(s, sizeof near)];
 }
 
 void spoil_draft(struct source *s, struct draft *d, enum image_kind kind)
 {
-    if (d->count == 0)
+    struct record *r = d->count > 0 ? record_to_spoil(s, d, kind) : NULL;
+    if (!r)
         return;
-    size_t k = below(s, (unsigned)d->count);
-    struct record *r = &d->records[k];
     switch (kind) {
-    case RECORD_SHORT:
-        r->len = 1;
+    case RECORD_1_BYTE:
+    case RECORD_2_BYTES:                /* sound in form 1 */
+        r->len = kind == RECORD_1_BYTE ? 1 : 2;
         r->fields = 0;
         break;
     case RECORD_ID_0:
@@ -118,8 +184,17 @@ void spoil_draft(struct source *s, struct draft *d, enum image_kind kind)
     case RECORD_ID_TWICE:
         r->bytes[0] = d->records[below(s, (unsigned)d->count)].bytes[0];
         break;
+    case RECORD_PROFILE:
+        if (d->form == 2)
+            r->bytes[2] = unknown_profile(s);
+        break;
+    case FIELD_GENERAL_ALONE:
+    case FIELD_PHOENIX_ALONE:
+        if (r->len >= head_len(d))
+            spoil_video(s, r);
+        break;
     default:
-        if (r->len >= 2)
+        if (r->len >= head_len(d))
             spoil_field(s, r, kind);
     }
 }

@@ -9,6 +9,7 @@
 enum { MAX_RECORDS = UNDIVARRO_MAX_PANELS + 1, RECORD_ROOM = 96 };
 
 struct record {
+    uint8_t profile;
     size_t len;
     unsigned fields;
     uint8_t row_of[ROWS], at[ROWS];     /* which setting a field is of, and where it begins */
@@ -16,14 +17,18 @@ struct record {
 };
 
 struct draft {
+    uint8_t form;
     size_t count;
     struct record records[MAX_RECORDS];
 };
 
-/* Sound records, as many and with such fields as the kind says. */
+/* Sound records in one form or the other, as many and with such fields as the kind says. */
 void make_draft(struct source *s, struct draft *d, enum image_kind kind);
 
 /* One record spoiled, in itself or in one of its fields. */
 void spoil_draft(struct source *s, struct draft *d, enum image_kind kind);
+
+/* A record of the profile has no video. */
+bool video_left_out(const struct draft *d, uint8_t profile);
 
 #endif

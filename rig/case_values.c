@@ -1,38 +1,77 @@
 #include "case_values.h"
 
-enum { VIDEO = 1, GAMMA_AT = 6 };
+#include "undivarro.h"
+
+enum { SHARPNESS_AT = 3, TINT_AT, GAMMA_AT = 6 };
 
 const struct row rows[ROWS] = {
     {0x18, 0x19, 1, {2, {1, 2}}, {3, {0, 3, 255}}},
-    {0x32, 0x33, 7, {5, {0, 1, 50, 99, 100}}, {3, {101, 128, 255}}},
+    {0x32, 0x33, 7, {5, {0, 1, 50, 99, 100}}, {5, {101, 128, 206, 230, 255}}},
     {0x34, 0x35, 1, {9, {0, 1, 3, 4, 5, 6, 9, 10, 13}}, {7, {2, 7, 8, 11, 12, 14, 255}}},
-    {0x42, 0x43, 2, {5, {0, 1, 50, 99, 100}}, {3, {101, 128, 255}}},
+    {0x42, 0x43, 2, {5, {0, 1, 50, 99, 100}}, {5, {101, 128, 206, 230, 255}}},
     {0x61, 0x62, 1, {5, {0, 1, 2, 3, 4}}, {2, {5, 255}}},
     {0xA3, 0xA4, 1, {3, {0, 1, 2}}, {2, {3, 255}}},
     {0xD0, 0xD1, 1, {4, {0, 1, 2, 3}}, {2, {4, 255}}},
     {0xDD, 0xDE, 1, {4, {0, 1, 2, 3}}, {2, {4, 255}}},
 };
 
+/* The video bytes that have ranges of their own. */
 static const struct choice gamma_allowed = {5, {1, 2, 3, 4, 5}}, gamma_not_allowed = {3, {0, 6, 255}};
+static const struct choice phoenix_sharpness = {5, {0, 1, 5, 9, 10}}, not_phoenix_sharpness = {5, {11, 50, 100, 101, 255}};
+static const struct choice phoenix_tint = {8, {0, 1, 49, 50, 206, 207, 254, 255}};
+static const struct choice not_phoenix_tint = {7, {51, 52, 100, 127, 128, 204, 205}};
 
-static uint8_t value(struct source *s, unsigned row, unsigned at, bool allowed)
+/* What one profile alone allows; Phoenix has nothing of its own but the tints below 0. */
+static const struct choice general_sharpness_alone = {4, {11, 12, 99, 100}}, general_tint_alone = {4, {51, 52, 99, 100}};
+static const struct choice phoenix_tint_alone = {5, {206, 207, 230, 254, 255}};
+
+static uint8_t one_of(struct source *s, const struct choice *from)
 {
-    const struct choice *from = allowed ? &rows[row].allowed : &rows[row].not_allowed;
-    if (row == VIDEO && at == GAMMA_AT)
-        from = allowed ? &gamma_allowed : &gamma_not_allowed;
     return from->bytes[below(s, from->count)];
 }
 
-void values(struct source *s, unsigned row, uint8_t *to)
+static uint8_t value(struct source *s, unsigned row, uint8_t profile, unsigned at, bool allowed)
 {
-    for (unsigned i = 0; i < rows[row].count; i++)
-        to[i] = value(s, row, i, true);
+    bool own = row == VIDEO && profile == UNDIVARRO_PHOENIX;
+    if (row == VIDEO && at == GAMMA_AT)
+        return one_of(s, allowed ? &gamma_allowed : &gamma_not_allowed);
+    if (own && at == SHARPNESS_AT)
+        return one_of(s, allowed ? &phoenix_sharpness : &not_phoenix_sharpness);
+    if (own && at == TINT_AT)
+        return one_of(s, allowed ? &phoenix_tint : &not_phoenix_tint);
+    return one_of(s, allowed ? &rows[row].allowed : &rows[row].not_allowed);
 }
 
-void spoil_value(struct source *s, unsigned row, uint8_t *to)
+void values(struct source *s, unsigned row, uint8_t profile, uint8_t *to)
 {
-    unsigned at = below(s, rows[row].count);
-    to[at] = one_in(s, 4) ? any_byte(s) : value(s, row, at, false);
+    for (unsigned i = 0; i < rows[row].count; i++)
+        to[i] = value(s, row, profile, i, true);
+}
+
+void spoil_value(struct source *s, unsigned row, uint8_t profile, uint8_t *to)
+{
+    unsigned at = row == VIDEO && one_in(s, 2) ? SHARPNESS_AT + below(s, 2) : below(s, rows[row].count);
+    to[at] = one_in(s, 4) ? any_byte(s) : value(s, row, profile, at, false);
+}
+
+void put_own_value(struct source *s, uint8_t profile, uint8_t *video)
+{
+    if (profile == UNDIVARRO_PHOENIX)
+        video[TINT_AT] = one_of(s, &phoenix_tint_alone);
+    else if (one_in(s, 2))
+        video[SHARPNESS_AT] = one_of(s, &general_sharpness_alone);
+    else
+        video[TINT_AT] = one_of(s, &general_tint_alone);
+}
+
+uint8_t any_profile(struct source *s)
+{
+    return one_in(s, 2) ? UNDIVARRO_GENERAL : UNDIVARRO_PHOENIX;
+}
+
+uint8_t other_profile(uint8_t profile)
+{
+    return profile == UNDIVARRO_GENERAL ? UNDIVARRO_PHOENIX : UNDIVARRO_GENERAL;
 }
 
 uint8_t any_code(struct source *s)

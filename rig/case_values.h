@@ -14,15 +14,21 @@ struct row {
     struct choice allowed, not_allowed;
 };
 
-enum { ROWS = 8 };
+enum { ROWS = 8, VIDEO = 1 };
 
 extern const struct row rows[ROWS];
 
-/* All values of a setting, allowed. */
-void values(struct source *s, unsigned row, uint8_t *to);
+/* All values of a setting, allowed for a panel of the profile. */
+void values(struct source *s, unsigned row, uint8_t profile, uint8_t *to);
 
-/* One value changed to one that is not allowed or, seldom, to any byte. */
-void spoil_value(struct source *s, unsigned row, uint8_t *to);
+/* One value, of a video often sharpness or tint, changed to one that is not allowed or, seldom, to any byte. */
+void spoil_value(struct source *s, unsigned row, uint8_t profile, uint8_t *to);
+
+/* One value of a video changed to one that this profile alone allows. */
+void put_own_value(struct source *s, uint8_t profile, uint8_t *video);
+
+uint8_t any_profile(struct source *s);
+uint8_t other_profile(uint8_t profile);
 
 /* Half the time one near those of the table. */
 uint8_t any_code(struct source *s);

@@ -3,7 +3,8 @@
 #include "case_bursts.h"
 #include "case_images.h"
 
-const char *const room_kind_names[ROOM_KINDS] = {"exact", "ample", "at the limits", "any"};
+const char *const call_names[CALLS] = {"play", "read", "back"};
+const char *const room_kind_names[ROOM_KINDS] = {"exact", "ample", "at the limits", "for the other form", "any"};
 
 static size_t edge(struct source *s, size_t needed)
 {
@@ -19,42 +20,50 @@ static size_t edge(struct source *s, size_t needed)
     }
 }
 
+static size_t image_size(unsigned form, size_t n)
+{
+    return (form == 1 ? 35 : 36) * n + 2;
+}
+
 /* How much is lent, for an image of n panels. */
 static void make_room(struct source *s, struct test_case *c, size_t n)
 {
-    size_t answer = UNDIVARRO_ANSWER_CAP, out = 35 * n + 2;
-    switch (below(s, 4)) {
-    case 0:
-        c->room_kind = ROOM_AMPLE;
+    unsigned form = c->call == CALL_BACK ? 1 : 2;
+    size_t answer = UNDIVARRO_ANSWER_CAP, out = image_size(form, n);
+    static const enum room_kind kinds[] = {
+        ROOM_EXACT, ROOM_EXACT, ROOM_EXACT, ROOM_AMPLE, ROOM_AMPLE, ROOM_EDGE, ROOM_EDGE, ROOM_OTHER_FORM, ROOM_ANY,
+    };
+    c->room_kind = kinds[below(s, sizeof kinds / sizeof kinds[0])];
+    c->answer_cap = answer;
+    c->out_cap = out;
+    switch (c->room_kind) {
+    case ROOM_AMPLE:
         c->answer_cap = answer + below(s, 60);
         c->out_cap = out + below(s, 60);
         break;
-    case 1:
-        c->room_kind = ROOM_EDGE;
+    case ROOM_EDGE:
         c->answer_cap = edge(s, answer);
         c->out_cap = edge(s, out);
         break;
-    case 2:
-        if (one_in(s, 2)) {
-            c->room_kind = ROOM_ANY;
-            c->answer_cap = below(s, 100);
-            c->out_cap = below(s, (unsigned)out + 100);
-            break;
-        }
-        /* fall through */
+    case ROOM_OTHER_FORM:
+        c->out_cap = image_size(3 - form, n);
+        break;
+    case ROOM_ANY:
+        c->answer_cap = below(s, 100);
+        c->out_cap = below(s, (unsigned)out + 100);
+        break;
     default:
-        c->room_kind = ROOM_EXACT;
-        c->answer_cap = answer;
-        c->out_cap = out;
+        break;
     }
 }
 
 void make_case(uint64_t seed, uint64_t number, struct test_case *c)
 {
+    static const enum call calls[] = {CALL_PLAY, CALL_PLAY, CALL_PLAY, CALL_READ, CALL_BACK};
     struct source s = {seed};
     s.state = next(&s) ^ number * 0xD1342543DE82EF95u;
     struct draft draft;
-    c->is_read = one_in(&s, 5);
+    c->call = calls[below(&s, sizeof calls / sizeof calls[0])];
     c->fill = next(&s);
     make_image(&s, c, &draft);
     make_burst(&s, c, &draft);

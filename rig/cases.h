@@ -1,5 +1,5 @@
-/* Random cases for the comparison: a setup image, a burst, and how much room is lent for answer and output. A case is
- * made from the seed and its number alone, and is the same on every machine. */
+/* Random cases for the comparison: a call, a setup image, a burst, and how much room is lent for answer and output. A case
+ * is made from the seed and its number alone, and is the same on every machine. */
 #ifndef CASES_H
 #define CASES_H
 
@@ -9,31 +9,39 @@
 
 enum { MAX_IMAGE_BYTES = 70000, MAX_BURST_BYTES = 70000, MAX_ROOM = 1300 };
 
+enum call { CALL_PLAY, CALL_READ, CALL_BACK, CALLS };
+
 /* What was done to the image last; a case may have up to three spoilings, and one spoiling may hide another. */
 enum image_kind {
     IMAGE_WRITTEN, IMAGE_ANY_ORDER, IMAGE_LEFT_OUT, IMAGE_NO_PANELS, IMAGE_33_PANELS,
-    RECORD_SHORT, RECORD_ID_0, RECORD_GROUP_0, RECORD_ID_TWICE,
+    RECORD_1_BYTE, RECORD_2_BYTES, RECORD_ID_0, RECORD_GROUP_0, RECORD_ID_TWICE, RECORD_PROFILE,
     FIELD_GET_CODE, FIELD_UNKNOWN, FIELD_TWICE, FIELD_LENGTH, FIELD_CUT, FIELD_CODE_ALONE, FIELD_VALUE,
+    FIELD_GENERAL_ALONE, FIELD_PHOENIX_ALONE,
     WHOLE_FORM, WHOLE_COUNT, WHOLE_CUT, WHOLE_STARTS, WHOLE_EXTRA, WHOLE_NOISE, WHOLE_SHORT, WHOLE_RANDOM, WHOLE_LONG,
     IMAGE_KINDS
 };
 
 enum burst_kind {
-    BURST_EMPTY, BURST_GET, BURST_SET, BURST_SET_ANY_VALUE, BURST_SET_LENGTH, BURST_GET_LENGTH, BURST_UNKNOWN,
+    BURST_EMPTY, BURST_GET, BURST_SET, BURST_SET_ANY_VALUE, BURST_SET_ONE_PROFILE, BURST_SET_LENGTH, BURST_GET_LENGTH,
+    BURST_UNKNOWN,
     BURST_NO_DATA, BURST_FULL, BURST_CHANGED, BURST_LOST, BURST_ADDED, BURST_SWAPPED, BURST_SHORT, BURST_LONG,
     BURST_VERY_LONG, BURST_RANDOM,
     BURST_KINDS
 };
 
-enum room_kind { ROOM_EXACT, ROOM_AMPLE, ROOM_EDGE, ROOM_ANY, ROOM_KINDS };
+enum room_kind { ROOM_EXACT, ROOM_AMPLE, ROOM_EDGE, ROOM_OTHER_FORM, ROOM_ANY, ROOM_KINDS };
 
+extern const char *const call_names[CALLS];
 extern const char *const image_kind_names[IMAGE_KINDS];
 extern const char *const burst_kind_names[BURST_KINDS];
 extern const char *const room_kind_names[ROOM_KINDS];
 
 struct test_case {
-    bool is_read;                       /* the read function; else play */
+    enum call call;
     enum image_kind image_kind;
+    unsigned spoilings;                 /* of the image */
+    uint8_t form;                       /* in which it was drafted */
+    bool no_video[2];                   /* by profile: a panel of the draft has its video left out */
     enum burst_kind burst_kind;
     enum room_kind room_kind;
     size_t image_len, burst_len, answer_cap, out_cap;

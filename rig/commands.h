@@ -7,5 +7,6 @@
 int play(const char *path);
 int make_new(const char *path, size_t count, char **panels);
 int show(const char *path);
+int back(const char *path, const char *new_path);
 
 #endif

@@ -8,13 +8,14 @@
 #include <sys/random.h>
 
 #include "plain.h"
+#include "tally.h"
 #include "trial.h"
 
-static const struct box plain = {"plain", plain_play, plain_read};
+static const struct box plain = {"plain", plain_play, plain_read, plain_back};
 #ifdef PLAIN_ALONE
 static const struct box *const proved = NULL;
 #else
-static const struct box proved_box = {"proved", undivarro_play, undivarro_read};
+static const struct box proved_box = {"proved", undivarro_play, undivarro_read, undivarro_back};
 static const struct box *const proved = &proved_box;
 #endif
 
@@ -37,7 +38,7 @@ static void print_trial(const struct box *box, const struct test_case *c, const 
 static void print_case(uint64_t seed, uint64_t number, const struct test_case *c)
 {
     printf("case %" PRIu64 " of seed %" PRIu64 " (again: compare 1 %" PRIu64 " %" PRIu64 "): %s\n", number, seed, seed, number,
-           c->is_read ? "read" : "play");
+           call_names[c->call]);
     printf("  image: %s; burst: %s; room: %s\n", image_kind_names[c->image_kind], burst_kind_names[c->burst_kind],
            room_kind_names[c->room_kind]);
     print_hex("image", c->image, c->image_len);

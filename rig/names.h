@@ -1,4 +1,4 @@
-/* 01's words for the settings and the refusals. */
+/* The papers' words for the settings, the profiles and the refusals. */
 #ifndef NAMES_H
 #define NAMES_H
 
@@ -16,6 +16,8 @@ struct column {
 enum { COLUMNS = 10 };
 
 extern const struct column columns[COLUMNS];
+
+const char *profile_name(uint8_t profile);
 
 /* What a refusal of the library means. */
 const char *refusal_words(uint32_t refusal);

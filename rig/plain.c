@@ -1,5 +1,5 @@
-/* The box in plain C, written from document 01 alone; the sections are named as there. Its parts are headers, so that
- * it is compiled in one piece, as the library is: compiled apart, make bench has other figures. */
+/* The box in plain C, written from documents 01 and 02 alone; the sections are named as in 01. Its parts are headers, so
+ * that it is compiled in one piece, as the library is: compiled apart, make bench has other figures. */
 #include "plain.h"
 
 #include <stdbool.h>
@@ -53,6 +53,21 @@ static bool is_addressed(const struct panel *panel, uint8_t id, uint8_t group)
     return group != GROUP_OFF && panel->group == group;
 }
 
+/* Stores the set in each addressed panel whose profile allows it; whether the answering panel is one of them. */
+static bool store(struct wall *wall, uint8_t id, uint8_t group, const struct setting *s, const uint8_t *values,
+                  const struct panel *answering)
+{
+    bool allowed[PROFILES];
+    for (uint8_t profile = 0; profile < PROFILES; profile++)
+        allowed[profile] = all_allowed(s, profile, values);
+    for (size_t i = 0; i < wall->count; i++) {
+        struct panel *panel = &wall->panels[i];
+        if (allowed[panel->profile] && is_addressed(panel, id, group))
+            memcpy(panel->values + s->place, values, s->count);
+    }
+    return answering && allowed[answering->profile];
+}
+
 /* Answering a burst: the length of the answer. answer has room for 40 bytes. */
 static size_t answer_burst(struct wall *wall, const uint8_t *burst, size_t len, uint8_t *answer)
 {
@@ -73,13 +88,10 @@ static size_t answer_burst(struct wall *wall, const uint8_t *burst, size_t len, 
     const struct setting *s;
     if (data_len == 1 && (s = setting_by_get_code(data[0])))
         return answering ? write_answer(answer, id, s->get_code, answering->values + s->place, s->count) : 0;
-    if (data_len > 1 && (s = setting_by_set_code(data[0])) && data_len - 1 == s->count && all_allowed(s, data + 1)) {
-        for (size_t i = 0; i < wall->count; i++)
-            if (is_addressed(&wall->panels[i], id, group))
-                memcpy(wall->panels[i].values + s->place, data + 1, s->count);
-        return answering ? write_control(answer, id, ACK) : 0;
-    }
-    return answering ? write_control(answer, id, NAV) : 0;
+    bool stored = false;
+    if (data_len > 1 && (s = setting_by_set_code(data[0])) && data_len - 1 == s->count)
+        stored = store(wall, id, group, s, data + 1, answering);
+    return answering ? write_control(answer, id, stored ? ACK : NAV) : 0;
 }
 
 /* For C */
@@ -87,6 +99,16 @@ static size_t answer_burst(struct wall *wall, const uint8_t *burst, size_t len, 
 static struct undivarro_result refused(uint32_t refusal)
 {
     return (struct undivarro_result){.refusal = refusal};
+}
+
+/* The wall written in the form, or 19. */
+static struct undivarro_result written(const struct wall *wall, uint8_t form, uint8_t *out, size_t out_cap)
+{
+    size_t len = image_len_of(wall, form);
+    if (out_cap < len)
+        return refused(19);
+    write_image(wall, form, out);
+    return (struct undivarro_result){.image_len = (uint32_t)len};
 }
 
 struct undivarro_result plain_play(const uint8_t *image, size_t image_len,
@@ -98,14 +120,14 @@ struct undivarro_result plain_play(const uint8_t *image, size_t image_len,
     uint32_t refusal = read_image(image, image_len, &wall);
     if (refusal)
         return refused(refusal);
-    if (answer_cap < UNDIVARRO_ANSWER_CAP || out_cap < image_len_of(&wall))
+    if (answer_cap < UNDIVARRO_ANSWER_CAP || out_cap < image_len_of(&wall, FORM_2))
         return refused(19);
 
     size_t answer_len = answer_burst(&wall, burst, burst_len, answer);
-    write_image(&wall, out);
+    write_image(&wall, FORM_2, out);
     return (struct undivarro_result){
         .answer_len = (uint32_t)answer_len,
-        .image_len = (uint32_t)image_len_of(&wall),
+        .image_len = (uint32_t)image_len_of(&wall, FORM_2),
     };
 }
 
@@ -114,10 +136,18 @@ struct undivarro_result plain_read(const uint8_t *image, size_t image_len,
 {
     struct wall wall;
     uint32_t refusal = read_image(image, image_len, &wall);
+    return refusal ? refused(refusal) : written(&wall, FORM_2, out, out_cap);
+}
+
+struct undivarro_result plain_back(const uint8_t *image, size_t image_len,
+                                   uint8_t *out, size_t out_cap)
+{
+    struct wall wall;
+    uint32_t refusal = read_image(image, image_len, &wall);
     if (refusal)
         return refused(refusal);
-    if (out_cap < image_len_of(&wall))
-        return refused(19);
-    write_image(&wall, out);
-    return (struct undivarro_result){.image_len = (uint32_t)image_len_of(&wall)};
+    for (size_t i = 0; i < wall.count; i++)
+        if (wall.panels[i].profile != UNDIVARRO_GENERAL)
+            return refused(31);
+    return written(&wall, FORM_1, out, out_cap);
 }

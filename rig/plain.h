@@ -1,4 +1,4 @@
-/* undivarro_play and undivarro_read a second time, in plain C: for comparison and as a measure of speed. */
+/* The library's functions a second time, in plain C: for comparison and as a measure of speed. */
 #ifndef PLAIN_H
 #define PLAIN_H
 
@@ -10,6 +10,9 @@ struct undivarro_result plain_play(const uint8_t *image, size_t image_len,
                                    uint8_t *out, size_t out_cap);
 
 struct undivarro_result plain_read(const uint8_t *image, size_t image_len,
+                                   uint8_t *out, size_t out_cap);
+
+struct undivarro_result plain_back(const uint8_t *image, size_t image_len,
                                    uint8_t *out, size_t out_cap);
 
 #endif

@@ -1,4 +1,4 @@
-/* A part of plain.c: the setup image, form 1, read and written. */
+/* A part of plain.c: the setup image, read and written in both forms. */
 #ifndef PLAIN_IMAGE_H
 #define PLAIN_IMAGE_H
 
@@ -6,27 +6,38 @@
 
 #include "plain_panels.h"
 
-enum { FORM = 1, RECORD = 33, START = 2, TRAILER = 2 };    /* bytes of a written record, a start, n and the form byte */
+enum { FORM_1 = 1, FORM_2 = 2 };
+enum { FIELDS = 31, START = 2, TRAILER = 2 };           /* bytes of all written fields, a start, n and the form byte */
+
+/* ID and group, in form 2 the profile too. */
+static size_t head_len(uint8_t form)
+{
+    return form == FORM_1 ? 2 : 3;
+}
 
 /* One record, put at the end of the wall; its refusal or 0. */
-static uint32_t read_record(const uint8_t *record, size_t len, const struct panel *fresh, struct wall *wall)
+static uint32_t read_record(const uint8_t *record, size_t len, uint8_t form, struct wall *wall)
 {
-    if (len < 2 || record[0] == 0 || record[1] == 0 || panel_with_id(wall, record[0]))
+    if (len < head_len(form) || record[0] == 0 || record[1] == 0 || panel_with_id(wall, record[0]))
+        return 16;
+    uint8_t profile = form == FORM_1 ? UNDIVARRO_GENERAL : record[2];
+    if (profile >= PROFILES)
         return 16;
     struct panel *panel = &wall->panels[wall->count];
-    *panel = *fresh;
     panel->id = record[0];
     panel->group = record[1];
+    panel->profile = profile;
+    memcpy(panel->values, fresh_values[profile], VALUE_BYTES);
 
     unsigned seen = 0;                  /* bit k: settings[k] */
-    for (size_t at = 2; at < len;) {
+    for (size_t at = head_len(form); at < len;) {
         const struct setting *s = setting_by_set_code(record[at]);
         if (!s || (seen >> (s - settings) & 1))
             return 17;
         if (len - at < 2 || record[at + 1] != s->count || len - at - 2 < s->count)
             return 17;
         const uint8_t *values = record + at + 2;
-        if (!all_allowed(s, values))
+        if (!all_allowed(s, profile, values))
             return 18;
         memcpy(panel->values + s->place, values, s->count);
         seen |= 1u << (s - settings);
@@ -46,7 +57,8 @@ static uint32_t read_image(const uint8_t *image, size_t len, struct wall *wall)
     wall->count = 0;
     if (len < 2)
         return 11;
-    if (image[len - 1] != FORM)
+    uint8_t form = image[len - 1];
+    if (form != FORM_1 && form != FORM_2)
         return 12;
     size_t n = image[len - 2];
     if (n > UNDIVARRO_MAX_PANELS)
@@ -67,33 +79,34 @@ static uint32_t read_image(const uint8_t *image, size_t len, struct wall *wall)
             return 15;
     }
 
-    struct panel fresh = fresh_panel();
     for (size_t k = 0; k < n; k++) {
         size_t start = start_at(starts, k);
         size_t end = k + 1 < n ? start_at(starts, k + 1) : records_len;
-        uint32_t refusal = read_record(image + start, end - start, &fresh, wall);
+        uint32_t refusal = read_record(image + start, end - start, form, wall);
         if (refusal)
             return refusal;
     }
     return 0;
 }
 
-static size_t image_len_of(const struct wall *wall)
+static size_t image_len_of(const struct wall *wall, uint8_t form)
 {
-    return (RECORD + START) * wall->count + TRAILER;
+    return (head_len(form) + FIELDS + START) * wall->count + TRAILER;
 }
 
-/* out has room for image_len_of(wall) bytes. */
-static void write_image(const struct wall *wall, uint8_t *out)
+/* out has room for image_len_of(wall, form) bytes. In form 1 the profiles are not written. */
+static void write_image(const struct wall *wall, uint8_t form, uint8_t *out)
 {
     uint8_t *to = out;
-    uint8_t *start = out + RECORD * wall->count;
+    uint8_t *start = out + (head_len(form) + FIELDS) * wall->count;
     for (size_t k = 0; k < wall->count; k++) {
         const struct panel *panel = &wall->panels[k];
         *start++ = (uint8_t)((to - out) >> 8);
         *start++ = (uint8_t)(to - out);
         *to++ = panel->id;
         *to++ = panel->group;
+        if (form == FORM_2)
+            *to++ = panel->profile;
         for (const struct setting *s = settings; s < settings + SETTINGS; s++) {
             *to++ = s->set_code;
             *to++ = s->count;
@@ -102,7 +115,7 @@ static void write_image(const struct wall *wall, uint8_t *out)
         }
     }
     *start++ = (uint8_t)wall->count;
-    *start = FORM;
+    *start = form;
 }
 
 #endif

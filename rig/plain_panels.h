@@ -6,12 +6,15 @@
 
 #include "undivarro.h"
 
+enum { PROFILES = 2 };                  /* UNDIVARRO_GENERAL, UNDIVARRO_PHOENIX */
+
 /* The settings */
 
-enum { SETTINGS = 8, MAX_VALUES = 7, VALUE_BYTES = 15 };
+enum { SETTINGS = 8, VALUE_BYTES = 15 };
 
-struct value {
-    uint8_t low, high, fresh;
+/* Of a byte in two's complement, in which no byte above 127 is from 0 to 100. */
+struct range {
+    int8_t low, high;
 };
 
 struct setting {
@@ -19,20 +22,31 @@ struct setting {
     uint8_t count;                      /* of its value bytes */
     uint8_t place;                      /* of the first of them among a panel's values */
     uint16_t gaps;                      /* bit v: v lies between low and high and is not allowed */
-    struct value values[MAX_VALUES];
+    const struct range *ranges[PROFILES];
 };
+
+static const struct range power[] = {{1, 2}}, colour_temperature[] = {{0, 13}}, treble_bass[] = {{0, 100}, {0, 100}},
+    fan[] = {{0, 4}}, cold_start[] = {{0, 2}}, saving[] = {{0, 3}};
+/* Brightness, colour, contrast, sharpness, tint, black level, gamma. */
+static const struct range video[] = {{0, 100}, {0, 100}, {0, 100}, {0, 100}, {0, 100}, {0, 100}, {1, 5}};
+static const struct range phoenix_video[] = {{0, 100}, {0, 100}, {0, 100}, {0, 10}, {-50, 50}, {0, 100}, {1, 5}};
 
 /* By rising set code, as images are written. */
 static const struct setting settings[SETTINGS] = {
-    {0x18, 0x19, 1, 0, 0, {{1, 2, 2}}},                                             /* power */
-    {0x32, 0x33, 7, 1, 0, {{0, 100, 50}, {0, 100, 50}, {0, 100, 50}, {0, 100, 50},
-                           {0, 100, 50}, {0, 100, 50}, {1, 5, 3}}},                 /* video */
-    {0x34, 0x35, 1, 8, 1 << 2 | 1 << 7 | 1 << 8 | 1 << 11 | 1 << 12, {{0, 13, 1}}}, /* colour temperature */
-    {0x42, 0x43, 2, 9, 0, {{0, 100, 50}, {0, 100, 50}}},                            /* treble, bass */
-    {0x61, 0x62, 1, 11, 0, {{0, 4, 1}}},                                            /* fan */
-    {0xA3, 0xA4, 1, 12, 0, {{0, 2, 2}}},                                            /* cold start */
-    {0xD0, 0xD1, 1, 13, 0, {{0, 3, 0}}},                                            /* APM */
-    {0xDD, 0xDE, 1, 14, 0, {{0, 3, 0}}},                                            /* power saving */
+    {0x18, 0x19, 1, 0, 0, {power, power}},
+    {0x32, 0x33, 7, 1, 0, {video, phoenix_video}},
+    {0x34, 0x35, 1, 8, 1 << 2 | 1 << 7 | 1 << 8 | 1 << 11 | 1 << 12, {colour_temperature, colour_temperature}},
+    {0x42, 0x43, 2, 9, 0, {treble_bass, treble_bass}},
+    {0x61, 0x62, 1, 11, 0, {fan, fan}},
+    {0xA3, 0xA4, 1, 12, 0, {cold_start, cold_start}},
+    {0xD0, 0xD1, 1, 13, 0, {saving, saving}},                   /* APM */
+    {0xDD, 0xDE, 1, 14, 0, {saving, saving}},                   /* power saving */
+};
+
+/* All values of a panel, in the order of the settings. */
+static const uint8_t fresh_values[PROFILES][VALUE_BYTES] = {
+    {2, 50, 50, 50, 50, 50, 50, 3, 1, 50, 50, 1, 2, 0, 0},
+    {2, 50, 50, 50, 5, 0, 50, 3, 1, 50, 50, 1, 2, 0, 0},
 };
 
 static const struct setting *setting_by_set_code(uint8_t code)
@@ -51,13 +65,14 @@ static const struct setting *setting_by_get_code(uint8_t code)
     return NULL;
 }
 
-static bool all_allowed(const struct setting *s, const uint8_t *values)
+static bool all_allowed(const struct setting *s, uint8_t profile, const uint8_t *values)
 {
+    const struct range *ranges = s->ranges[profile];
     for (size_t i = 0; i < s->count; i++) {
-        uint8_t v = values[i];
-        if (v < s->values[i].low || v > s->values[i].high)
+        int8_t v = (int8_t)values[i];
+        if (v < ranges[i].low || v > ranges[i].high)
             return false;
-        if (v < 16 && (s->gaps >> v & 1))
+        if (values[i] < 16 && (s->gaps >> v & 1))
             return false;
     }
     return true;
@@ -68,7 +83,7 @@ static bool all_allowed(const struct setting *s, const uint8_t *values)
 enum { GROUP_OFF = 255 };
 
 struct panel {
-    uint8_t id, group;
+    uint8_t id, group, profile;
     uint8_t values[VALUE_BYTES];
 };
 
@@ -76,16 +91,6 @@ struct wall {
     size_t count;
     struct panel panels[UNDIVARRO_MAX_PANELS];
 };
-
-/* Without ID and group. */
-static struct panel fresh_panel(void)
-{
-    struct panel panel = {0};
-    for (const struct setting *s = settings; s < settings + SETTINGS; s++)
-        for (size_t i = 0; i < s->count; i++)
-            panel.values[s->place + i] = s->values[i].fresh;
-    return panel;
-}
 
 static struct panel *panel_with_id(struct wall *wall, uint8_t id)
 {

@@ -54,6 +54,7 @@ static int play_burst(const char *path, struct setup *setup, const uint8_t *burs
     if (r.refusal)
         return refused(path, r.refusal);
     after.len = r.image_len;
+    /* Both are in form 2 with all fields, so other bytes are other settings. */
     if (after.len != setup->len || memcmp(after.bytes, setup->bytes, after.len) != 0) {
         int status = keep(path, &after);
         if (status != DONE)
@@ -67,7 +68,7 @@ static int play_burst(const char *path, struct setup *setup, const uint8_t *burs
 int play(const char *path)
 {
     struct setup setup;
-    int status = load(path, &setup);
+    int status = load(path, &setup, NULL);
     char *line = NULL;
     size_t cap = 0;
     ssize_t len;

@@ -1,13 +1,16 @@
+#define _POSIX_C_SOURCE 200809L
+
 #include "setup.h"
 
 #include <errno.h>
 #include <stdio.h>
 #include <string.h>
+#include <sys/stat.h>
 
 #include "setup_file.h"
 #include "status.h"
 
-int load(const char *path, struct setup *setup)
+int load(const char *path, struct setup *setup, uint8_t *form)
 {
     uint8_t image[SETUP_FILE_LIMIT + 1];
     size_t len;
@@ -23,8 +26,12 @@ int load(const char *path, struct setup *setup)
         return REFUSED;
     }
     struct undivarro_result r = undivarro_read(image, len, setup->bytes, sizeof setup->bytes);
+    if (r.refusal)
+        return refused(path, r.refusal);
     setup->len = r.image_len;
-    return r.refusal ? refused(path, r.refusal) : DONE;
+    if (form)
+        *form = image[len - 1];
+    return DONE;
 }
 
 int keep(const char *path, const struct setup *setup)
@@ -36,4 +43,24 @@ int keep(const char *path, const struct setup *setup)
     fprintf(stderr, "rig: %s: cannot %s: %s; %s\n", path, failed_at, strerror(errno),
             kept == NOT_KEPT ? "it is as it was" : "it has the new setup, but a power cut may bring back what was there");
     return BAD;
+}
+
+int keep_new(const char *path, const struct setup *setup)
+{
+    struct stat there;
+    if (lstat(path, &there) == 0) {
+        fprintf(stderr, "rig: %s is there already; remove it first, or give another name\n", path);
+        return BAD;
+    }
+    return keep(path, setup);
+}
+
+size_t panel_count(const struct setup *setup)
+{
+    return setup->bytes[setup->len - 2];
+}
+
+const uint8_t *record_of(const struct setup *setup, size_t k)
+{
+    return setup->bytes + RECORD_LEN * k;
 }

@@ -1,4 +1,5 @@
 /* rig show */
+#include <stdbool.h>
 #include <stdio.h>
 #include <string.h>
 
@@ -8,64 +9,74 @@
 #include "status.h"
 
 enum { WIDEST = 24 };
+enum { VIDEO = 0x32, TINT_AT = 4 };
 
-/* A field's values in a written record, found by its code. */
-static const uint8_t *values_of(const uint8_t *record, size_t len, uint8_t set_code)
+/* A field's values in a record, found by its code. */
+static const uint8_t *values_of(const uint8_t *record, uint8_t set_code)
 {
-    for (size_t at = 2; at + 2 <= len; at += 2u + record[at + 1])
+    for (size_t at = FIELDS_AT; at + 2 <= RECORD_LEN; at += 2u + record[at + 1])
         if (record[at] == set_code)
             return record + at + 2;
     return NULL;
 }
 
-static void print_value(const struct column *column, const uint8_t *record, size_t len)
+/* The value's text, put behind what is there. */
+static void add_value(char text[WIDEST], const struct column *column, unsigned i, uint8_t value, bool is_signed)
 {
-    char text[WIDEST + 1] = "?";
-    size_t used = 0;
-    const uint8_t *values = values_of(record, len, column->set_code);
-    for (unsigned i = 0; values && i < column->count; i++) {
-        uint8_t value = values[column->first + i];
-        const char *gap = i > 0 ? " " : "";
-        if (value < column->word_count)
-            used += (size_t)snprintf(text + used, sizeof text - used, "%s%s", gap, column->words[value]);
-        else
-            used += (size_t)snprintf(text + used, sizeof text - used, "%s%u", gap, value);
-    }
-    int width = (int)strlen(column->name);
-    if (column->count > 1)
-        width = WIDEST - 1;             /* six numbers up to 100 and the spaces between */
-    printf("  %*s", width, text);
+    char *to = text + strlen(text);
+    size_t room = WIDEST - strlen(text);
+    const char *gap = i > 0 ? " " : "";
+    if (value < column->word_count)
+        snprintf(to, room, "%s%s", gap, column->words[value]);
+    else if (is_signed)
+        snprintf(to, room, value > 0 ? "%s%+d" : "%s%d", gap, (int8_t)value);
+    else
+        snprintf(to, room, "%s%u", gap, value);
 }
 
-static void print_panels(const struct setup *setup)
+/* Six numbers of up to three characters and the spaces between, or as wide as the name. */
+static int width_of(const struct column *column)
 {
-    size_t count = setup->bytes[setup->len - 2];
-    const uint8_t *starts = setup->bytes + setup->len - 2 - 2 * count;
-    printf(" ID  group");
+    return column->count > 1 ? WIDEST - 1 : (int)strlen(column->name);
+}
+
+static void print_values(const struct column *column, const uint8_t *record)
+{
+    char text[WIDEST] = "";
+    const uint8_t *values = values_of(record, column->set_code);
+    bool has_sign = record[PROFILE_AT] == UNDIVARRO_PHOENIX && column->set_code == VIDEO;
+    for (unsigned i = 0; values && i < column->count; i++)
+        add_value(text, column, i, values[column->first + i], has_sign && column->first + i == TINT_AT);
+    printf("  %*s", width_of(column), values ? text : "?");
+}
+
+static void print_panel(const uint8_t *record)
+{
+    printf("%3u  ", record[ID_AT]);
+    if (record[GROUP_AT] == 255)
+        printf("  off");
+    else
+        printf("%5u", record[GROUP_AT]);
+    printf("  %s", profile_name(record[PROFILE_AT]));
     for (const struct column *c = columns; c < columns + COLUMNS; c++)
-        printf("  %*s", c->count > 1 ? WIDEST - 1 : 0, c->name);
+        print_values(c, record);
     putchar('\n');
-    for (size_t k = 0; k < count; k++) {
-        const uint8_t *record = setup->bytes + (starts[2 * k] << 8 | starts[2 * k + 1]);
-        const uint8_t *end = k + 1 < count ? setup->bytes + (starts[2 * k + 2] << 8 | starts[2 * k + 3]) : starts;
-        printf("%3u  ", record[0]);
-        if (record[1] == 255)
-            printf("  off");
-        else
-            printf("%5u", record[1]);
-        for (const struct column *c = columns; c < columns + COLUMNS; c++)
-            print_value(c, record, (size_t)(end - record));
-        putchar('\n');
-    }
-    printf("%zu panel%s\n", count, count == 1 ? "" : "s");
 }
 
 int show(const char *path)
 {
     struct setup setup;
-    int status = load(path, &setup);
+    uint8_t form;
+    int status = load(path, &setup, &form);
     if (status != DONE)
         return status;
-    print_panels(&setup);
+    size_t count = panel_count(&setup);
+    printf(" ID  group  profile");
+    for (const struct column *c = columns; c < columns + COLUMNS; c++)
+        printf("  %*s", width_of(c), c->name);
+    putchar('\n');
+    for (size_t k = 0; k < count; k++)
+        print_panel(record_of(&setup, k));
+    printf("%zu panel%s, form %u\n", count, count == 1 ? "" : "s", form);
     return printed();
 }

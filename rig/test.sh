@@ -48,6 +48,17 @@ ends() {
 
 # a wall of 01's two panels, both in group 9
 wall() { rm -f "$1" && rig new "$1" 1:9 2:9; }
+# packet ID GROUP DATA...: the burst of these bytes, with its size and checksum
+packet() {
+    local size=$(($# + 2)) sum byte
+    sum=$size
+    printf %02X "$size"
+    for byte; do
+        printf %s "$byte"
+        sum=$((sum ^ 0x$byte))
+    done
+    printf '%02X\n' "$sum"
+}
 bytes() { od -An -v -tx1 "$1" | tr -d ' \n'; }
 # image FILE HEX...: a file of these bytes
 image() {
@@ -56,7 +67,7 @@ image() {
     for byte in $*; do printf "\\x$byte"; done >"$file"
 }
 
-for part in comparison program keeping; do
+for part in comparison program forms keeping; do
     . "$parts/test_$part.sh" || exit 2
 done
 comparison_tests

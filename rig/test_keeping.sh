@@ -6,9 +6,9 @@ a_set_outlasts_the_program() {
     same report "$(echo 0501006266 | rig play w)" 060100620461
 }
 
-# Fan and ID only, in the form that other tools may write: not rewritten until a setting changes.
+# Fan and ID only, as other tools may write it: not rewritten until a setting changes.
 written_only_when_changed() {
-    image w 01 09 61 01 04 00 00 01 01
+    image w 01 09 00 61 01 04 00 00 01 02
     local before
     before=$(bytes w)
     touch -d 2001-01-01 w
@@ -16,7 +16,7 @@ written_only_when_changed() {
     same 'bytes after a get, silence, a set to what it was, NACK and NAV' "$(bytes w)" "$before" || return
     same 'time of the file' "$(stat -c %Y w)" "$(date -d 2001-01-01 +%s)" || return
     echo 060100610365 | rig play w >/dev/null || return
-    same 'length after a set' "$(wc -c <w)" 37
+    same 'length after a set' "$(wc -c <w)" 38
 }
 
 a_link_is_followed() {
@@ -61,7 +61,7 @@ killed_in_write() { stop killed-in-write 137 && old_setup_whole && sets_as_befor
 killed_before_sync() { stop killed-before-sync 137 && old_setup_whole && sets_as_before; }
 killed_before_rename() {
     stop killed-before-rename 137 && old_setup_whole || return
-    same 'the new setup beside it' "$(cat stopped/w.*.new | wc -c)" 72 && sets_as_before
+    same 'the new setup beside it' "$(cat stopped/w.*.new | wc -c)" 74 && sets_as_before
 }
 killed_after_rename() { stop killed-after-rename 137 && new_setup_whole && nothing_beside && sets_as_before; }
 no_space() { stop no-space 2 && grep -q 'No space left' message && old_setup_whole && nothing_beside; }

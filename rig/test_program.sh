@@ -29,17 +29,17 @@ show_names_the_settings() {
     rm -f w && rig new w 1:9 200:255 && printf '06010018011E\n0C010032643264000164036B\n' | rig play w >answers || return
     same answers "$(cat answers)" "$(printf '060100000601\n060100000601')" || return
     same show "$(rig show w)" "\
- ID  group  power                    video  gamma  colour temperature  treble  bass  fan  cold start  APM  power saving
-  1      9    off       100 50 100 0 1 100      3                   1      50    50    1           2    0             0
-200    off     on        50 50 50 50 50 50      3                   1      50    50    1           2    0             0
-2 panels"
+ ID  group  profile  power                    video  gamma  colour temperature  treble  bass  fan  cold start  APM  power saving
+  1      9  general    off       100 50 100 0 1 100      3                   1      50    50    1           2    0             0
+200    off  general     on        50 50 50 50 50 50      3                   1      50    50    1           2    0             0
+2 panels, form 2"
 }
 
 new_is_written_whole() {
     rm -f w && rig new w 7:255 || return
-    same bytes "$(bytes w)" 07ff18010232073232323232320334010142023232610101a30102d00100dd010000000101 || return
-    rm -f w && rig new w && same 'no panels' "$(bytes w)" 0001 || return
-    rm -f w && rig new w $(seq -f '%g:9' 1 32) && same 'length of 32' "$(wc -c <w)" 1122
+    same bytes "$(bytes w)" 07ff0018010232073232323232320334010142023232610101a30102d00100dd010000000102 || return
+    rm -f w && rig new w && same 'no panels' "$(bytes w)" 0002 || return
+    rm -f w && rig new w $(seq -f '%g:9' 1 32) && same 'length of 32' "$(wc -c <w)" 1154
 }
 
 input_forms() {
@@ -73,10 +73,12 @@ not_hex() {
 bad_arguments() {
     wall w
     ends 2 'no command' rig && ends 2 'is no command' rig paly w && ends 2 'one IMAGE' rig play && ends 2 usage rig show &&
-        ends 2 'one IMAGE' rig play w w && ends 2 'one IMAGE' rig show w w && ends 2 'an IMAGE' rig new || return
+        ends 2 'one IMAGE' rig play w w && ends 2 'one IMAGE' rig show w w && ends 2 'IMAGE and then panels' rig new &&
+        ends 2 'a NEW file' rig back w && ends 2 'a NEW file' rig back w n n && [ ! -e n ] || return
     local panel
-    for panel in 1 1: :1 1:256 256:1 a:1 1:a 1:1: -1:1 99999999999999999999:1 ''; do
-        ends 2 'is not ID:GROUP' rig new n "$panel" && [ ! -e n ] || return
+    for panel in 1 1: :1 1:256 256:1 a:1 1:a 1:1: -1:1 99999999999999999999:1 '' 1:9:general 1:9:Phoenix 1:9:phoenix: \
+        1:9:phoenixes 1:9:phoeni 1:9phoenix 1:phoenix :phoenix 1:9:1; do
+        ends 2 "rig: $panel is not ID:GROUP or ID:GROUP:phoenix" rig new n "$panel" && [ ! -e n ] || return
     done
     ends 2 'at most 32' rig new n $(seq -f '%g:9' 1 33) && [ ! -e n ] || return
     ends 2 'there already' rig new w 1:9
@@ -85,29 +87,62 @@ bad_arguments() {
 unreadable_files() {
     mkdir -p folder
     ends 2 'rig new missing' rig play missing && ends 2 'rig new missing' rig show missing &&
-        ends 2 'Is a directory' rig show folder && ends 2 'Is a directory' rig play folder &&
-        ends 2 'No such file' rig new missing/w 1:9
+        ends 2 'rig new missing' rig back missing n && ends 2 'Is a directory' rig show folder &&
+        ends 2 'Is a directory' rig play folder && ends 2 'No such file' rig new missing/w 1:9
+}
+
+refusal_words() {
+    case $1 in
+    11) echo 'image: fewer than 2 bytes' ;;
+    12) echo 'image: last byte is neither 1 nor 2' ;;
+    13) echo 'image: panel count above 32' ;;
+    14) echo 'image: shorter than 2n + 2 bytes' ;;
+    15) echo "image: starts don't fit" ;;
+    16) echo 'record: under 2 bytes, in form 2 under 3, ID 0, group 0, ID seen before, or an unknown profile' ;;
+    17) echo "field: not a set code of the table (a get code isn't one), or seen before in this record, length wrong, or" \
+        'cut off' ;;
+    18) echo 'field: value not allowed' ;;
+    esac
 }
 
 refusals_by_number() {
-    local number words hex
-    while IFS=';' read -r number words hex; do
+    local number words hex command
+    rm -f n
+    while read -r number hex; do
         image w "$hex"
-        ends 1 "refusal $number: $words" rig show w && ends 1 "refusal $number: $words" rig play w || return
+        words="rig: w: refusal $number: $(refusal_words "$number")"
+        for command in 'show w' 'play w' 'back w n'; do
+            ends 1 "$words" rig $command || return
+        done
         same "the image refused by $number" "$(bytes w)" "$(echo "$hex" | tr -d ' ')" || return
+        [ ! -e n ] || { echo "$hex made a file"; return 1; }
     done <<'END'
-11;image: fewer than 2 bytes;
-11;image: fewer than 2 bytes;01
-12;image: last byte is not 1;00 02
-13;image: panel count above 32;21 01
-14;image: shorter than 2n + 2 bytes;00 01 01
-15;image: starts don't fit;00 00 01
-15;image: starts don't fit;01 09 00 02 01 01
-16;record: under 2 bytes, ID 0, group 0, or ID seen before;00 09 00 00 01 01
-16;record: under 2 bytes, ID 0, group 0, or ID seen before;01 09 01 09 00 00 00 02 02 01
-17;field: not a set code of the table (a get code isn't one), or seen before in this record, length wrong, or cut off;01 09 62 01 04 00 00 01 01
-17;field: not a set code of the table (a get code isn't one), or seen before in this record, length wrong, or cut off;01 09 61 00 00 01 01
-18;field: value not allowed;01 09 61 01 05 00 00 01 01
+11
+11 01
+12 00 00
+12 00 03
+12 00 ff
+13 21 01
+13 21 02
+14 00 01 01
+15 00 00 01
+15 01 09 00 02 01 01
+16 00 09 00 00 01 01
+16 01 09 01 09 00 00 00 02 02 01
+16 01 09 00 00 01 02
+16 01 09 02 00 00 01 02
+16 01 09 ff 00 00 01 02
+16 01 09 61 01 04 00 00 01 02
+16 01 09 00 01 09 01 00 00 00 03 02 02
+17 01 09 62 01 04 00 00 01 01
+17 01 09 61 00 00 01 01
+17 01 09 00 61 01 04 00 00 01 01
+17 01 09 01 62 01 04 00 00 01 02
+18 01 09 61 01 05 00 00 01 01
+18 01 09 01 32 07 32 32 32 3c 00 32 03 00 00 01 02
+18 01 09 01 32 07 32 32 32 05 80 32 03 00 00 01 02
+18 01 09 00 32 07 32 32 32 05 ce 32 03 00 00 01 02
+18 01 09 32 07 32 32 32 05 ce 32 03 00 00 01 01
 END
 }
 
@@ -128,18 +163,21 @@ new_names_the_bad_panel() {
 3:9 1:8 2:9 1:7 0:9;1:7 has the ID of 1:8
 1:9 1:0;1:0 has group 0
 1:9 2:9 01:9;01:9 has the ID of 1:9
+1:9 0:9:phoenix;0:9:phoenix has ID 0
+1:9:phoenix 2:0:phoenix;2:0:phoenix has group 0
+1:9 1:9:phoenix;1:9:phoenix has the ID of 1:9
 END
 }
 
 # In a shell of its own with a bound on memory, so that a program that reads on fails at once.
 files_that_are_too_big() (
-    local command words='over 65536 bytes; a setup image has at most 1122'
+    local command words='over 65536 bytes; a setup image has at most 1154'
     head -c 65537 /dev/zero >over
     head -c 65536 /dev/zero >within
     ulimit -v 1000000
     for command in show play; do
         ends 1 "rig: /dev/zero: $words" rig $command /dev/zero && ends 1 "rig: over: $words" rig $command over &&
-            ends 1 'rig: within: refusal 12: image: last byte is not 1' rig $command within || return
+            ends 1 'rig: within: refusal 12: image: last byte is neither 1 nor 2' rig $command within || return
     done
     same 'left of 200,000 bytes' "$(head -c 200000 /dev/zero | { rig show /dev/stdin 2>message; wc -c; })" $((200000 - 65537))
 )

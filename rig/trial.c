@@ -1,6 +1,5 @@
 #include "trial.h"
 
-#include <stdio.h>
 #include <string.h>
 
 /* In the sanitized run a read or write of a guard byte is a fault at once. */
@@ -79,10 +78,10 @@ void run_trial(const struct box *box, const struct test_case *c, struct trial *t
     uint8_t *out = null && c->out_cap == 0 ? NULL : t->out + GUARD;
 
     close_all(c, t, true);
-    if (c->is_read)
-        t->result = box->read(image, c->image_len, out, c->out_cap);
-    else
+    if (c->call == CALL_PLAY)
         t->result = box->play(image, c->image_len, burst, c->burst_len, answer, c->answer_cap, out, c->out_cap);
+    else
+        t->result = (c->call == CALL_READ ? box->read : box->back)(image, c->image_len, out, c->out_cap);
     close_all(c, t, false);
     t->fault = fault_of(c, t);
 }
@@ -119,91 +118,4 @@ uint64_t add_outcome(uint64_t sum, const struct trial *t)
     sum = mix(sum, (uint64_t)t->result.answer_len << 32 | t->result.image_len);
     sum = mix_bytes(sum, t->answer + GUARD, t->result.answer_len);
     return mix_bytes(sum, t->out + GUARD, t->result.image_len);
-}
-
-static const uint8_t get_codes[] = {0x19, 0x33, 0x35, 0x43, 0x62, 0xA4, 0xD1, 0xDE};
-
-void count_outcome(struct tally *tally, const struct test_case *c, const struct trial *t)
-{
-    const uint8_t *answer = t->answer + GUARD;
-    tally->image[c->image_kind]++;
-    tally->room[c->room_kind]++;
-    tally->refusal[t->result.refusal < 20 ? t->result.refusal : 1]++;
-    if (c->is_read)
-        return;
-    tally->burst[c->burst_kind]++;
-    if (t->result.refusal)
-        return;
-    if (t->result.answer_len == 0)
-        tally->silence++;
-    else if (t->result.answer_len < 6)
-        return;
-    else if (answer[3] != 0)
-        tally->report[answer[3]]++;
-    else if (answer[4] == 0x06)
-        tally->ack++;
-    else if (answer[4] == 0x15)
-        tally->nack++;
-    else if (answer[4] == 0x18)
-        tally->nav++;
-}
-
-static void print_line(const char *what, unsigned long met)
-{
-    printf("  %-40s %9lu\n", what, met);
-}
-
-void print_tally(const struct tally *tally)
-{
-    puts("images, by their last spoiling:");
-    for (int i = 0; i < IMAGE_KINDS; i++)
-        print_line(image_kind_names[i], tally->image[i]);
-    puts("bursts:");
-    for (int i = 0; i < BURST_KINDS; i++)
-        print_line(burst_kind_names[i], tally->burst[i]);
-    puts("room lent:");
-    for (int i = 0; i < ROOM_KINDS; i++)
-        print_line(room_kind_names[i], tally->room[i]);
-    puts("refusals:");
-    print_line("none", tally->refusal[0]);
-    for (int i = 11; i <= 19; i++)
-        printf("  %-40d %9lu\n", i, tally->refusal[i]);
-    puts("answers:");
-    print_line("silence", tally->silence);
-    print_line("ACK", tally->ack);
-    print_line("NACK", tally->nack);
-    print_line("NAV", tally->nav);
-    for (size_t i = 0; i < sizeof get_codes; i++)
-        printf("  report 0x%02X                              %9lu\n", get_codes[i], tally->report[get_codes[i]]);
-}
-
-static bool met(const char *what, const char *which, unsigned long times)
-{
-    if (times == 0)
-        printf("never met: %s %s\n", what, which);
-    return times > 0;
-}
-
-bool met_everything(const struct tally *tally)
-{
-    bool all = true;
-    char number[16];
-    for (int i = 0; i < IMAGE_KINDS; i++)
-        all &= met("image", image_kind_names[i], tally->image[i]);
-    for (int i = 0; i < BURST_KINDS; i++)
-        all &= met("burst", burst_kind_names[i], tally->burst[i]);
-    for (int i = 0; i < ROOM_KINDS; i++)
-        all &= met("room", room_kind_names[i], tally->room[i]);
-    all &= met("refusal", "none", tally->refusal[0]);
-    for (int i = 11; i <= 19; i++) {
-        snprintf(number, sizeof number, "%d", i);
-        all &= met("refusal", number, tally->refusal[i]);
-    }
-    all &= met("answer", "silence", tally->silence) & met("answer", "ACK", tally->ack);
-    all &= met("answer", "NACK", tally->nack) & met("answer", "NAV", tally->nav);
-    for (size_t i = 0; i < sizeof get_codes; i++) {
-        snprintf(number, sizeof number, "0x%02X", get_codes[i]);
-        all &= met("report", number, tally->report[get_codes[i]]);
-    }
-    return all;
 }

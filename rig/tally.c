@@ -1,0 +1,112 @@
+#include "tally.h"
+
+#include <stdio.h>
+
+static void count_answer(struct tally *tally, const struct trial *t)
+{
+    const uint8_t *answer = t->answer + GUARD;
+    if (t->result.answer_len == 0)
+        tally->silence++;
+    else if (t->result.answer_len < 6)
+        return;
+    else if (answer[3] != 0)
+        tally->report[answer[3]]++;
+    else
+        tally->control[answer[4]]++;
+}
+
+void count_outcome(struct tally *tally, const struct test_case *c, const struct trial *by_plain)
+{
+    tally->image[c->image_kind]++;
+    tally->room[c->room_kind]++;
+    tally->refusal[c->call][by_plain->result.refusal & 0xFF]++;
+    count_meetings(&tally->meetings, c, by_plain);
+    if (c->call != CALL_PLAY)
+        return;
+    tally->burst[c->burst_kind]++;
+    if (!by_plain->result.refusal)
+        count_answer(tally, by_plain);
+}
+
+/* A line of the tally: what was met, and how often; a line whose what is NULL begins the section that is named. */
+typedef void take_line(void *to, const char *section, const char *what, unsigned long times);
+
+static void each_name(take_line *take, void *to, const char *section, const char *const *names, const unsigned long *times,
+                      size_t count)
+{
+    take(to, section, NULL, 0);
+    for (size_t i = 0; i < count; i++)
+        take(to, section, names[i], times[i]);
+}
+
+static void each_of_call(take_line *take, void *to, const struct tally *tally, enum call call)
+{
+    char what[16];
+    const char *section = call_names[call];
+    const unsigned long *refusal = tally->refusal[call];
+    take(to, section, NULL, 0);
+    take(to, section, "no refusal", refusal[0]);
+    for (int i = 11; i <= 19; i++) {
+        snprintf(what, sizeof what, "refusal %d", i);
+        take(to, section, what, refusal[i]);
+    }
+    if (call == CALL_BACK)
+        take(to, section, "refusal 31", refusal[31]);
+    for (int i = 0; i < WALL_KINDS; i++)
+        take(to, section, wall_kind_names[i], tally->meetings.wall[call][i]);
+}
+
+static void each_answer(take_line *take, void *to, const struct tally *tally)
+{
+    static const uint8_t get_codes[] = {0x19, 0x33, 0x35, 0x43, 0x62, 0xA4, 0xD1, 0xDE};
+    take(to, "answer", NULL, 0);
+    take(to, "answer", "silence", tally->silence);
+    take(to, "answer", "ACK", tally->control[0x06]);
+    take(to, "answer", "NACK", tally->control[0x15]);
+    take(to, "answer", "NAV", tally->control[0x18]);
+    for (size_t i = 0; i < sizeof get_codes; i++) {
+        char what[16];
+        snprintf(what, sizeof what, "report 0x%02X", get_codes[i]);
+        take(to, "answer", what, tally->report[get_codes[i]]);
+    }
+}
+
+static void each_line(take_line *take, void *to, const struct tally *tally)
+{
+    each_name(take, to, "image, by its last spoiling", image_kind_names, tally->image, IMAGE_KINDS);
+    each_name(take, to, "burst", burst_kind_names, tally->burst, BURST_KINDS);
+    each_name(take, to, "room lent", room_kind_names, tally->room, ROOM_KINDS);
+    for (int call = 0; call < CALLS; call++)
+        each_of_call(take, to, tally, call);
+    each_answer(take, to, tally);
+    each_name(take, to, "case and outcome", meeting_names, tally->meetings.met, MEETINGS);
+}
+
+static void print_line(void *to, const char *section, const char *what, unsigned long times)
+{
+    (void)to;
+    if (what)
+        printf("  %-64s %9lu\n", what, times);
+    else
+        printf("%s:\n", section);
+}
+
+void print_tally(const struct tally *tally)
+{
+    each_line(print_line, NULL, tally);
+}
+
+static void check_line(void *to, const char *section, const char *what, unsigned long times)
+{
+    if (!what || times > 0)
+        return;
+    printf("never met: %s: %s\n", section, what);
+    *(bool *)to = false;
+}
+
+bool met_everything(const struct tally *tally)
+{
+    bool all = true;
+    each_line(check_line, &all, tally);
+    return all;
+}

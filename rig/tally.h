@@ -1,0 +1,22 @@
+/* What a run of the comparison met, kind by kind. */
+#ifndef TALLY_H
+#define TALLY_H
+
+#include "meetings.h"
+
+struct tally {
+    unsigned long image[IMAGE_KINDS], burst[BURST_KINDS], room[ROOM_KINDS];
+    unsigned long refusal[CALLS][256];  /* 0 is none */
+    unsigned long silence, control[256], report[256];
+    struct meetings meetings;
+};
+
+/* by_plain is the outcome of the plain box. */
+void count_outcome(struct tally *tally, const struct test_case *c, const struct trial *by_plain);
+void print_tally(const struct tally *tally);
+
+/* Every kind of case, every refusal and every kind of wall for each call, every kind of answer and every meeting; if not,
+ * says which was not met. */
+bool met_everything(const struct tally *tally);
+
+#endif
