@@ -19,6 +19,7 @@ use packet::MonitorId;
 use panels::Panel;
 use profiles::Numbered;
 use settings::Profile;
+use settings::VALUE_COUNT;
 
 // A whole head, neither ID nor group 0, and an ID not seen before.
 fn head_fits(form: Form, bytes: &[u8], seen: &[bool]) -> bool
@@ -52,7 +53,12 @@ fn profile_in(form: Form, bytes: &[u8]) -> Numbered
 fn no_panel() -> ReadPanel
     ensures { λ r. ⌜ r ≡ noPanel ⌝ }
 {
-    let panel = panels::blank_panel();
+    let panel = Panel {
+        id: MonitorId(0),
+        group: GroupId(0),
+        profile: Profile::General,
+        values: [0u8; VALUE_COUNT],
+    };
     ReadPanel {
         refusal: Refusal::Record,
         panel,

@@ -56,7 +56,7 @@ pub struct Changed {
     pub table: Table,
 }
 
-pub fn blank_panel() -> Panel
+fn blank_panel() -> Panel
     ensures { λ r. ⌜ r ≡ blank ⌝ }
 {
     Panel {
