@@ -1,7 +1,7 @@
 -- A burst keeps a wall good: every setting stays in its range. Assumes nothing.
-use mathlib.Core.Path.{_≡_, refl, ap₂}
+use mathlib.Core.Path.{_≡_, refl}
 use mathlib.Core.Bool.{Bool, true, false, cond}
-use mathlib.Core.List.{List, [], _∷_, map}
+use mathlib.Core.List.{List}
 use Prim.Native.Nat.{ℕ}
 use native.Mathlib.Omega.{arith}
 use lib.ListN.{length, length-map}
@@ -47,51 +47,17 @@ stored-good row vs p ok g =
     let i = with-in-range (record { full = g .full; rows = g .inRange }) row vs ok in
     record { named = g .named; grouped = g .grouped; full = i .full; inRange = i .rows }
 
--- What a stored row leaves as it was, a burst does too.
-module _ {A : Type 0} (f : Panel → A) (same : (row : ℕ) (vs : List ℕ) (p : Panel) → f (stored row vs p) ≡ f p) where
-  judged-keeps : (c : Command) (p : Panel) → f (panelAfter (judge c p) p) ≡ f p
-  unfolding judge
-  judged-keeps (getOf row) p = refl
-  judged-keeps (setOf row vs) p = go (allowedFor (p .profile) row vs)
-    where
-      go : (t : Bool) → f (panelAfter (cond t (taken (stored row vs p)) notAvailable) p) ≡ f p
-      go true = same row vs p
-      go false = refl
-  judged-keeps unavailable p = refl
+-- what a panel does with a command keeps its ID and keeps it good
+judged-id : (c : Command) (p : Panel) → panelAfter (judge c p) p .id ≡ p .id
+unfolding judge stored
+judged-id (getOf row) p = refl
+judged-id (setOf row vs) p = go (allowedFor (p .profile) row vs)
+  where
+    go : (t : Bool) → panelAfter (cond t (taken (stored row vs p)) notAvailable) p .id ≡ p .id
+    go true = refl
+    go false = refl
+judged-id unavailable p = refl
 
-  turned-keeps : (i : MonitorId) (g : GroupId) (c : Command) (p : Panel) → f (turned i g c p) ≡ f p
-  unfolding turned
-  turned-keeps i g c p = go (reaches i g p)
-    where
-      go : (t : Bool) → f (cond t (panelAfter (judge c p) p) p) ≡ f p
-      go true = judged-keeps c p
-      go false = refl
-
-  all-keep : (i : MonitorId) (g : GroupId) (c : Command) (w : Wall) → map f (map (turned i g c) w) ≡ map f w
-  all-keep i g c [] = refl
-  all-keep i g c (p ∷ w) = ap₂ (λ (x : A) (l : List A). x ∷ l) (turned-keeps i g c p) (all-keep i g c w)
-
-  by-verdict-keeps : (v : Verdict) (w : Wall) (b : List ℕ) → map f (playedBy v w b .wall) ≡ map f w
-  by-verdict-keeps Empty w b = refl
-  by-verdict-keeps Damaged w b = refl
-  by-verdict-keeps (Intact i g n) w b = all-keep i g (command (dataOf b (Intact i g n))) w
-
-  played-keeps : (w : Wall) (b : List ℕ) → map f (played w b .wall) ≡ map f w
-  unfolding played
-  played-keeps w b = by-verdict-keeps (verdictOf b) w b
-
-same-id : (row : ℕ) (vs : List ℕ) (p : Panel) → stored row vs p .id ≡ p .id
-unfolding stored
-same-id row vs p = refl
-
-same-profile : (row : ℕ) (vs : List ℕ) (p : Panel) → stored row vs p .profile ≡ p .profile
-unfolding stored
-same-profile row vs p = refl
-
-pub played-profiles : (w : Wall) (b : List ℕ) → map (λ (p : Panel). p .profile) (played w b .wall) ≡ map (λ (p : Panel). p .profile) w
-played-profiles = played-keeps (λ (p : Panel). p .profile) same-profile
-
--- what a panel does with a command keeps it good
 judged-good : (c : Command) (p : Panel) → GoodPanel p → GoodPanel (panelAfter (judge c p) p)
 unfolding judge
 judged-good (getOf row) p g = g
@@ -101,6 +67,14 @@ judged-good (setOf row vs) p g = go (allowedFor (p .profile) row vs) refl
     go true e = stored-good row vs p e g
     go false e = g
 judged-good unavailable p g = g
+
+turned-id : (i : MonitorId) (g : GroupId) (c : Command) (p : Panel) → turned i g c p .id ≡ p .id
+unfolding turned
+turned-id i g c p = go (reaches i g p)
+  where
+    go : (t : Bool) → cond t (panelAfter (judge c p) p) p .id ≡ p .id
+    go true = judged-id c p
+    go false = refl
 
 turned-good : (i : MonitorId) (g : GroupId) (c : Command) (p : Panel) → GoodPanel p → GoodPanel (turned i g c p)
 unfolding turned
@@ -115,7 +89,7 @@ by-verdict-good Empty w b good = (good, refl)
 by-verdict-good Damaged w b good = (good, refl)
 by-verdict-good (Intact i g n) w b good =
     let c = command (dataOf b (Intact i g n)) in
-    (good-map (turned i g c) (turned-keeps (λ (p : Panel). p .id) same-id i g c) (turned-good i g c) w good, length-map w (turned i g c))
+    (good-map (turned i g c) (turned-id i g c) (turned-good i g c) w good, length-map w (turned i g c))
 
 pub played-good : (w : Wall) (b : List ℕ) → GoodWall w → GoodWall (played w b .wall)
 unfolding played

@@ -1,13 +1,12 @@
 -- Which walls a form holds whole. Assumes nothing.
-use mathlib.Core.Path.{_≡_, refl, sym, ap, _∙_}
-use mathlib.Core.Bool.{Bool, true, false, cond, _&&_}
-use mathlib.Core.List.{List, [], _∷_, _++_, map}
+use mathlib.Core.Path.{_≡_, refl, sym, ap}
+use mathlib.Core.Bool.{Bool, true, false, cond}
+use mathlib.Core.List.{List, [], _∷_, _++_}
 use Prim.Native.Nat.{ℕ, _≤_}
 use native.Mathlib.Omega.{arith}
 use borrow.Author.Tests.{leb-true}
 use lib.Dec.{leb}
 use lib.ListN.{length}
-use Rattle.settings.specs.declared.Profile.{Profile}
 use Rattle.panels.specs.declared.Panel.{Panel}
 use Rattle.panels.specs.Wall.{Wall}
 use Rattle.forms.specs.declared.Form.{Form}
@@ -34,19 +33,6 @@ module _ (form : Form) where
   unfolding losesNothing
   one-more [] p e h = rw h
   one-more (q ∷ w) p e h = let (a, b) = both (holds form (q .profile)) (losesNothing form w) e in rw (a, one-more w p b h)
-
-  -- it goes by the profiles alone
-  all-held : List Profile → Bool
-  all-held [] = true
-  all-held (p ∷ ps) = holds form p && all-held ps
-
-  profiles-tell : (w : Wall) → losesNothing form w ≡ all-held (map (λ (p : Panel). p .profile) w)
-  unfolding losesNothing all-held
-  profiles-tell [] = refl
-  profiles-tell (p ∷ w) = ap (λ (t : Bool). holds form (p .profile) && t) (profiles-tell w)
-
-  pub by-profiles : (v w : Wall) → map (λ (p : Panel). p .profile) v ≡ map (λ (p : Panel). p .profile) w → losesNothing form v ≡ losesNothing form w
-  by-profiles v w e = profiles-tell v ∙ ap all-held e ∙ sym (profiles-tell w)
 
   -- what holds where an image was written
   pub was-written : (w : Wall) (out : List ℕ) (n : ℕ) → writtenOf form w out ≡ Bytes n
