@@ -50,6 +50,7 @@ fn profile_in(form: Form, bytes: &[u8]) -> Numbered
     }
 }
 
+// 16, and no panel.
 fn no_panel() -> ReadPanel
     ensures { λ r. ⌜ r ≡ noPanel ⌝ }
 {

@@ -52,7 +52,7 @@ fn refusal_for(read: Refusal, held: bool, room: bool) -> u32
     if room { 0 } else { 19 }
 }
 
-// A refusal leaves nothing.
+// A refusal: both lengths are 0.
 fn refused(refusal: u32) -> Outcome
     ensures { λ r. ⌜ r ≡ refusedBy refusal ⌝ }
 {
