@@ -24,15 +24,20 @@ pub record Moved (form : Form) (image other : List ℕ) : Type 0 where
 abbrev pub SameTable : Type 0
 SameTable = (form : Form) (image other : List ℕ) → Moved form image other → readOf other ≡ readOf image
 
--- Form 1 loses nothing of what is read from it: it is general. So the way back is never refused by 31,
+-- An image without fault can be moved to every form that loses nothing: to form 2 always,
+abbrev pub CanMove : Type 0
+CanMove =
+    (form : Form) (image : List ℕ) → readOf image .refusal ≡ Sound → losesNothing form (readOf image .wall) ≡ true
+    → (other : List ℕ) × Moved form image other
+
+-- and what is read from form 1 is general, so that form 1 loses nothing of it.
 abbrev pub ReadGeneral : Type 0
 ReadGeneral = (image : List ℕ) → formOf image ≡ One → losesNothing One (readOf image .wall) ≡ true
 
--- and to form 2 and back gives the image that form 1's writer makes of the same table.
+-- To form 2 and back gives the image that form 1's writer makes of the same table: every image of form 1 goes that way.
 abbrev pub ThereAndBack : Type 0
-ThereAndBack =
-    (image there back own : List ℕ) → formOf image ≡ One → Moved Two image there → Moved One there back → Moved One image own → back ≡ own
+ThereAndBack = (image there back own : List ℕ) → Moved Two image there → Moved One there back → Moved One image own → back ≡ own
 
--- Form 2 to form 1, where it is not refused, and back gives the same table.
+-- To form 1, where it is not refused, and back gives the same table.
 abbrev pub BackAndThere : Type 0
-BackAndThere = (image back there : List ℕ) → formOf image ≡ Two → Moved One image back → Moved Two back there → readOf there ≡ readOf image
+BackAndThere = (image back there : List ℕ) → Moved One image back → Moved Two back there → readOf there ≡ readOf image

@@ -8,7 +8,7 @@ use lib.ListN.{length, drop}
 use Rattle.settings.specs.declared.Profile.{Profile}
 use Rattle.settings.specs.declared.Profile.the-variants.{General, Phoenix}
 use Rattle.profiles.specs.declared.Numbered.the-variants.{Known}
-use Rattle.profiles.specs.Numbers.{profileNumber, profileWith}
+use Rattle.profiles.proofs.Numbers.{number-back}
 use Rattle.forms.specs.declared.Form.{Form}
 use Rattle.forms.specs.declared.Form.the-variants.{One, Two}
 use Rattle.forms.specs.Forms.{formByte, isForm, formWith, headSize, headOf, profileIn, holds}
@@ -28,12 +28,8 @@ pub head-some : (form : Form) → (2 ≤ headSize form) × (headSize form ≤ 3)
 head-some One = (omega arith, omega arith)
 head-some Two = (omega arith, omega arith)
 
-number-back : (profile : Profile) → profileWith (profileNumber profile) ≡ Known profile
-unfolding profileWith
-number-back General = refl
-number-back Phoenix = refl
-
-pub holds-general : (profile : Profile) → holds One profile ≡ true → profile ≡ General
+-- form 1 has room for general alone
+holds-general : (profile : Profile) → holds One profile ≡ true → profile ≡ General
 holds-general General e = refl
 holds-general Phoenix e = absurd (false≢true e)
 

@@ -5,7 +5,7 @@ use mathlib.Core.List.{List, [], _∷_, _++_, flatten, append-nil}
 use Prim.Native.Nat.{ℕ, zero, suc, _≤_, _<_}
 use native.Mathlib.Nat.{not-suc-le-zero, le-of-suc-le-suc}
 use native.Mathlib.Omega.{arith}
-use borrow.Author.Tests.{le-leb, eq-eqb, ne-eqb}
+use borrow.Author.Tests.{eq-eqb, ne-eqb}
 use lib.ListN.{length, getD, take, length-map}
 use lib.Seq.{append-snoc, take-at}
 use Rattle.settings.specs.declared.Profile.{Profile}
@@ -29,9 +29,10 @@ use Rattle.image_read.proofs.OnTheWay.{entryBytes, entryOf}
 use Rattle.lists.proofs.Each.{each-alike, map-each}
 use Rattle.panels.proofs.Values.{length-values}
 use Rattle.image_write.proofs.Lengths.{record-at, record-length, record-some, records-long, image-length, products}
-use Rattle.image_write.proofs.Losing.{first-held, was-written}
+use Rattle.image_write.proofs.Losing.{first-held, is-written, was-written}
 use Rattle.image_read.proofs.Entries.{rowOf, row-is, Good, GoodEntries}
-use Rattle.image_read.proofs.Order.{codes-apart, given-read, saidRefusal, saidPanel, refusal-said, panel-said}
+use Rattle.image_read.proofs.Order.{codes-apart, given-read}
+use Rattle.image_read.proofs.Said.{saidRefusal, saidPanel, refusal-said, panel-said}
 use Rattle.image.proofs.Split.{form-back, whole-sound, records-in}
 
 -- the entries of a panel's fields
@@ -149,10 +150,10 @@ module _ (form : Form) where
       image-length form (recordsOf form w) ∙ rw (records-long form w good, length-map w (recordOf form)) (omega (arith, products form 0 (length w) .0))
 
   pub front-is-image : (w : Wall) → GoodWall w → (out : List ℕ) (n : ℕ) → writtenOf form w out ≡ Bytes n → take n (outputOf form w out) ≡ setupOf form w
-  unfolding outputOf laidOver
+  unfolding laidOver
   front-is-image w good out n e =
       let (held, room, size) = was-written form w out n e in
-      rw (held, le-leb (sizeOf form w) (length out) room, size) (take-at (setupOf form w) _ (sizeOf form w) (image-size w good))
+      rw (size, is-written form w out held room .1) (take-at (setupOf form w) _ (sizeOf form w) (image-size w good))
 
   -- Reading what was written of a table gives that table.
   pub written-back : (w : Wall) → GoodWall w → length w ≤ mostPanels → (out : List ℕ) (n : ℕ) → writtenOf form w out ≡ Bytes n

@@ -27,7 +27,7 @@ module _ (form : Form) (records : List (List ℕ)) where
   unfolding imageOf
   in-trailer k =
       let p = flatten records ++ flatten (startsOf records) in
-      let e : length p ≡ length (flatten records) + 2 * length records = length-append (flatten records) (flatten (startsOf records)) ∙ ap (λ (m : ℕ). length (flatten records) + m) (starts-count form records) in
+      let e : length p ≡ length (flatten records) + 2 * length records = length-append (flatten records) (flatten (startsOf records)) ∙ ap (λ (m : ℕ). length (flatten records) + m) (starts-count records) in
       rw (← e) (getD-append-add p (length records ∷ formByte form ∷ []) k 0)
 
   form-is : lastByte (imageOf form records) ≡ formByte form
@@ -55,7 +55,7 @@ module _ (form : Form) (records : List (List ℕ)) where
       let pair = in-each (λ k. highLow (startOf records k)) (length records) {k = k} [] h in
       let at : startOf ls k ≡ 2 * k = pairs-before (λ k. startOf records k) (length records) k (omega arith) in
       let e : length (flatten records) + 2 * k + j ≡ length (flatten records) + (2 * k + j) = omega arith in
-      let here : 2 * k + j < length s = omega (arith, starts-count form records) in
+      let here : 2 * k + j < length s = omega (arith, starts-count records) in
       rw (append-assoc (flatten records) s, e, getD-append-add (flatten records) _ (2 * k + j) 0, List·getD-append s _ 0 (2 * k + j) here, ← at)
       (in-flat ls k j 0 (rw pair g) ∙ rw pair)
 

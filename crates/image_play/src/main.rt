@@ -5,7 +5,13 @@ ghost use lib.ListN.{length};
 ghost use Rattle.panels.specs.WellFormed.{WellFormed};
 use forms::Form;
 use image_write::Written;
+use panels::MOST_PANELS;
 use panels::Table;
+
+// The bytes of the largest image, in form 2, and their hex digits.
+const LARGEST: usize = 36 * MOST_PANELS + 2;
+
+const MOST_DIGITS: usize = 2 * LARGEST;
 
 // An image of the input, which stands at the front of the buffer; or the input stopped inside one; or it was at its end.
 enum Item {
@@ -39,7 +45,7 @@ fn read_item(buf: &mut [u8]) -> Item
 }
 
 fn print_hex(bytes: &[u8]) {
-    let mut digits = [0u8; 2308];
+    let mut digits = [0u8; MOST_DIGITS];
     let count = text::hex(bytes, &mut digits);
     io::write_all(1, text::front(&digits, count));
 }
@@ -48,7 +54,7 @@ fn print_hex(bytes: &[u8]) {
 fn print_image(form: Form, t: Table)
     requires { ⌜ WellFormed t ⌝ }
 {
-    let mut out = [0u8; 1154];
+    let mut out = [0u8; LARGEST];
     let written = image_write::write_image(form, t, &mut out);
     match written {
         Written::Bytes(n) => print_hex(text::front(&out, n)),

@@ -30,7 +30,6 @@ sound-nothing Value e = absurd (false≢true e)
 
 pub record Fits (image : List ℕ) : Type 0 where
   pub two : 2 ≤ length image
-  pub form : isForm (lastByte image) ≡ true
   pub few : countOf image ≤ mostPanels
   pub room : 2 * countOf image + 2 ≤ length image
   pub starts : startsFit image ≡ true
@@ -48,7 +47,7 @@ fits image e = go _ _ _ _ _ refl refl refl refl refl e
     go false true false true f ea eb ec ed ef e = absurd (false≢true e)
     go false true false false false ea eb ec ed ef e = absurd (false≢true e)
     go false true false false true ea eb ec ed ef e =
-        record { two = ltb-false _ _ ea; form = eb; few = ltb-false _ _ ec; room = ltb-false _ _ ed; starts = ef }
+        record { two = ltb-false _ _ ea; few = ltb-false _ _ ec; room = ltb-false _ _ ed; starts = ef }
 
 rising : (image : List ℕ) (k m : ℕ) → rises image k m ≡ true → (j : ℕ) → k ≤ j → j < k + m → edge image j < edge image (suc j)
 unfolding rises

@@ -1,33 +1,26 @@
 -- Fields go by code and not by place. Assumes nothing.
 use mathlib.Core.Path.{_≡_, refl, sym, ap, _∙_}
-use mathlib.Core.Bool.{Bool, true, false, cond, not, _&&_, false≢true}
-use mathlib.Core.List.{List, [], _∷_, _++_, Forall₂, Forall₂·nil, Forall₂·cons}
-use Prim.Native.Nat.{ℕ, _≤_, _<_}
-use native.Mathlib.Omega.{arith}
-use borrow.Author.Tests.{le-leb, ne-eqb, eqb-true}
+use mathlib.Core.Bool.{Bool, true, false, cond, not, false≢true}
+use mathlib.Core.List.{List, [], _∷_, Forall₂, Forall₂·nil, Forall₂·cons}
+use Prim.Native.Nat.{ℕ, _<_}
+use borrow.Author.Tests.{ne-eqb, eqb-true}
 use lib.Dec.{eqb}
-use lib.ListN.{length, replicate, getD-replicate, length-append}
+use lib.ListN.{length, replicate, getD-replicate}
 use Rattle.settings.specs.declared.Profile.{Profile}
 use Rattle.settings.specs.declared.Found.the-variants.{Set}
 use Rattle.settings.specs.Settings.{foundBy, setCode, freshValues, rowCount, valueCount}
 use Rattle.settings.proofs.Laws.{set-found, fresh-allowed}
-use Rattle.packet.specs.Packet.{monitorId, groupId}
-use Rattle.panels.specs.declared.Panel.{Panel}
-use Rattle.panels.specs.Wall.{Wall, valuesOf, placeOf}
-use Rattle.panels.specs.Calls.{ifThere}
+use Rattle.panels.specs.Wall.{Wall, valuesOf}
 use Rattle.forms.specs.declared.Form.{Form}
-use Rattle.forms.specs.Forms.{headSize, headOf, holds}
-use Rattle.forms.proofs.Laws.{head-length, profile-back, behind-head}
-use Rattle.image_read.specs.declared.Refusal.{Refusal}
-use Rattle.image_read.specs.declared.Refusal.the-variants.{Nothing as Sound, Record}
+use Rattle.image_read.specs.declared.Refusal.the-variants.{Nothing as Sound}
 use Rattle.image_read.specs.declared.Fields.{Fields}
 use Rattle.image_read.specs.Whole.{formOf, wholeRefusal, recordsIn}
 use Rattle.image_read.specs.Fields.{fieldsIn}
-use Rattle.image_read.specs.Read.{isSound, headFits, recordRefusal, panelIn, refused, readRecords, readOf}
+use Rattle.image_read.specs.Read.{isSound, recordRefusal, panelIn, refused, readRecords, readOf}
 use Rattle.image_read.proofs.OnTheWay.{wallWith}
 use Rattle.image_read.specs.Entries.{Entry, bytesOf, freshEntry, Permuted, same, swapped, kept, twice, Without, givenOr, given, GiveAlike, SameHead}
-use Rattle.image_read.proofs.Edges.{sound-nothing}
 use Rattle.image_read.proofs.Entries.{rowOf, row-is, Good, GoodEntries, Unseen, stored, all-taken, no-fault}
+use Rattle.image_read.proofs.Said.{saidRefusal, saidPanel, refusal-said, panel-said, fields-sound}
 use Rattle.image_read.proofs.ByCode.{stored-is, stored-alike}
 
 -- No field has a code in another order either.
@@ -107,33 +100,6 @@ module _ (profile : Profile) where
       let r = row-is (freshEntry profile row) h refl in
       let g : Good profile (freshEntry profile row) = record { in-table = rw r h; code = ap setCode r; allowed = rw r (fresh-allowed profile h) } in
       given-alike (freshEntry profile row ∷ es) es (g, w, good) good (fresh-gives row es h w)
-
--- What a record comes to, by what its head says and its fields, whatever its form.
-unfoldable pub saidRefusal : Wall → ℕ → ℕ → Fields → Refusal
-saidRefusal w id group f =
-    cond (not (eqb id 0) && not (eqb group 0) && ifThere (placeOf (monitorId id) w) false true) (f .refusal) Record
-
-unfoldable pub saidPanel : ℕ → ℕ → Profile → Fields → Panel
-saidPanel id group profile f = record { id = monitorId id; group = groupId group; profile = profile; values = f .values }
-
-module _ (form : Form) (id group : ℕ) (profile : Profile) (rest : List ℕ) (held : holds form profile ≡ true) where
-  pub refusal-said : (w : Wall) → recordRefusal form w (headOf form id group profile ++ rest) ≡ saidRefusal w id group (fieldsIn profile rest)
-  unfolding recordRefusal headFits saidRefusal
-  refusal-said w =
-      let long : headSize form ≤ length (headOf form id group profile ++ rest) = omega (arith, head-length id group profile form, length-append (headOf form id group profile) rest) in
-      rw (le-leb _ _ long, profile-back id group profile form rest held, behind-head id group profile form rest)
-
-  pub panel-said : panelIn form (headOf form id group profile ++ rest) ≡ saidPanel id group profile (fieldsIn profile rest)
-  unfolding panelIn saidPanel
-  panel-said = rw (profile-back id group profile form rest held, behind-head id group profile form rest)
-
-fields-sound : (w : Wall) (id group : ℕ) (f : Fields) → isSound (saidRefusal w id group f) ≡ true → f .refusal ≡ Sound
-unfolding saidRefusal
-fields-sound w id group f e = go (not (eqb id 0) && not (eqb group 0) && ifThere (placeOf (monitorId id) w) false true) e
-  where
-    go : (t : Bool) → isSound (cond t (f .refusal) Record) ≡ true → f .refusal ≡ Sound
-    go true e = sound-nothing _ e
-    go false e = absurd (false≢true e)
 
 -- Images, sound as a whole and each of its form, whose records have the same heads and fields that read alike read as the same
 -- wall, where there is no fault.

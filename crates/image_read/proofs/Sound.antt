@@ -5,7 +5,8 @@ use mathlib.Core.List.{List, [], _∷_}
 use Prim.Native.Nat.{ℕ, zero, suc, _+_, _≤_, _<_}
 use native.Mathlib.Numerals.{add-one}
 use native.Mathlib.Omega.{arith}
-use borrow.Author.Tests.{eqb-false, not-true, leb-true}
+use borrow.Author.Tests.{eqb-false, not-true}
+use lib.Dec.{leb}
 use lib.ListN.{length, getD, drop, replicate, length-append}
 use lib.Seq.{drop-cons}
 use Rattle.settings.specs.declared.Profile.{Profile}
@@ -59,7 +60,6 @@ fields-in-range profile left = gathered-in-range profile (suc (length left)) (re
 
 -- a record that is not refused
 pub record HeadFits (form : Form) (w : Wall) (bytes : List ℕ) : Type 0 where
-  pub whole : headSize form ≤ length bytes
   pub named : getD bytes 0 0 ≡ 0 → ⊥
   pub grouped : getD bytes 1 0 ≡ 0 → ⊥
   pub new : placeOf (monitorId (getD bytes 0 0)) w ≡ Nowhere
@@ -69,8 +69,8 @@ unfolding headFits
 head-fits form w bytes e =
     let (abc, d) = both _ _ e in
     let (ab, c) = both _ _ abc in
-    let (a, b) = both _ _ ab in
-    record { whole = leb-true _ _ a; named = eqb-false _ _ (not-true _ b); grouped = eqb-false _ _ (not-true _ c); new = nowhere _ d }
+    let b = both (leb (headSize form) (length bytes)) _ ab .1 in
+    record { named = eqb-false _ _ (not-true _ b); grouped = eqb-false _ _ (not-true _ c); new = nowhere _ d }
   where
     nowhere : (q : Place) → ifThere q false true ≡ true → q ≡ Nowhere
     nowhere (At k) e = absurd (false≢true e)

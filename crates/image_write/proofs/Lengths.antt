@@ -65,23 +65,23 @@ pairs-before f n k h =
     let count = length-each (λ j. highLow (f j)) n in
     alike-long 2 ls (λ j g. ap length (in-each (λ j. highLow (f j)) n [] (omega arith))) k (omega arith)
 
--- a record has as many bytes as its form says
+-- all fields of a panel
 pub fields-length : (values : List ℕ) → length values ≡ valueCount → length (flatten (fieldsOf values)) ≡ fieldsSize
 fields-length values full = ap (λ (ls : List (List ℕ)). length (flatten ls)) (sym (fields-all values)) ∙ fields-before values full rowCount (omega arith) ∙ bytes-of-all
 
 -- an image made of records
-module _ (form : Form) (records : List (List ℕ)) where
-  pub starts-count : length (flatten (startsOf records)) ≡ 2 * length records
-  unfolding startsOf flatten
-  starts-count =
-      let all = take-all (length records) (startsOf records) (omega (arith, length-each (λ k. highLow (startOf records k)) (length records))) in
-      ap (λ (ls : List (List ℕ)). length (flatten ls)) (sym all) ∙ pairs-before (λ k. startOf records k) (length records) (length records) (omega arith)
-
-  pub image-length : length (imageOf form records) ≡ length (flatten records) + 2 * length records + 2
-  unfolding imageOf
-  image-length = rw (length-append (flatten records ++ flatten (startsOf records)), length-append (flatten records), starts-count)
+pub starts-count : (records : List (List ℕ)) → length (flatten (startsOf records)) ≡ 2 * length records
+unfolding startsOf flatten
+starts-count records =
+    let all = take-all (length records) (startsOf records) (omega (arith, length-each (λ k. highLow (startOf records k)) (length records))) in
+    ap (λ (ls : List (List ℕ)). length (flatten ls)) (sym all) ∙ pairs-before (λ k. startOf records k) (length records) (length records) (omega arith)
 
 module _ (form : Form) where
+  pub image-length : (records : List (List ℕ)) → length (imageOf form records) ≡ length (flatten records) + 2 * length records + 2
+  unfolding imageOf
+  image-length records = rw (length-append (flatten records ++ flatten (startsOf records)), length-append (flatten records), starts-count records)
+
+  -- a record has as many bytes as its form says
   pub record-length : (p : Panel) → length (p .values) ≡ valueCount → length (recordOf form p) ≡ recordSize form
   unfolding recordOf recordSize
   record-length p full =

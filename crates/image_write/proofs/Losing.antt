@@ -4,7 +4,7 @@ use mathlib.Core.Bool.{Bool, true, false, cond}
 use mathlib.Core.List.{List, [], _∷_, _++_}
 use Prim.Native.Nat.{ℕ, _≤_}
 use native.Mathlib.Omega.{arith}
-use borrow.Author.Tests.{leb-true}
+use borrow.Author.Tests.{leb-true, le-leb}
 use lib.Dec.{leb}
 use lib.ListN.{length}
 use Rattle.panels.specs.declared.Panel.{Panel}
@@ -14,7 +14,8 @@ use Rattle.forms.specs.declared.Form.the-variants.{Two}
 use Rattle.forms.specs.Forms.{holds}
 use Rattle.image_write.specs.declared.Written.{Written}
 use Rattle.image_write.specs.declared.Written.the-variants.{Bytes, WouldLose, NoRoom}
-use Rattle.image_write.specs.Written.{sizeOf, losesNothing, writtenOf}
+use Rattle.image_write.specs.Written.{setupOf, sizeOf, losesNothing, writtenOf, outputOf}
+use Rattle.lists.specs.Lists.{laidOver}
 use Rattle.lists.proofs.Both.{both}
 
 -- form 2 holds every wall
@@ -34,7 +35,12 @@ module _ (form : Form) where
   one-more [] p e h = rw h
   one-more (q ∷ w) p e h = let (a, b) = both (holds form (q .profile)) (losesNothing form w) e in rw (a, one-more w p b h)
 
-  -- what holds where an image was written
+  -- where nothing is lost and there is room an image is written, and there alone
+  pub is-written : (w : Wall) (out : List ℕ) → losesNothing form w ≡ true → sizeOf form w ≤ length out
+      → (writtenOf form w out ≡ Bytes (sizeOf form w)) × (outputOf form w out ≡ laidOver (setupOf form w) out)
+  unfolding writtenOf outputOf
+  is-written w out held room = (simp (held, le-leb _ _ room), simp (held, le-leb _ _ room))
+
   pub was-written : (w : Wall) (out : List ℕ) (n : ℕ) → writtenOf form w out ≡ Bytes n
       → (losesNothing form w ≡ true) × (sizeOf form w ≤ length out) × (n ≡ sizeOf form w)
   unfolding writtenOf

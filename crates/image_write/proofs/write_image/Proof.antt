@@ -4,7 +4,7 @@ use mathlib.Core.Bool.{true}
 use mathlib.Core.List.{List, [], _∷_, _++_, flatten}
 use Prim.Native.Nat.{ℕ, _+_, _-_, _*_, _≤_}
 use native.Mathlib.Omega.{arith}
-use borrow.Author.Tests.{le-leb, lt-leb, not-true, not-false}
+use borrow.Author.Tests.{lt-leb, not-true, not-false}
 use lib.ListN.{length, set, length-set, length-append, length-map}
 use Rattle.lists.specs.Lists.{each, laidOver, laidAt}
 use Rattle.panels.specs.Wall.{Wall, panelsOf}
@@ -16,6 +16,7 @@ use Rattle.image_write.specs.declared.Written.the-variants.{Bytes}
 use Rattle.image_write.specs.Written.{highLow, recordsOf, imageOf, setupOf, recordOf, sizeOf, losesNothing, writtenOf, outputOf, recordSize, panelSize}
 use Rattle.lists.proofs.Laid.{length-laid, laid-over, laid-two, laid-then}
 use Rattle.image_write.proofs.Lengths.{records-long, starts-are, starts-count, products}
+use Rattle.image_write.proofs.Losing.{is-written}
 use borrow.Author.Needs.{needs}
 use Rattle.image_write.proofs.write_image.Statement.{statement}
 use Rattle.image_write.proofs.write_image.Tie as tie
@@ -36,7 +37,7 @@ module _ (form : Form) (w : Wall) (good : GoodWall w) (out : List ℕ) (room : s
 
   starts-long : length (starts-of form (length w)) ≡ 2 * length w
   starts-long =
-      ap (λ (ls : List (List ℕ)). length (flatten ls)) (sym (starts-are form w good)) ∙ starts-count form (recordsOf form w) ∙ ap (λ (m : ℕ). 2 * m) (length-map w (recordOf form))
+      ap (λ (ls : List (List ℕ)). length (flatten ls)) (sym (starts-are form w good)) ∙ starts-count (recordsOf form w) ∙ ap (λ (m : ℕ). 2 * m) (length-map w (recordOf form))
 
   long-1 : length (with-records form w out) ≡ length out
   long-1 = length-laid 0 (flatten (recordsOf form w)) out (rw (records-long form w good) (omega (arith, sizes)))
@@ -128,7 +129,6 @@ same-length : tie.Need-same-length
 same-length c = simp length-set (omega arith)
 
 returns-3 : tie.Need-returns-3
-unfolding writtenOf outputOf
 returns-3 c =
     let starts = c .before .before .before in
     let records = starts .before .before .before .before in
@@ -141,9 +141,7 @@ returns-3 c =
     let n = count-is (s .pre) in
     let size = else2 .before .size-of .ensures in
     let room = enough else2 in
-    let fits = le-leb (sizeOf form w) (length out) room in
-    let answer : writtenOf form w out ≡ Bytes (sizeOf form w) = simp (all-held else1, fits) in
-    let after : outputOf form w out ≡ laidOver (setupOf form w) out = simp (all-held else1, fits) in
+    let (answer, after) = is-written form w out (all-held else1) room in
     let held = starts .starts .ensures ∙ ap₂ (λ (m : ℕ) (l : List ℕ). laidAt (recordSize form * m) (starts-of form m) l) n (records .records .ensures) in (
       ap Bytes size ∙ sym answer,
       ap₂ (λ (e m : ℕ). set (set (starts .starts .last .1 .0) e m) (e + 1) (c .byte-of .result)) (ends else2 .0) n

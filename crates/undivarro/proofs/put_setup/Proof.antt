@@ -1,27 +1,17 @@
 -- Nothing would be lost and there is room, so the image is written; it has at most 1,154 bytes. Assumes nothing.
 use mathlib.Core.Path.{_≡_, sym, ap, _∙_}
-use mathlib.Core.Bool.{true}
-use mathlib.Core.List.{List}
-use Prim.Native.Nat.{ℕ, _≤_}
 use native.Mathlib.Omega.{arith}
-use borrow.Author.Tests.{le-leb}
 use lib.ListN.{length}
 use Rattle.lists.specs.Lists.{laidOver}
-use Rattle.panels.specs.Wall.{Wall, panelsOf}
-use Rattle.forms.specs.declared.Form.{Form}
+use Rattle.panels.specs.Wall.{panelsOf}
 use Rattle.image_write.specs.declared.Written.{Written}
-use Rattle.image_write.specs.declared.Written.the-variants.{Bytes}
-use Rattle.image_write.specs.Written.{setupOf, sizeOf, losesNothing, writtenOf, bytesWritten, outputOf}
+use Rattle.image_write.specs.Written.{setupOf, bytesWritten}
 use Rattle.image_write.proofs.Lengths.{products}
+use Rattle.image_write.proofs.Losing.{is-written}
 use Rattle.image.proofs.Back.{image-size}
 use borrow.Author.Needs.{needs}
 use Rattle.undivarro.proofs.put_setup.Statement.{statement}
 use Rattle.undivarro.proofs.put_setup.Tie as tie
-
-fits : (form : Form) (w : Wall) (out : List ℕ) → losesNothing form w ≡ true → sizeOf form w ≤ length out
-    → (writtenOf form w out ≡ Bytes (sizeOf form w)) × (outputOf form w out ≡ laidOver (setupOf form w) out)
-unfolding writtenOf outputOf
-fits form w out e h = (simp (e, le-leb _ _ h), simp (e, le-leb _ _ h))
 
 -- what was written, whatever the match told
 laid : (c : tie.After-write-image) (s : Written) → c .write-image .result ≡ s
@@ -30,7 +20,7 @@ laid : (c : tie.After-write-image) (s : Written) → c .write-image .result ≡ 
 laid c s e =
     let start = c .before .before .before in
     let w = panelsOf (start .args .t) in
-    let f = fits (start .args .form) w _ (start .pre .1) (start .pre .2) in
+    let f = is-written (start .args .form) w _ (start .pre .1) (start .pre .2) in
     (ap bytesWritten (sym e ∙ c .write-image .ensures .0 ∙ f .0) ∙ sym (image-size (start .args .form) w (start .pre .0 .good)), c .write-image .ensures .1 ∙ f .1)
 
 write-image-requires : tie.Need-write-image-requires
