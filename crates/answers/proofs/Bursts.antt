@@ -6,23 +6,24 @@ use Prim.Native.Nat.{ℕ, _≤_, _<_}
 use native.Mathlib.Omega.{arith}
 use borrow.Author.Tests.{le-leb, lt-leb, ne-eqb}
 use lib.ListN.{length, length-append}
+use Rattle.packet.specs.declared.Damage.{Damage}
 use Rattle.packet.specs.declared.Verdict.{Verdict}
 use Rattle.packet.specs.declared.Verdict.the-variants.{Damaged}
-use Rattle.packet.specs.Packet.{isIntact, verdictOf, longest}
+use Rattle.packet.specs.Packet.{isIntact, damageOf, verdictOf, longest}
 use Rattle.panels.specs.Wall.{Wall}
 use Rattle.answers.specs.Played.{damagedReply, playedBy, played}
 
 -- a damaged burst changes no panel
-pub played-damaged : (w : Wall) (b : List ℕ) → verdictOf b ≡ Damaged → played w b ≡ record { wall = w; reply = damagedReply w b }
+pub played-damaged : (w : Wall) (b : List ℕ) (d : Damage) → verdictOf b ≡ Damaged d → played w b ≡ record { wall = w; reply = damagedReply w b }
 unfolding played
-played-damaged w b e = ap (λ (v : Verdict). playedBy v w b) e
+played-damaged w b d e = ap (λ (v : Verdict). playedBy v w b) e
 
-long-damaged : (b : List ℕ) → longest < length b → verdictOf b ≡ Damaged
+long-damaged : (b : List ℕ) → longest < length b → verdictOf b ≡ Damaged (damageOf b)
 unfolding verdictOf isIntact
 long-damaged b h = simp (ne-eqb (length b) 0 (λ z. omega arith), lt-leb _ _ h, and-false)
 
 pub played-long : (w : Wall) (b : List ℕ) → longest < length b → played w b ≡ record { wall = w; reply = damagedReply w b }
-played-long w b h = played-damaged w b (long-damaged b h)
+played-long w b h = played-damaged w b _ (long-damaged b h)
 
 -- a damaged burst's reply goes by its first three bytes
 pub damaged-alike : (w : Wall) (p q r : List ℕ) → 3 ≤ length p → damagedReply w (p ++ q) ≡ damagedReply w (p ++ r)

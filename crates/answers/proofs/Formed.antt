@@ -86,7 +86,7 @@ turned-good i g c p ok = go (reaches i g p)
 
 by-verdict-good : (v : Verdict) (w : Wall) (b : List ℕ) → GoodWall w → (GoodWall (playedBy v w b .wall)) × (length (playedBy v w b .wall) ≡ length w)
 by-verdict-good Empty w b good = (good, refl)
-by-verdict-good Damaged w b good = (good, refl)
+by-verdict-good (Damaged d) w b good = (good, refl)
 by-verdict-good (Intact i g n) w b good =
     let c = command (dataOf b (Intact i g n)) in
     (good-map (turned i g c) (turned-id i g c) (turned-good i g c) w good, length-map w (turned i g c))

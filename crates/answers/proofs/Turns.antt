@@ -22,8 +22,8 @@ use Rattle.lists.proofs.Mapped.{map-same, map-one}
 use Rattle.panels.proofs.Laws.{place-there, place-nowhere}
 use Rattle.answers.specs.Reply.{silence}
 use Rattle.answers.specs.Judged.{Command, judge, panelAfter}
-use Rattle.answers.specs.Played.{turned, playedPacket, inTable}
-use Rattle.answers.specs.Private.Orders.{asked}
+use Rattle.answers.specs.Played.{turned, playedPacket}
+use Rattle.answers.specs.Private.Orders.{inTable, asked}
 
 absent-at : (i : MonitorId) (w : Wall) (j : ℕ) → Absent i w → j < length w → getD w j blank .id .0 ≡ i .0 → ⊥
 absent-at i [] j a h = absurd (not-suc-le-zero h)

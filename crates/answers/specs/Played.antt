@@ -10,11 +10,12 @@ use Rattle.packet.specs.declared.GroupId.{GroupId}
 use Rattle.packet.specs.declared.Verdict.{Verdict}
 use Rattle.packet.specs.declared.Verdict.the-variants.{Empty, Damaged, Intact}
 use Rattle.packet.specs.declared.Control.the-variants.{Nack}
-use Rattle.packet.specs.Packet.{monitorId, verdictOf, dataOf}
+use Rattle.packet.specs.Packet.{monitorId, damageOf, verdictOf, dataOf}
 use Rattle.panels.specs.declared.Panel.{Panel}
 use Rattle.panels.specs.declared.Place.{Place}
 use Rattle.panels.specs.declared.Place.the-variants.{At, Nowhere}
-use Rattle.panels.specs.Wall.{Wall, blank, tableOf, placeOf}
+use Rattle.panels.specs.declared.Table.{Table}
+use Rattle.panels.specs.Wall.{Wall, blank, tableOf, panelsOf, placeOf}
 use Rattle.packet.specs.Answered.{isHeard}
 use Rattle.panels.specs.Addressed.{reaches}
 use Rattle.answers.specs.declared.Reply.{Reply}
@@ -46,12 +47,12 @@ damagedReply w burst =
 
 abbrev pub playedBy : Verdict → Wall → List ℕ → Outcome
 playedBy Empty w burst = record { wall = w; reply = silence }
-playedBy Damaged w burst = record { wall = w; reply = damagedReply w burst }
+playedBy (Damaged damage) w burst = record { wall = w; reply = damagedReply w burst }
 playedBy (Intact i g n) w burst = playedPacket w i g (command (dataOf burst (Intact i g n)))
 
 unfoldable pub played : Wall → List ℕ → Outcome
 played w burst = playedBy (verdictOf burst) w burst
 
--- the same, with the wall in a table
-abbrev pub inTable : Outcome → Played
-inTable o = record { table = tableOf (o .wall); reply = o .reply }
+-- the same of a table; and what is wrong with the burst, which is a fact about the burst alone (02, A3)
+abbrev pub playedOn : Table → List ℕ → Played
+playedOn t burst = let o = played (panelsOf t) burst in record { table = tableOf (o .wall); reply = o .reply; damage = damageOf burst }

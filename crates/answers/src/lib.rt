@@ -5,6 +5,7 @@ mod playing;
 
 pub use answering::write_answer;
 use packet::Control;
+use packet::Damage;
 use packet::MonitorId;
 use panels::Table;
 pub use playing::damaged_reply;
@@ -39,10 +40,17 @@ enum Order {
     NotAvailable,
 }
 
-// What a burst leaves: the table and the reply.
+// The table after a burst, and the reply to it.
+struct Turned {
+    table: Table,
+    reply: Reply,
+}
+
+// And what was wrong with the burst.
 pub struct Played {
     pub table: Table,
     pub reply: Reply,
+    pub damage: Damage,
 }
 
 // How many bytes went into the output, or it has no room for any packet.

@@ -10,12 +10,13 @@ ghost use Rattle.panels.specs.Wall.{tableOf, panelsOf};
 ghost use Rattle.packet.specs.Answered.{isHeard};
 ghost use Rattle.panels.specs.WellFormed.{WellFormed};
 ghost use Rattle.answers.specs.Judged.{setOf, command};
-ghost use Rattle.answers.specs.Private.Orders.{orderOf, takersOf, asked};
-ghost use Rattle.answers.specs.Played.{turned, playedPacket, damagedReply, played, inTable};
+ghost use Rattle.answers.specs.Private.Orders.{orderOf, takersOf, inTable, asked};
+ghost use Rattle.answers.specs.Played.{turned, playedPacket, damagedReply, playedBy, playedOn};
 use crate::Order;
 use crate::PROFILE_COUNT;
 use crate::Played;
 use crate::Reply;
+use crate::Turned;
 use crate::answering;
 use crate::judging;
 use packet::Control;
@@ -27,7 +28,7 @@ use panels::Place;
 use panels::Table;
 
 // The panel at place k is asked, and answers.
-fn play_one(t: Table, k: usize, order: Order, d: &[u8]) -> Played
+fn play_one(t: Table, k: usize, order: Order, d: &[u8]) -> Turned
     requires { ⌜ WellFormed t × (k < t .count) × (order ≡ orderOf (command (now d))) ⌝ }
     ensures { λ r. ⌜ r ≡ asked (panelsOf t) k (command (now (d .entry))) ⌝ }
 {
@@ -36,26 +37,26 @@ fn play_one(t: Table, k: usize, order: Order, d: &[u8]) -> Played
     match order {
         Order::Report(row) => {
             let reply = judging::report_of(p, row);
-            Played { table: t, reply }
+            Turned { table: t, reply }
         }
         Order::Store(row) => {
             let takers = judging::takers(row, d);
             if !judging::takes(p, takers) {
                 let reply = answering::word_from(id, Control::Nav);
-                return Played { table: t, reply };
+                return Turned { table: t, reply };
             }
             let mut after = t;
             let q = judging::with_values(p, row, d);
             after.panels[k] = q;
             let reply = answering::word_from(id, Control::Ack);
-            Played {
+            Turned {
                 table: after,
                 reply,
             }
         }
         Order::NotAvailable => {
             let reply = answering::word_from(id, Control::Nav);
-            Played { table: t, reply }
+            Turned { table: t, reply }
         }
     }
 }
@@ -96,33 +97,33 @@ fn store_in_all(t: Table, id: MonitorId, group: GroupId, row: usize, d: &[u8]) -
 }
 
 // A packet that is answered: the panel with its ID is asked.
-fn play_heard(t: Table, id: MonitorId, d: &[u8]) -> Played
+fn play_heard(t: Table, id: MonitorId, d: &[u8]) -> Turned
     requires { ⌜ WellFormed t × (id .0 ≡ 0 → ⊥) ⌝ }
     ensures { λ r. ⌜ r ≡ inTable (playedPacket (panelsOf t) id (groupId 0) (command (now (d .entry)))) ⌝ }
 {
     let place = panels::find_panel(t, id);
     let Place::At(k) = place else {
         let reply = answering::no_reply();
-        return Played { table: t, reply };
+        return Turned { table: t, reply };
     };
     let order = judging::order_of(d);
     play_one(t, k, order, d)
 }
 
 // A packet to all or to a group: each panel takes a set or keeps what it had, and nobody answers.
-fn play_unheard(t: Table, id: MonitorId, group: GroupId, d: &[u8]) -> Played
+fn play_unheard(t: Table, id: MonitorId, group: GroupId, d: &[u8]) -> Turned
     requires { ⌜ WellFormed t × (isHeard id group ≡ false) ⌝ }
     ensures { λ r. ⌜ r ≡ inTable (playedPacket (panelsOf t) id group (command (now (d .entry)))) ⌝ }
 {
     let reply = answering::no_reply();
     let order = judging::order_of(d);
     match order {
-        Order::Report(_) => Played { table: t, reply },
+        Order::Report(_) => Turned { table: t, reply },
         Order::Store(row) => {
             let table = store_in_all(t, id, group, row, d);
-            Played { table, reply }
+            Turned { table, reply }
         }
-        Order::NotAvailable => Played { table: t, reply },
+        Order::NotAvailable => Turned { table: t, reply },
     }
 }
 
@@ -145,20 +146,19 @@ pub fn damaged_reply(t: Table, burst: &[u8]) -> Reply
     }
 }
 
-// A whole burst.
-pub fn play(t: Table, burst: &[u8]) -> Played
+// A burst with this verdict.
+fn play_by(t: Table, verdict: Verdict, burst: &[u8]) -> Turned
     requires { ⌜ WellFormed t ⌝ }
-    ensures { λ r. ⌜ r ≡ inTable (played (panelsOf t) (now (burst .entry))) ⌝ }
+    ensures { λ r. ⌜ r ≡ inTable (playedBy verdict (panelsOf t) (now (burst .entry))) ⌝ }
 {
-    let verdict = packet::verdict_on(burst);
     match verdict {
         Verdict::Empty => {
             let reply = answering::no_reply();
-            Played { table: t, reply }
+            Turned { table: t, reply }
         }
-        Verdict::Damaged => {
+        Verdict::Damaged(_) => {
             let reply = damaged_reply(t, burst);
-            Played { table: t, reply }
+            Turned { table: t, reply }
         }
         Verdict::Intact {
             id,
@@ -171,5 +171,22 @@ pub fn play(t: Table, burst: &[u8]) -> Played
             }
             play_unheard(t, id, group, d)
         }
+    }
+}
+
+// A whole burst.
+pub fn play(t: Table, burst: &[u8]) -> Played
+    requires { ⌜ WellFormed t ⌝ }
+    ensures { λ r. ⌜ r ≡ playedOn t (now (burst .entry)) ⌝ }
+{
+    let verdict = packet::verdict_on(burst);
+    let damage = packet::damage_in(verdict);
+    let turned = play_by(t, verdict, burst);
+    let table = turned.table;
+    let reply = turned.reply;
+    Played {
+        table,
+        reply,
+        damage,
     }
 }

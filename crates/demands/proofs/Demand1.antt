@@ -84,7 +84,7 @@ bad-burst w b bad = go (verdictOf b) bad
 
     go : (v : Verdict) → ((k : ℕ) → k < length w → Bad v b (getD w k blank)) → playedBy v w b .wall ≡ w
     go Empty h = refl
-    go Damaged h = refl
+    go (Damaged d) h = refl
     go (Intact i g n) h = map-same _ blank w (λ k s. stay i g n (getD w k blank) (h k s))
 
 pub answer-alone : AnswerAlone
@@ -170,7 +170,7 @@ step-stays : (s : State) (h : Happening) → Stays s (step s h)
 unfolding step heard
 step-stays s (start r) =
     one-of s (waits s) _ _ (quiet-stays s _) (one-of s (isRequest r) _ _ (begun-stays s r) (quiet-stays s _))
-step-stays s (burst b) = one-of s (waits s) _ _ (ending-stays s _ _) (quiet-stays s _)
+step-stays s (burst b) = one-of s (waits s) (heard s b) (quiet s Idle) (ending-stays s _ _) (quiet-stays s _)
 step-stays s mark = one-of s (waits s) _ _ (again-stays s) (quiet-stays s _)
 
 pub call-refused : CallRefused

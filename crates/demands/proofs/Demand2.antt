@@ -83,7 +83,7 @@ module _ (b : List ℕ) (i : MonitorId) (g : GroupId) (n : ℕ) (e : verdictOf b
 by-verdict : (v : Verdict) (w : Wall) (b : List ℕ) (k : ℕ) → verdictOf b ≡ v → GoodWall w → k < length w
     → let p = getD w k blank in let q = getD (playedBy v w b .wall) k blank in (q ≡ p) ⊎ SetBy b p q
 by-verdict Empty w b k e good h = inl refl
-by-verdict Damaged w b k e good h = inl refl
+by-verdict (Damaged d) w b k e good h = inl refl
 by-verdict (Intact i g n) w b k e good h =
     let f = turned i g (command (dataOf b (Intact i g n))) in
     let at = getD-inside (map f w) k blank (f blank) (rw (length-map w f) h) ∙ List·getD-map f w k blank in
@@ -132,7 +132,7 @@ answers w b = go (verdictOf b)
   where
     go : (v : Verdict) → Answer·Is w (playedBy v w b .reply)
     go Empty = inl refl
-    go Damaged = damaged-burst w b
+    go (Damaged d) = damaged-burst w b
     go (Intact i g n) = packet-answer w i _ (isHeard i g)
 
 -- The line.

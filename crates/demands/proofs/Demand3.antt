@@ -10,7 +10,7 @@ use Rattle.packet.specs.declared.Control.the-variants.{Nack}
 use Rattle.panels.specs.Calls.{ifThere}
 use Rattle.packet.specs.declared.MonitorId.{MonitorId}
 use Rattle.packet.specs.declared.Verdict.the-variants.{Damaged}
-use Rattle.packet.specs.Packet.{monitorId, verdictOf}
+use Rattle.packet.specs.Packet.{monitorId, damageOf, verdictOf}
 use Rattle.packet.specs.Spoiled.{spoiled}
 use Rattle.packet.proofs.Spoiled.{spoiled-damaged}
 use Rattle.panels.specs.declared.Place.{Place}
@@ -38,8 +38,8 @@ damaged-answer w b = go (leb 3 (length b) && eqb (getD b 2 0) 0)
 
 -- A box that takes each burst by itself withstands spoiled packets if no damaged burst changes its wall, and each gets what it may.
 module _ (May : Reply → Type 0) (rule : Wall → List ℕ → Outcome)
-    (still : (w : Wall) (b : List ℕ) → verdictOf b ≡ Damaged → rule w b .wall ≡ w)
-    (may : (w : Wall) (b : List ℕ) → verdictOf b ≡ Damaged → May (rule w b .reply)) where
+    (still : (w : Wall) (b : List ℕ) → verdictOf b ≡ Damaged (damageOf b) → rule w b .wall ≡ w)
+    (may : (w : Wall) (b : List ℕ) → verdictOf b ≡ Damaged (damageOf b) → May (rule w b .reply)) where
   -- a session after its first reply
   abbrev then : Wall → Reply → List (List ℕ) → Ended
   then w r bs = record { wall = byBurst rule w bs .wall; replies = r ∷ byBurst rule w bs .replies }
@@ -55,11 +55,11 @@ module _ (May : Reply → Type 0) (rule : Wall → List ℕ → Outcome)
       (sym (still w (spoiled s p) damaged))
       (ih .0, (may w (spoiled s p) damaged, ih .1))
 
-pub damaged-still : (w : Wall) (b : List ℕ) → verdictOf b ≡ Damaged → played w b .wall ≡ w
-damaged-still w b d = ap (λ (o : Outcome). o .wall) (played-damaged w b d)
+pub damaged-still : (w : Wall) (b : List ℕ) → verdictOf b ≡ Damaged (damageOf b) → played w b .wall ≡ w
+damaged-still w b d = ap (λ (o : Outcome). o .wall) (played-damaged w b _ d)
 
-pub damaged-may : (w : Wall) (b : List ℕ) → verdictOf b ≡ Damaged → SilenceOrNack (played w b .reply)
-damaged-may w b d = rw (played-damaged w b d) (damaged-answer w b)
+pub damaged-may : (w : Wall) (b : List ℕ) → verdictOf b ≡ Damaged (damageOf b) → SilenceOrNack (played w b .reply)
+damaged-may w b d = rw (played-damaged w b _ d) (damaged-answer w b)
 
 pub demand3 : Demand3
 demand3 = withstands SilenceOrNack played damaged-still damaged-may

@@ -19,10 +19,12 @@ use Rattle.packet.specs.declared.MonitorId.{MonitorId}
 use Rattle.packet.specs.declared.GroupId.{GroupId}
 use Rattle.packet.specs.declared.Control.the-variants.{Ack as AckWord}
 use Rattle.packet.specs.declared.Verdict.{Verdict}
+use Rattle.packet.specs.declared.Damage.the-variants.{Nothing as NoDamage}
 use Rattle.packet.specs.declared.Verdict.the-variants.{Empty, Damaged, Intact}
 use Rattle.packet.specs.Packet.{groupId, verdictOf, dataOf, packetOf, mostData}
 use Rattle.packet.specs.Control.{controlData}
-use Rattle.packet.proofs.Packets.{packet-verdict, packet-data}
+use Rattle.packet.proofs.Packets.{sound, packet-intact, packet-verdict, packet-data}
+use Rattle.packet.proofs.Damages.{undamaged}
 use Rattle.panels.specs.declared.Panel.{Panel}
 use Rattle.panels.specs.declared.Place.the-variants.{At}
 use Rattle.panels.specs.Wall.{Wall, valuesOf, blank, placeOf, panelsOf}
@@ -38,12 +40,13 @@ use Rattle.answers.proofs.Formed.{stored-twice, played-good}
 use Rattle.answers.proofs.Turns.{stays}
 use Rattle.answers.specs.Reply.{wordFrom, reportFrom, sentBytes}
 use Rattle.requests.specs.declared.Request.{Request}
-use Rattle.requests.specs.declared.Said.the-variants.{Report}
+use Rattle.requests.specs.declared.Said.{Said}
+use Rattle.requests.specs.declared.Said.the-variants.{Ack, Nack, Nav, Report, Nothing as Other}
 use Rattle.requests.specs.Request.{valuesOf as requestValues, requestData, requestPacket, isTaken, isRequest}
 use Rattle.lists.specs.Lists.{same}
 use Rattle.requests.specs.Said.{isControl, isReport, endedBy, wordIn}
 use Rattle.host.specs.Heard.{saidBy, saidTo}
-use Rattle.host.specs.Machine.{start, burst, State, idle, begun, ending, heard, step}
+use Rattle.host.specs.Machine.{start, burst, State, idle, begun, again, ending, heard, telling, step}
 use Rattle.host.proofs.Lasting.{packet-reads}
 use Rattle.demands.specs.HostAndBox.{SentAgain, EndsWith, Lossless}
 
@@ -85,7 +88,7 @@ played-again w b good = go (verdictOf b)
   where
     go : (v : Verdict) → playedBy v (playedBy v w b .wall) b .wall ≡ playedBy v w b .wall
     go Empty = refl
-    go Damaged = refl
+    go (Damaged d) = refl
     go (Intact i g n) = wall-again i g (command (dataOf b (Intact i g n))) w good
 
 sent-often : (w : Wall) (b : List ℕ) (n : ℕ) → GoodWall w → session w (replicate (suc n) b) .wall ≡ played w b .wall
@@ -118,11 +121,22 @@ module _ (w : Wall) (r : Request) (k : ℕ) (asked : isRequest r ≡ true) (due 
   abbrev waiting : State
   waiting = record { request = r; given = requestPacket r ∷ [] }
 
+  -- what is heeded has no damage
+  untold : (d : List ℕ) (w : Said) → telling NoDamage (ending waiting d w) ≡ ending waiting d w
+  unfolding ending again
+  untold d Ack = refl
+  untold d Nack = refl
+  untold d Nav = refl
+  untold d Report = refl
+  untold d Other = refl
+
   hears : (d : List ℕ) → length d ≤ mostData
       → step (step idle (start r) .next) (burst (packetOf (r .id) (groupId 0) d)) ≡ ending waiting d (wordIn (r .profile) (r .code) d)
   unfolding step begun heard saidTo saidBy
   hears d short =
-      rw (asked, due, packet-data (r .id) (groupId 0) d short, packet-verdict (r .id) (groupId 0) d short, eq-eqb (r .id .0) _ refl)
+      let none = undamaged _ (sound _ (packet-intact (r .id) (groupId 0) d short)) in
+      rw (asked, due, none, packet-data (r .id) (groupId 0) d short, packet-verdict (r .id) (groupId 0) d short, eq-eqb (r .id .0) _ refl)
+      (untold d (wordIn (r .profile) (r .code) d))
 
   ends : GoodPanel panel → (f : Found) → foundBy (r .code) ≡ f → isTaken r f ≡ true
       → EndsWith f panel (step (step idle (start r) .next) (burst (sentBytes (played w (requestPacket r) .reply))))

@@ -10,7 +10,7 @@ use Rattle.settings.specs.Settings.{settings, foundFrom, allowedByRow, freshVal
 use Rattle.lists.specs.Lists.{laidAt, same}
 use Rattle.packet.specs.declared.Verdict.the-variants.{Damaged}
 use Rattle.packet.specs.Xor.{_⊕_, xorAll}
-use Rattle.packet.specs.Packet.{isIntact, verdictOf, dataOf, packetOf}
+use Rattle.packet.specs.Packet.{isIntact, damageOf, verdictOf, dataOf, packetOf}
 use Rattle.panels.specs.Wall.{Wall, placeFrom}
 use Rattle.packet.specs.Answered.{isHeard}
 use Rattle.panels.specs.Addressed.{reaches}
@@ -66,7 +66,7 @@ pub all-differ : AllDiffer
 all-differ =
     (always-differs, differs _ (at 0), differs _ (at 1), differs _ (at 2), differs _ (at 3), differs _ (at 4))
 
-answered-still : (w : Wall) (b : List ℕ) → verdictOf b ≡ Damaged → storesAnswered w b .wall ≡ w
+answered-still : (w : Wall) (b : List ℕ) → verdictOf b ≡ Damaged (damageOf b) → storesAnswered w b .wall ≡ w
 answered-still w b d = go (played w b .reply .answer)
   where
     go : (a : Answer) → ifSilent a w (played w b .wall) ≡ w

@@ -54,7 +54,7 @@ CallRefused =
 -- a burst is bad for a panel: empty or damaged, not to this panel, or not available
 abbrev pub Bad : Verdict → List ℕ → Panel → Type 0
 Bad Empty b p = Unit {0}
-Bad Damaged b p = Unit {0}
+Bad (Damaged damage) b p = Unit {0}
 Bad (Intact i g n) b p = (reaches i g p ≡ false) ⊎ (judge (command (dataOf b (Intact i g n))) p ≡ notAvailable)
 
 abbrev pub BadBurst : Type 0

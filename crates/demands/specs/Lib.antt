@@ -4,6 +4,7 @@ pub mod Cases
 pub mod Demand1
 pub mod Demand2
 pub mod Demand3
+pub mod Damage
 pub mod Profiles
 pub mod Forms
 pub mod WrongBoxes

@@ -1,15 +1,16 @@
 -- What a call's plain answers mean. Assumes nothing.
-use mathlib.Core.Path.{_≡_, refl}
+use mathlib.Core.Path.{_≡_, refl, ap, _∙_}
 use mathlib.Core.List.{List, [], _∷_, flatten, append-nil}
 use Prim.Native.Nat.{ℕ}
 use lib.ListN.{length, length-replicate}
 use Rattle.lists.specs.Lists.{laidOver}
+use Rattle.packet.specs.declared.Damage.{Damage}
 use Rattle.host.specs.declared.Host.{Host}
 use Rattle.host.specs.declared.Step.{Step}
 use Rattle.host.specs.declared.Outcome.{Outcome}
-use Rattle.host.specs.Machine.{Move, State, quiet, over, idle}
+use Rattle.host.specs.Machine.{Move, State, move, quiet, over, telling, idle}
 use Rattle.host.specs.Calls.{hostOf, stateOf, stepOf, Answers}
-use Rattle.host.specs.Private.Steps.{plainStep}
+use Rattle.host.specs.Private.Steps.{plainStep, tellingStep}
 
 -- a host is what its state says
 pub host-back : (h : Host) → hostOf (stateOf h) ≡ h
@@ -34,7 +35,12 @@ module _ {m : Move} {r : Step} where
   -- a packet is given out
   pub gives : (s : State) (p : List ℕ) (o : Outcome) (out out' : List ℕ) (h : Host) (n : ℕ)
       → h ≡ hostOf s → n ≡ length p → out' ≡ laidOver p out
-      → m ≡ record { next = s; sent = p ∷ []; outcome = o; values = [] }
+      → m ≡ move s (p ∷ []) o []
       → r ≡ plainStep h n o → Answers m out r out'
   unfolding stepOf laidOver flatten
   gives s p o out out' h n eh en eo e f = rw (e, f, eh, en, eo) (rw append-nil, rw append-nil)
+
+-- what is wrong with the burst stands beside
+pub tells : (m : Move) {r r' : Step} (d : Damage) (out : List ℕ) {out' : List ℕ} → Answers m out r out' → r' ≡ tellingStep d r → Answers (telling d m) out r' out'
+unfolding stepOf flatten
+tells m d out (e, f) g = (g ∙ ap (tellingStep d) e, f)

@@ -14,6 +14,7 @@ use lib.ListN.{length, replicate, length-replicate, length-take, length-append, 
 use Rattle.settings.specs.Settings.{mostValues}
 use Rattle.lists.proofs.Both.{both}
 use Rattle.packet.specs.Answered.{isHeard}
+use Rattle.packet.specs.declared.Damage.{Damage}
 use Rattle.packet.specs.Packet.{verdictOf, mostData}
 use Rattle.packet.specs.declared.Verdict.the-variants.{Intact}
 use Rattle.packet.proofs.Packets.{packet-verdict, packet-data}
@@ -22,7 +23,7 @@ use Rattle.requests.specs.declared.Said.{Said}
 use Rattle.requests.specs.declared.Said.the-variants.{Ack, Nack, Nav, Report, Nothing}
 use Rattle.requests.specs.Request.{requestData, requestPacket, isRequest}
 use Rattle.host.specs.Heard.{saidTo, dataIn}
-use Rattle.host.specs.Machine.{Happening, start, burst, mark, State, Move, idle, sendings, mostSendings, waits, begun, again, ending, heard, step}
+use Rattle.host.specs.Machine.{Happening, start, burst, mark, State, Move, idle, sendings, mostSendings, waits, begun, again, ending, heard, telling, step}
 use Rattle.host.specs.Private.Lasting.{run, after, lasts, isNack, pushes, pushed, packets, countIn}
 
 -- one happening
@@ -59,10 +60,17 @@ told s d Nav = inl (record { over = refl; none = refl; count = refl })
 told s d Report = inl (record { over = refl; none = refl; count = refl })
 told s d Nothing = inr (record { next = refl; sent = refl; few = λ h. omega arith })
 
+-- what is wrong with a burst changes nothing of that
+telling-on : (s : State) (k : ℕ) (d : Damage) (m : Move) → Ends s m ⊎ Goes s k m → Ends s (telling d m) ⊎ Goes s k (telling d m)
+telling-on s k d m =
+    ⊎-elim
+    (λ (o : Ends s m). inl (record { over = o .over; none = o .none; count = o .count }))
+    (λ (g : Goes s k m). inr (record { next = g .next; sent = g .sent; few = g .few }))
+
 pub one-step : (s : State) (h : Happening) → waits s ≡ true → Ends s (step s h) ⊎ Goes s (pushes (s .request) h) (step s h)
 unfolding step heard pushes
 one-step s (start r) w = rw w (inr (record { next = refl; sent = refl; few = λ h. omega arith }))
-one-step s (burst b) w = rw w (told s (dataIn b) (saidTo (s .request) b))
+one-step s (burst b) w = rw w (telling-on s _ _ _ (told s (dataIn b) (saidTo (s .request) b)))
 one-step s mark w = rw w (pushed-on s)
 
 -- all happenings while the request lasts

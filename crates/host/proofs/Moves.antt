@@ -9,7 +9,7 @@ use borrow.Author.Tests.{le-leb, lt-leb, lt-ltb, eq-eqb, ne-eqb}
 use types.Run.{OneOf}
 use denote.Enum.Declared.{tagOf}
 use lib.ListN.{length, length-replicate}
-use Rattle.packet.specs.Packet.{verdictOf, longest}
+use Rattle.packet.specs.Packet.{damageOf, verdictOf, dataOf, longest}
 use Rattle.packet.specs.declared.MonitorId.{MonitorId}
 use Rattle.packet.specs.declared.GroupId.{GroupId}
 use Rattle.packet.specs.declared.Verdict.{Verdict}
@@ -22,8 +22,8 @@ use Rattle.requests.specs.declared.Request.{Request}
 use Rattle.requests.specs.declared.Said.the-variants.{Nothing}
 use Rattle.requests.specs.Request.{isRequest}
 use Rattle.requests.specs.Said.{wordIn}
-use Rattle.host.specs.Heard.{saidBy, saidTo, dataIn}
-use Rattle.host.specs.Machine.{Happening, start, burst, mark, State, quiet, begun, again, ending, heard, step}
+use Rattle.host.specs.Heard.{saidBy, saidTo}
+use Rattle.host.specs.Machine.{Happening, start, burst, mark, State, quiet, begun, again, ending, heard, telling, step}
 use Rattle.host.specs.Calls.{stateOf, call}
 
 pub no-room : (out : List ℕ) (s : State) (h : Happening) → length out < longest → call out s h ≡ quiet s (Refused NoRoom)
@@ -37,7 +37,7 @@ some n h = omega arith
 module _ (out : List ℕ) (host : Host) (room : longest ≤ length out) where
   -- nothing waits
   module _ (e : host .sendings ≡ 0) where
-    pub idle-burst : (b : List ℕ) → call out (stateOf host) (burst b) ≡ quiet (stateOf host) Idle
+    pub idle-burst : (b : List ℕ) → call out (stateOf host) (burst b) ≡ telling (damageOf b) (quiet (stateOf host) Idle)
     unfolding call step
     idle-burst b = rw (le-leb _ _ room, length-replicate, e)
 
@@ -55,7 +55,7 @@ module _ (out : List ℕ) (host : Host) (room : longest ≤ length out) where
 
   -- a request waits
   module _ (ne : host .sendings ≡ 0 → ⊥) where
-    pub burst-heard : (b : List ℕ) → call out (stateOf host) (burst b) ≡ heard (stateOf host) b
+    pub burst-heard : (b : List ℕ) → call out (stateOf host) (burst b) ≡ telling (damageOf b) (heard (stateOf host) b)
     unfolding call step
     burst-heard b = rw (le-leb _ _ room, length-replicate, lt-ltb _ _ (some _ ne))
 
@@ -67,30 +67,37 @@ module _ (out : List ℕ) (host : Host) (room : longest ≤ length out) where
     unfolding call step
     busy r = rw (le-leb _ _ room, length-replicate, lt-ltb _ _ (some _ ne))
 
--- a burst that says nothing to the request is ignored
-module _ (s : State) (b : List ℕ) where
-  pub ignored : saidTo (s .request) b ≡ Nothing → heard s b ≡ quiet s Waiting
-  unfolding heard ending
-  ignored e = rw e
+-- what is heard goes by the burst's verdict and data
+pub heard-is : (s : State) (b d : List ℕ) (v : Verdict) → v ≡ verdictOf b → d ≡ dataOf b v → ending s d (saidBy (s .request) v d) ≡ heard s b
+unfolding heard saidTo
+heard-is s b d v e f = rw (f, e)
 
-  pub not-intact : OneOf (0 ∷ 1 ∷ []) (tagOf the-type (verdictOf b)) → saidTo (s .request) b ≡ Nothing
-  unfolding saidTo saidBy
-  not-intact h = go (verdictOf b) h
-    where
-      go : (v : Verdict) → OneOf (0 ∷ 1 ∷ []) (tagOf the-type v) → saidBy (s .request) v (dataIn b) ≡ Nothing
-      go Empty h = refl
-      go Damaged h = refl
-      go (Intact i g n) h = absurd (⊎-elim (λ e. omega arith) (λ e. omega arith) h)
+-- a burst with this verdict and data, for a request that waits
+module _ (s : State) (d : List ℕ) where
+  -- what says nothing to the request is ignored
+  module _ (v : Verdict) where
+    ignored : saidBy (s .request) v d ≡ Nothing → ending s d (saidBy (s .request) v d) ≡ quiet s Waiting
+    unfolding ending
+    ignored e = rw e
 
-  module _ (id : MonitorId) (group : GroupId) (n : ℕ) (e : verdictOf b ≡ Intact id group n) where
-    pub other-group : (group .0 ≡ 0 → ⊥) → saidTo (s .request) b ≡ Nothing
-    unfolding saidTo saidBy
-    other-group h = rw (e, ne-eqb _ _ h)
+    pub not-intact : OneOf (0 ∷ 1 ∷ []) (tagOf the-type v) → ending s d (saidBy (s .request) v d) ≡ quiet s Waiting
+    unfolding saidBy
+    not-intact h = ignored (go v h)
+      where
+        go : (v : Verdict) → OneOf (0 ∷ 1 ∷ []) (tagOf the-type v) → saidBy (s .request) v d ≡ Nothing
+        go Empty h = refl
+        go (Damaged damage) h = refl
+        go (Intact i g n) h = absurd (⊎-elim (λ e. omega arith) (λ e. omega arith) h)
 
-    pub other-id : group .0 ≡ 0 → (id .0 ≡ s .request .id .0 → ⊥) → saidTo (s .request) b ≡ Nothing
-    unfolding saidTo saidBy
-    other-id g h = rw (e, eq-eqb _ _ g, ne-eqb _ _ h)
+    module _ (id : MonitorId) (group : GroupId) (n : ℕ) (e : v ≡ Intact id group n) where
+      pub other-group : (group .0 ≡ 0 → ⊥) → ending s d (saidBy (s .request) v d) ≡ quiet s Waiting
+      unfolding saidBy
+      other-group h = ignored (rw (e, ne-eqb _ _ h))
 
-    pub addressed : group .0 ≡ 0 → id .0 ≡ s .request .id .0 → heard s b ≡ ending s (dataIn b) (wordIn (s .request .profile) (s .request .code) (dataIn b))
-    unfolding heard saidTo saidBy
-    addressed g i = rw (e, eq-eqb _ _ g, eq-eqb _ _ i)
+      pub other-id : group .0 ≡ 0 → (id .0 ≡ s .request .id .0 → ⊥) → ending s d (saidBy (s .request) v d) ≡ quiet s Waiting
+      unfolding saidBy
+      other-id g h = ignored (rw (e, eq-eqb _ _ g, ne-eqb _ _ h))
+
+      pub addressed : group .0 ≡ 0 → id .0 ≡ s .request .id .0 → saidBy (s .request) v d ≡ wordIn (s .request .profile) (s .request .code) d
+      unfolding saidBy
+      addressed g i = rw (e, eq-eqb _ _ g, eq-eqb _ _ i)

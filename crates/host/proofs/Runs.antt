@@ -42,7 +42,7 @@ unfolding step heard begun
 step-alike s (start r) a =
     either (waits s) (record { alike = a })
     (either (isRequest r) (either (isHeard (r .id) (r .group)) (record { alike = refl }) (record { alike = refl })) (record { alike = a }))
-step-alike s (burst b) a = either (waits s) (told-alike s (dataIn b) (saidTo (s .request) b) a) (record { alike = a })
+step-alike s (burst b) a = record { alike = either (waits s) (told-alike s (dataIn b) (saidTo (s .request) b) a) (record { alike = a }) .alike }
 step-alike s mark a = either (waits s) (again-alike s a) (record { alike = a })
 
 state-back : (s : State) → Alike s → stateOf (hostOf s) ≡ s

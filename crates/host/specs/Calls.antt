@@ -42,6 +42,7 @@ stepOf m = record {
   outcome = m .outcome;
   values = laidOver (m .values) (replicate mostValues 0);
   count = length (m .values);
+  damage = m .damage;
 }
 
 -- A call that was lent an output answers a move: with that step, and the bytes given out at the front of the output.

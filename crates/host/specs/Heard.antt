@@ -15,7 +15,7 @@ use Rattle.requests.specs.declared.Said.the-variants.{Nothing}
 -- what a burst with that verdict and data says to the host that waits for r
 unfoldable pub saidBy : Request → Verdict → List ℕ → Said
 saidBy r Empty d = Nothing
-saidBy r Damaged d = Nothing
+saidBy r (Damaged damage) d = Nothing
 saidBy r (Intact id group n) d = cond (eqb (group .0) 0 && eqb (id .0) (r .id .0)) (wordIn (r .profile) (r .code) d) Nothing
 
 abbrev pub dataIn : List ℕ → List ℕ

@@ -7,13 +7,15 @@ use lib.Dec.{ltb}
 use Rattle.settings.specs.declared.Profile.the-variants.{General}
 use Rattle.settings.specs.Settings.{mostValues}
 use Rattle.packet.specs.Answered.{isHeard}
-use Rattle.packet.specs.Packet.{monitorId, groupId}
+use Rattle.packet.specs.Packet.{monitorId, groupId, damageOf}
+use Rattle.packet.specs.declared.Damage.{Damage}
+use Rattle.packet.specs.declared.Damage.the-variants.{Nothing}
 use Rattle.requests.specs.declared.Request.{Request}
 use Rattle.host.specs.declared.Refusal.the-variants.{Busy, NotARequest}
 use Rattle.host.specs.declared.Outcome.{Outcome}
 use Rattle.host.specs.declared.Outcome.the-variants.{Idle, Waiting, Unheard, Ack as Acked, Nav as NotAvailable, Report as Reported, GivenUp, Refused}
 use Rattle.requests.specs.declared.Said.{Said}
-use Rattle.requests.specs.declared.Said.the-variants.{Ack, Nack, Nav, Report, Nothing}
+use Rattle.requests.specs.declared.Said.the-variants.{Ack, Nack, Nav, Report, Nothing as Other}
 use Rattle.requests.specs.Request.{isRequest, requestPacket}
 use Rattle.host.specs.Heard.{saidTo, dataIn}
 
@@ -28,12 +30,14 @@ pub record State : Type 0 where
   pub request : Request
   pub given : List (List ℕ)
 
--- what a happening leads to: the next state, the packet given out or none, what has become of the request, and a report's values
+-- what a happening leads to: the next state, the packet given out or none, what has become of the request, a report's values, and
+-- what is wrong with the burst that was heard
 pub record Move : Type 0 where
   pub next : State
   pub sent : List (List ℕ)
   pub outcome : Outcome
   pub values : List ℕ
+  pub damage : Damage
 
 -- nothing waits, and a fixed blank stands in the place of a request
 abbrev pub idle : State
@@ -50,28 +54,31 @@ waits s = ltb 0 (sendings s)
 abbrev pub mostSendings : ℕ
 mostSendings = 3
 
+abbrev pub move : State → List (List ℕ) → Outcome → List ℕ → Move
+move s packets o vs = record { next = s; sent = packets; outcome = o; values = vs; damage = Nothing }
+
 -- nothing is given out and nothing changes
 abbrev pub quiet : State → Outcome → Move
-quiet s o = record { next = s; sent = []; outcome = o; values = [] }
+quiet s o = move s [] o []
 
 -- the request is over
 abbrev pub over : Outcome → List ℕ → Move
-over o vs = record { next = idle; sent = []; outcome = o; values = vs }
+over = move idle []
 
 -- the packet is given out; where no answer is due, the request is over
 unfoldable pub begun : Request → Move
 begun r =
     let p = requestPacket r ∷ [] in
     cond (isHeard (r .id) (r .group))
-    (record { next = record { request = r; given = p }; sent = p; outcome = Waiting; values = [] })
-    (record { next = idle; sent = p; outcome = Unheard (length p); values = [] })
+    (move (record { request = r; given = p }) p Waiting [])
+    (move idle p (Unheard (length p)) [])
 
 -- the same packet again, or after the third sending given up
 unfoldable pub again : State → Move
 again s =
     let p = requestPacket (s .request) in
     cond (ltb (sendings s) mostSendings)
-    (record { next = record { request = s .request; given = p ∷ s .given }; sent = p ∷ []; outcome = Waiting; values = [] })
+    (move (record { request = s .request; given = p ∷ s .given }) (p ∷ []) Waiting [])
     (over (GivenUp (sendings s)) [])
 
 -- ACK, report and NAV end the request
@@ -80,13 +87,17 @@ ending s d Ack = over (Acked (sendings s)) []
 ending s d Nack = again s
 ending s d Nav = over (NotAvailable (sendings s)) []
 ending s d Report = over (Reported (sendings s)) (drop 1 d)
-ending s d Nothing = quiet s Waiting
+ending s d Other = quiet s Waiting
 
 unfoldable pub heard : State → List ℕ → Move
 heard s b = ending s (dataIn b) (saidTo (s .request) b)
 
+-- a burst's move tells what is wrong with the burst, whatever comes of it; 02, A3
+abbrev pub telling : Damage → Move → Move
+telling d m = record { next = m .next; sent = m .sent; outcome = m .outcome; values = m .values; damage = d }
+
 -- one happening
 unfoldable pub step : State → Happening → Move
 step s (start r) = cond (waits s) (quiet s (Refused Busy)) (cond (isRequest r) (begun r) (quiet s (Refused NotARequest)))
-step s (burst b) = cond (waits s) (heard s b) (quiet s Idle)
+step s (burst b) = telling (damageOf b) (cond (waits s) (heard s b) (quiet s Idle))
 step s mark = cond (waits s) (again s) (quiet s Idle)

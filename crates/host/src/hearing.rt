@@ -4,13 +4,15 @@ ghost use Prim.Native.Nat.{_≤_};
 ghost use lib.ListN.{length};
 ghost use Rattle.packet.specs.Packet.{longest};
 ghost use Rattle.host.specs.Calls.{stateOf, stepOf, Answers};
-ghost use Rattle.host.specs.Machine.{over, ending, heard};
+ghost use Rattle.host.specs.Heard.{saidBy};
+ghost use Rattle.host.specs.Machine.{over, ending};
 ghost use Rattle.settings.specs.Settings.{mostValues};
 ghost use Rattle.requests.specs.Said.{wordIn};
 use crate::Host;
 use crate::Outcome;
 use crate::Step;
 use crate::sending;
+use packet::Damage;
 use packet::Verdict;
 use requests::Said;
 use settings::MOST_VALUES;
@@ -30,6 +32,7 @@ fn reported(sendings: usize, v: &[u8]) -> Step
         outcome,
         values,
         count,
+        damage: Damage::Nothing,
     }
 }
 
@@ -50,12 +53,11 @@ fn told(host: Host, d: &[u8], out: &mut [u8]) -> Step
     }
 }
 
-// Only an intact burst with group 0 and the request's ID is heeded.
-pub(crate) fn heeded(host: Host, b: &[u8], out: &mut [u8]) -> Step
+// Only an intact burst with group 0 and the request's ID is heeded, of which this is the data.
+pub(crate) fn heeded(host: Host, verdict: Verdict, d: &[u8], out: &mut [u8]) -> Step
     requires { ⌜ longest ≤ length (now out) ⌝ }
-    ensures { λ r. ⌜ Answers (heard (stateOf host) (now (b .entry))) (now (out .entry)) r (now (out .exit)) ⌝ }
+    ensures { λ r. ⌜ Answers (ending (stateOf host) (now (d .entry)) (saidBy (host .request) verdict (now (d .entry)))) (now (out .entry)) r (now (out .exit)) ⌝ }
 {
-    let verdict = packet::verdict_on(b);
     let Verdict::Intact {
         id,
         group,
@@ -72,5 +74,5 @@ pub(crate) fn heeded(host: Host, b: &[u8], out: &mut [u8]) -> Step
     if id.0 != asked.0 {
         return crate::plain(host, 0, Outcome::Waiting);
     }
-    told(host, packet::data_part(b, verdict), out)
+    told(host, d, out)
 }

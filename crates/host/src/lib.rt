@@ -5,7 +5,8 @@ mod sending;
 ghost use mathlib.Core.Path.{_≡_};
 ghost use Rattle.host.specs.Machine.{start, burst, mark, idle};
 ghost use Rattle.host.specs.Calls.{refusalOf, hostOf, stateOf, call, Answers};
-ghost use Rattle.host.specs.Private.Steps.{plainStep};
+ghost use Rattle.host.specs.Private.Steps.{plainStep, tellingStep};
+use packet::Damage;
 use packet::GroupId;
 use packet::LONGEST;
 use packet::MonitorId;
@@ -42,13 +43,14 @@ pub enum Outcome {
 }
 
 // What a call answers: the host as it then is, the length of the packet given out (0 where there is none), what has become
-// of the request, and the values of a report.
+// of the request, the values of a report, and what was wrong with the burst that was heard.
 pub struct Step {
     pub host: Host,
     pub length: usize,
     pub outcome: Outcome,
     pub values: [u8; MOST_VALUES],
     pub count: usize,
+    pub damage: Damage,
 }
 
 // The paper's number for a refusal.
@@ -73,6 +75,24 @@ fn plain(host: Host, length: usize, outcome: Outcome) -> Step
         outcome,
         values,
         count: 0,
+        damage: Damage::Nothing,
+    }
+}
+
+// An answer to a burst with this damage.
+fn telling(damage: Damage, step: Step) -> Step
+    ensures { λ r. ⌜ r ≡ tellingStep damage step ⌝ }
+{
+    let host = step.host;
+    let outcome = step.outcome;
+    let values = step.values;
+    Step {
+        host,
+        length: step.length,
+        outcome,
+        values,
+        count: step.count,
+        damage,
     }
 }
 
@@ -119,10 +139,13 @@ impl Host {
         if out.len() < LONGEST {
             return plain(self, 0, Outcome::Refused(Refusal::NoRoom));
         }
+        let verdict = packet::verdict_on(b);
+        let damage = packet::damage_in(verdict);
         if self.sendings == 0 {
-            return plain(self, 0, Outcome::Idle);
+            return telling(damage, plain(self, 0, Outcome::Idle));
         }
-        hearing::heeded(self, b, out)
+        let d = packet::data_part(b, verdict);
+        telling(damage, hearing::heeded(self, verdict, d, out))
     }
 
     // 500 ms have passed.

@@ -6,6 +6,7 @@ ghost use Rattle.host_play.specs.Private.Steps.{requestOf, startHead};
 use host::Host;
 use host::Outcome;
 use host::Step;
+use packet::Damage;
 use packet::GroupId;
 use packet::LONGEST;
 use packet::MonitorId;
@@ -74,7 +75,26 @@ fn print_outcome(outcome: Outcome, values: &[u8]) {
     }
 }
 
-// Prints the packet given out or a dash, and what has become of the request.
+// Prints a space and what was wrong with a burst, where something was.
+fn print_damage(damage: Damage) {
+    match damage {
+        Damage::Nothing => {}
+        Damage::TooShort => {
+            io::write_all(1, b" too-short");
+        }
+        Damage::TooLong => {
+            io::write_all(1, b" too-long");
+        }
+        Damage::Size => {
+            io::write_all(1, b" size");
+        }
+        Damage::Checksum => {
+            io::write_all(1, b" checksum");
+        }
+    }
+}
+
+// Prints the packet given out or a dash, what has become of the request, and what was wrong with the burst.
 fn show(step: Step, out: &[u8]) -> Host {
     if step.length == 0 {
         io::write_all(1, b"-");
@@ -85,6 +105,8 @@ fn show(step: Step, out: &[u8]) -> Host {
     let values = step.values;
     let outcome = step.outcome;
     print_outcome(outcome, text::front(&values, step.count));
+    let damage = step.damage;
+    print_damage(damage);
     io::write_all(1, b"\n");
     step.host
 }

@@ -8,12 +8,14 @@ use borrow.Author.Tests.{lt-ltb, le-ltb, ltb-true, ltb-false}
 use lib.Dec.{ltb}
 use lib.ListN.{length, take, drop, length-append, length-take, take-append-drop}
 use lib.Seq.{take-all, take-at, take-append-le, set-at, append-snoc}
-use Rattle.packet.specs.Packet.{longest}
-use Rattle.panels.specs.Wall.{Wall}
+use Rattle.packet.specs.Packet.{longest, damageOf}
+use Rattle.packet.proofs.Damages.{too-long}
+use Rattle.panels.specs.declared.Table.{Table}
+use Rattle.panels.specs.Wall.{Wall, panelsOf}
 use Rattle.line.specs.declared.Receiver.{Receiver}
 use Rattle.answers.specs.declared.Reply.{Reply}
-use Rattle.answers.specs.Played.{Outcome, damagedReply, played}
-use Rattle.line.specs.Session.{byBurst, session, Event, byte, quiet, burstsAfter, receiverOf, withByte, burstOf, streamed}
+use Rattle.answers.specs.Played.{Outcome, damagedReply, played, playedOn}
+use Rattle.line.specs.Session.{byBurst, session, Event, byte, quiet, burstsAfter, receiverOf, withByte, burstOf, heardAs, atMark, fed, streamed}
 use Rattle.answers.proofs.Bursts.{played-long, damaged-alike}
 
 abbrev receiver : List ℕ → ℕ → Receiver
@@ -82,6 +84,21 @@ long-alike w l h =
 
 burst-alike : (w : Wall) (l : List ℕ) → played w (burstOf (receiverOf l)) ≡ played w l
 burst-alike w l = by-size _ (length l) (longest + 1) (λ h. ap (played w) (kept l h)) (long-alike w l)
+
+-- and is as damaged
+damage-alike : (l : List ℕ) → damageOf (burstOf (receiverOf l)) ≡ damageOf l
+damage-alike l = by-size _ (length l) (longest + 1) (λ h. ap damageOf (kept l h)) (λ h.
+    ap damageOf (long-kept l h) ∙ too-long _ (simp (length-append, length-take) (omega arith)) ∙ sym (too-long l h))
+
+fed-after : (l bs : List ℕ) → fed (receiverOf l) bs ≡ receiverOf (l ++ bs)
+unfolding fed
+fed-after l [] = ap receiverOf (sym (append-nil l))
+fed-after l (b ∷ bs) = ap (λ (r : Receiver). fed r bs) (with-byte l b) ∙ fed-after (l ++ b ∷ []) bs ∙ ap receiverOf (append-snoc l b bs)
+
+-- a burst of any length, byte after byte and then the mark, is played, and its damage told
+pub marked : (t : Table) (b : List ℕ) → atMark (fed (receiverOf []) b) t ≡ heardAs (playedOn t b)
+unfolding atMark
+marked t b = rw (fed-after [] b, burst-alike (panelsOf t) b, damage-alike b)
 
 -- from what was heard since the last mark on
 pub stream-after : (l : List ℕ) (w : Wall) (es : List Event) → streamed (receiverOf l) w es ≡ session w (burstsAfter l es)

@@ -6,11 +6,12 @@ use lib.Dec.{ltb}
 use lib.ListN.{length, take, set, replicate}
 use Rattle.packet.specs.Packet.{longest}
 use Rattle.panels.specs.declared.Table.{Table}
-use Rattle.panels.specs.Wall.{Wall, panelsOf, tableOf}
+use Rattle.panels.specs.Wall.{Wall}
 use Rattle.answers.specs.declared.Reply.{Reply}
+use Rattle.answers.specs.declared.Played.{Played}
 use Rattle.line.specs.declared.Receiver.{Receiver}
 use Rattle.line.specs.declared.Heard.{Heard}
-use Rattle.answers.specs.Played.{Outcome, played}
+use Rattle.answers.specs.Played.{Outcome, played, playedOn}
 
 pub record Ended : Type 0 where
   pub wall : Wall
@@ -54,10 +55,16 @@ unfoldable pub burstOf : Receiver → List ℕ
 burstOf r = take (r .count) (r .bytes ++ 0 ∷ [])
 
 -- a quiet mark: the burst is played, and the receiver is fresh
+abbrev pub heardAs : Played → Heard
+heardAs p = record { receiver = receiverOf []; table = p .table; reply = p .reply; damage = p .damage }
+
 unfoldable pub atMark : Receiver → Table → Heard
-atMark r t =
-    let o = played (panelsOf t) (burstOf r) in
-    record { receiver = receiverOf []; table = tableOf (o .wall); reply = o .reply }
+atMark r t = heardAs (playedOn t (burstOf r))
+
+-- the bytes of a burst, one at a time
+unfoldable pub fed : Receiver → List ℕ → Receiver
+fed r [] = r
+fed r (b ∷ bytes) = fed (withByte r b) bytes
 
 -- what the receiver makes of a stream
 unfoldable pub streamed : Receiver → Wall → List Event → Ended

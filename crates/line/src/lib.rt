@@ -4,6 +4,7 @@ ghost use mathlib.Core.List.{[]};
 ghost use Rattle.panels.specs.WellFormed.{WellFormed};
 ghost use Rattle.line.specs.Session.{receiverOf, withByte, atMark};
 use answers::Reply;
+use packet::Damage;
 use packet::LONGEST;
 use panels::Table;
 
@@ -16,11 +17,12 @@ pub struct Receiver {
     pub count: usize,
 }
 
-// What a quiet mark leaves.
+// What a quiet mark leaves, and what was wrong with the burst before it.
 pub struct Heard {
     pub receiver: Receiver,
     pub table: Table,
     pub reply: Reply,
+    pub damage: Damage,
 }
 
 impl Receiver {
@@ -61,15 +63,18 @@ impl Receiver {
                 receiver: self,
                 table: t,
                 reply,
+                damage: Damage::TooLong,
             };
         }
         let played = answers::play(t, &bytes[..n]);
         let table = played.table;
         let reply = played.reply;
+        let damage = played.damage;
         Heard {
             receiver: self,
             table,
             reply,
+            damage,
         }
     }
 }

@@ -1,19 +1,20 @@
 -- An intact burst with one byte changed, lost or added anywhere is damaged. A changed byte spoils the XOR. A lost or added
 -- one spoils the count, unless it is the size itself: then the XOR is the size, which is not 0. Assumes nothing.
-use mathlib.Core.Path.{_≡_, refl, sym, ap, _∙_}
-use mathlib.Core.Bool.{Bool, true, false}
+use mathlib.Core.Path.{_≡_, sym, ap, _∙_}
+use mathlib.Core.Bool.{true}
 use mathlib.Core.List.{List, [], _∷_, _++_}
 use Prim.Native.Nat.{ℕ, zero, suc, _≤_}
 use native.Mathlib.Omega.{arith}
-use borrow.Author.Tests.{ne-eqb}
 use lib.ListN.{length, getD, take, drop, length-append, length-take, length-drop, length-set}
 use lib.Seq.{set-split, split-at}
 use Rattle.packet.specs.Xor.{_⊕_, xorAll}
-use Rattle.packet.specs.Packet.{isIntact, verdictOf}
+use Rattle.packet.specs.Packet.{isIntact, damageOf, verdictOf}
 use Rattle.packet.specs.Spoiled.{Spoiling, changed, lost, added, spoiled, Spoils}
+use Rattle.packet.specs.declared.Damage.the-variants.{Nothing}
 use Rattle.packet.specs.declared.Verdict.the-variants.{Damaged}
 use Rattle.packet.proofs.Xor.{xor-assoc, ⊕-comm, ⊕-zero-eq, xorAll-append}
 use Rattle.packet.proofs.Packets.{Sound, sound}
+use Rattle.packet.proofs.Damages.{passed, not-intact, damaged-verdict}
 
 -- a byte of a list can be summed first
 xorAll-middle : (p q : List ℕ) (y : ℕ) → xorAll (p ++ y ∷ q) ≡ y ⊕ xorAll (p ++ q)
@@ -42,13 +43,12 @@ length-spoiled (changed i v) b h = simp length-set (omega arith)
 length-spoiled (lost i) b h = simp (length-append, length-take, length-drop) (omega arith)
 length-spoiled (added i v) b h = simp (length-append, length-take, length-drop) (omega arith)
 
-pub spoiled-damaged : (s : Spoiling) (b : List ℕ) → isIntact b ≡ true → Spoils s b → verdictOf (spoiled s b) ≡ Damaged
-unfolding verdictOf
-spoiled-damaged s b e h = rw (ne-eqb _ 0 some, not-intact _ refl)
-  where
-    some : length (spoiled s b) ≡ 0 → ⊥
-    some z = omega (arith, sound b e, length-spoiled s b h)
+module _ (s : Spoiling) (b : List ℕ) (e : isIntact b ≡ true) (h : Spoils s b) where
+  some : length (spoiled s b) ≡ 0 → ⊥
+  some z = omega (arith, sound b e, length-spoiled s b h)
 
-    not-intact : (t : Bool) → isIntact (spoiled s b) ≡ t → isIntact (spoiled s b) ≡ false
-    not-intact true i = absurd (not-sound s b (sound b e) h (sound _ i))
-    not-intact false i = i
+  pub spoiled-told : damageOf (spoiled s b) ≡ Nothing → ⊥
+  spoiled-told none = not-sound s b (sound b e) h (passed _ some none)
+
+  pub spoiled-damaged : verdictOf (spoiled s b) ≡ Damaged (damageOf (spoiled s b))
+  spoiled-damaged = damaged-verdict _ some (not-intact _ some spoiled-told)

@@ -1,17 +1,19 @@
 -- A packet, the verdict on a burst, and a packet written out. 000, 2.2.1; 01, "Packet and burst".
 use Prim.Native.Nat.{ℕ, _+_, _-_}
-use mathlib.Core.Bool.{Bool, cond, _&&_}
+use mathlib.Core.Bool.{Bool, not, cond, _&&_}
 use mathlib.Core.List.{List, [], _∷_, _++_}
 use lib.ListN.{length, getD, take, drop}
-use lib.Dec.{leb, eqb}
+use lib.Dec.{leb, ltb, eqb}
 use Rattle.lists.specs.Lists.{laidOver}
 use Rattle.packet.specs.Xor.{xorAll}
 use Rattle.packet.specs.declared.MonitorId.{MonitorId}
 use Rattle.packet.specs.declared.GroupId.{GroupId}
+use Rattle.packet.specs.declared.Damage.{Damage}
+use Rattle.packet.specs.declared.Damage.the-variants.{Nothing, TooShort, TooLong, Size, Checksum}
 use Rattle.packet.specs.declared.Verdict.{Verdict}
 use Rattle.packet.specs.declared.Verdict.the-variants.{Empty, Damaged, Intact}
 use Rattle.packet.specs.declared.Written.{Written}
-use Rattle.packet.specs.declared.Written.the-variants.{Bytes, TooLong, NoRoom}
+use Rattle.packet.specs.declared.Written.the-variants.{Bytes, TooLong as DataTooLong, NoRoom}
 
 abbrev pub monitorId : ℕ → MonitorId
 monitorId i = record { 0 = i }
@@ -33,17 +35,40 @@ mostData = longest - shortest
 unfoldable pub isIntact : List ℕ → Bool
 isIntact burst = leb shortest (length burst) && leb (length burst) longest && eqb (getD burst 0 0) (length burst) && eqb (xorAll burst) 0
 
+-- What is wrong with a burst, the first that holds. 02, A3; an empty burst has no damage.
+unfoldable pub damageOf : List ℕ → Damage
+damageOf burst =
+    cond (eqb (length burst) 0)
+    Nothing
+    (cond (ltb (length burst) shortest) TooShort
+    (cond (ltb longest (length burst)) TooLong
+    (cond (not (eqb (getD burst 0 0) (length burst))) Size (cond (not (eqb (xorAll burst) 0)) Checksum Nothing))))
+
+-- 02's numbers
+abbrev pub damageNumber : Damage → ℕ
+damageNumber Nothing = 0
+damageNumber TooShort = 1
+damageNumber TooLong = 2
+damageNumber Size = 3
+damageNumber Checksum = 4
+
 -- size, monitor ID, group, data, checksum: of an intact burst the ID, the group and the count of its data bytes
 unfoldable pub verdictOf : List ℕ → Verdict
 verdictOf burst =
     cond (eqb (length burst) 0)
     Empty
-    (cond (isIntact burst) (Intact (monitorId (getD burst 1 0)) (groupId (getD burst 2 0)) (length burst - shortest)) Damaged)
+    (cond (isIntact burst) (Intact (monitorId (getD burst 1 0)) (groupId (getD burst 2 0)) (length burst - shortest)) (Damaged (damageOf burst)))
+
+-- the damage that a verdict says
+abbrev pub damageIn : Verdict → Damage
+damageIn Empty = Nothing
+damageIn (Damaged damage) = damage
+damageIn (Intact id group n) = Nothing
 
 -- the bytes from byte 3 to the one before the checksum, of a burst with that verdict; otherwise none
 unfoldable pub dataOf : List ℕ → Verdict → List ℕ
 dataOf burst Empty = []
-dataOf burst Damaged = []
+dataOf burst (Damaged damage) = []
 dataOf burst (Intact id group n) = cond (eqb (length burst) (n + shortest)) (take n (drop 3 burst)) []
 
 -- a packet written out: size and checksum are computed
@@ -52,7 +77,7 @@ packetOf id group d = let bytes = (length d + shortest) ∷ id .0 ∷ group .0 �
 
 -- what writing answers: the output has room for any packet, and a packet for the data
 unfoldable pub writtenOf : List ℕ → List ℕ → Written
-writtenOf out d = cond (leb longest (length out)) (cond (leb (length d) mostData) (Bytes (length d + shortest)) TooLong) NoRoom
+writtenOf out d = cond (leb longest (length out)) (cond (leb (length d) mostData) (Bytes (length d + shortest)) DataTooLong) NoRoom
 
 -- the output after a packet was written, or not
 unfoldable pub outputOf : List ℕ → MonitorId → GroupId → List ℕ → List ℕ

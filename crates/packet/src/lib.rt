@@ -3,7 +3,7 @@ ghost use mathlib.Core.Path.{_≡_};
 ghost use Rattle.packet.specs.Xor.{xorAll};
 ghost use Rattle.packet.specs.Control.{controlByte};
 ghost use Rattle.packet.specs.Answered.{isHeard};
-ghost use Rattle.packet.specs.Packet.{isIntact, verdictOf, dataOf, writtenOf, outputOf};
+ghost use Rattle.packet.specs.Packet.{damageOf, damageNumber, verdictOf, damageIn, dataOf, writtenOf, outputOf};
 
 // The bytes of a packet without data.
 pub const SHORTEST: usize = 4;
@@ -18,10 +18,19 @@ pub struct MonitorId(pub u8);
 
 pub struct GroupId(pub u8);
 
+// What is wrong with a burst.
+pub enum Damage {
+    Nothing,
+    TooShort,
+    TooLong,
+    Size,
+    Checksum,
+}
+
 // What the bytes between two quiet marks are. An intact burst has an ID, a group and a count of data bytes.
 pub enum Verdict {
     Empty,
-    Damaged,
+    Damaged(Damage),
     Intact {
         id: MonitorId,
         group: GroupId,
@@ -73,20 +82,40 @@ fn xor_of(bytes: &[u8]) -> u8
     sum
 }
 
-fn is_intact(burst: &[u8]) -> bool
-    ensures { λ r. ⌜ r ≡ isIntact (now (burst .entry)) ⌝ }
+// The first damage that holds.
+fn damage_of(burst: &[u8]) -> Damage
+    ensures { λ r. ⌜ r ≡ damageOf (now (burst .entry)) ⌝ }
 {
     let n = burst.len();
+    if n == 0 {
+        return Damage::Nothing;
+    }
     if n < SHORTEST {
-        return false;
+        return Damage::TooShort;
     }
     if LONGEST < n {
-        return false;
+        return Damage::TooLong;
     }
     if burst[0] as usize != n {
-        return false;
+        return Damage::Size;
     }
-    xor_of(burst) == 0
+    if xor_of(burst) != 0 {
+        return Damage::Checksum;
+    }
+    Damage::Nothing
+}
+
+// The paper's number for a damage.
+pub fn damage_number(damage: Damage) -> u8
+    ensures { λ r. ⌜ r ≡ damageNumber damage ⌝ }
+{
+    match damage {
+        Damage::Nothing => 0,
+        Damage::TooShort => 1,
+        Damage::TooLong => 2,
+        Damage::Size => 3,
+        Damage::Checksum => 4,
+    }
 }
 
 pub fn verdict_on(burst: &[u8]) -> Verdict
@@ -96,13 +125,29 @@ pub fn verdict_on(burst: &[u8]) -> Verdict
     if n == 0 {
         return Verdict::Empty;
     }
-    if !is_intact(burst) {
-        return Verdict::Damaged;
-    }
+    let damage = damage_of(burst);
+    let Damage::Nothing = damage else {
+        return Verdict::Damaged(damage);
+    };
     Verdict::Intact {
         id: MonitorId(burst[1]),
         group: GroupId(burst[2]),
         count: n - SHORTEST,
+    }
+}
+
+// What is wrong with a burst that has this verdict.
+pub fn damage_in(verdict: Verdict) -> Damage
+    ensures { λ r. ⌜ r ≡ damageIn verdict ⌝ }
+{
+    match verdict {
+        Verdict::Empty => Damage::Nothing,
+        Verdict::Damaged(damage) => damage,
+        Verdict::Intact {
+            id: _,
+            group: _,
+            count: _,
+        } => Damage::Nothing,
     }
 }
 

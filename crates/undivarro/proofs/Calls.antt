@@ -10,16 +10,14 @@ use lib.ListN.{length, length-map}
 use Rattle.lists.proofs.Both.{both}
 use Rattle.packet.specs.declared.Verdict.{Verdict}
 use Rattle.packet.specs.declared.Verdict.the-variants.{Empty, Damaged, Intact}
-use Rattle.packet.specs.Packet.{verdictOf, dataOf, longest}
-use Rattle.panels.specs.Wall.{Wall, panelsOf}
+use Rattle.packet.specs.Packet.{damageOf, verdictOf, dataOf, longest}
+use Rattle.panels.specs.Wall.{Wall, panelsOf, tableOf}
 use Rattle.panels.specs.WellFormed.{WellFormed}
 use Rattle.panels.proofs.Laws.{panels-of-table}
-use Rattle.answers.specs.declared.Reply.{Reply}
 use Rattle.answers.specs.declared.Played.{Played}
 use Rattle.answers.specs.Reply.{sentBytes, silence}
 use Rattle.answers.specs.Judged.{command}
-use Rattle.answers.specs.Played.{turned, playedBy, played}
-use Rattle.answers.specs.Played as answers
+use Rattle.answers.specs.Played.{turned, playedBy, played, playedOn}
 use Rattle.answers.proofs.Formed.{played-formed}
 use Rattle.forms.specs.declared.Form.{Form}
 use Rattle.image_read.specs.declared.Refusal.{Refusal}
@@ -64,7 +62,7 @@ module _ (image : List ℕ) (read : Read) (is-read : read ≡ inTable (readOf im
 -- a burst leaves as many panels as there were
 by-verdict-count : (v : Verdict) (w : Wall) (b : List ℕ) → length (playedBy v w b .wall) ≡ length w
 by-verdict-count Empty w b = refl
-by-verdict-count Damaged w b = refl
+by-verdict-count (Damaged d) w b = refl
 by-verdict-count (Intact i g n) w b = length-map w (turned i g (command (dataOf b (Intact i g n))))
 
 played-count : (w : Wall) (b : List ℕ) → length (played w b .wall) ≡ length w
@@ -73,12 +71,14 @@ played-count w b = by-verdict-count (verdictOf b) w b
 
 -- What was played on it.
 module _ (image burst : List ℕ) (read : Read) (is-read : read ≡ inTable (readOf image)) (p : Played)
-    (is-played : p ≡ answers.inTable (played (panelsOf (read .table)) burst)) where
+    (is-played : p ≡ playedOn (read .table) burst) where
   pub formed-played : WellFormed (p .table)
   formed-played = subst WellFormed (sym (ap (λ (q : Played). q .table) is-played)) (played-formed (formed-read image read is-read) burst)
 
-  same-played : p ≡ answers.inTable (played (readOf image .wall) burst)
-  same-played = is-played ∙ ap (λ (w : Wall). answers.inTable (played w burst)) (wall-read image read is-read)
+  same-played : let o = played (readOf image .wall) burst in p ≡ record { table = tableOf (o .wall); reply = o .reply; damage = damageOf burst }
+  same-played =
+      is-played
+      ∙ ap {B = Played} (λ (w : Wall). record { table = tableOf (played w burst .wall); reply = played w burst .reply; damage = damageOf burst }) (wall-read image read is-read)
 
   wall-played : panelsOf (p .table) ≡ played (readOf image .wall) burst .wall
   wall-played = ap (λ (q : Played). panelsOf (q .table)) same-played ∙ panels-of-table _
@@ -87,10 +87,12 @@ module _ (image burst : List ℕ) (read : Read) (is-read : read ≡ inTable (rea
   size-played form = ap (λ (k : ℕ). panelSize form * k + 2) (ap length wall-played ∙ played-count (readOf image .wall) burst)
 
   pub given-played : (form : Form) (answer out : List ℕ)
-      → given (sentBytes (p .reply)) (setupOf form (panelsOf (p .table))) answer out
-      ≡ given (sentBytes (played (readOf image .wall) burst .reply)) (setupOf form (played (readOf image .wall) burst .wall)) answer out
+      → let o = played (readOf image .wall) burst in
+      given (sentBytes (p .reply)) (setupOf form (panelsOf (p .table))) (p .damage) answer out
+      ≡ given (sentBytes (o .reply)) (setupOf form (o .wall)) (damageOf burst) answer out
   given-played form answer out =
-      ap₂ (λ (r : Reply) (w : Wall). given (sentBytes r) (setupOf form w) answer out) (ap (λ (q : Played). q .reply) same-played) wall-played
+      ap (λ (w : Wall). given (sentBytes (p .reply)) (setupOf form w) (p .damage) answer out) wall-played
+      ∙ ap (λ (q : Played). given (sentBytes (q .reply)) (setupOf form (played (readOf image .wall) burst .wall)) (q .damage) answer out) same-played
 
 -- Both ends of each call.
 module _ (form : Form) (image burst answer out : List ℕ) (n : ℕ)
@@ -100,7 +102,8 @@ module _ (form : Form) (image burst answer out : List ℕ) (n : ℕ)
   play-refused h = sym (rw (sym is, ne-eqb n 0 h))
 
   pub play-given : n ≡ 0
-      → given (sentBytes (played (readOf image .wall) burst .reply)) (setupOf form (played (readOf image .wall) burst .wall)) answer out
+      → let o = played (readOf image .wall) burst in
+      given (sentBytes (o .reply)) (setupOf form (o .wall)) (damageOf burst) answer out
       ≡ afterBurst form image burst answer out
   unfolding afterBurst
   play-given z = sym (rw (sym is, eq-eqb n 0 z))

@@ -1,11 +1,12 @@
--- What a call from C leaves: three numbers, and every byte of both buffers. 01, "For C"; 02, A2: play and read write form 2, and
--- back writes form 1.
+-- What a call from C leaves: four numbers, and every byte of both buffers. 01, "For C"; 02, A2: play and read write form 2, and
+-- back writes form 1; 02, A3: play tells what is wrong with the burst.
 use Prim.Native.Nat.{ℕ}
 use mathlib.Core.Bool.{Bool, cond, _&&_}
 use mathlib.Core.List.{List, []}
 use lib.Dec.{leb, eqb}
 use lib.ListN.{length, replicate}
-use Rattle.packet.specs.Packet.{longest}
+use Rattle.packet.specs.declared.Damage.{Damage}
+use Rattle.packet.specs.Packet.{longest, damageOf, damageNumber}
 use Rattle.lists.specs.Lists.{laidOver}
 use Rattle.answers.specs.Reply.{sentBytes}
 use Rattle.answers.specs.Played.{played}
@@ -21,17 +22,17 @@ pub record After : Type 0 where
   pub answer : List ℕ
   pub out : List ℕ
 
--- both lengths 0, both buffers as before
+-- both lengths 0, no damage told, both buffers as before
 abbrev pub refusedBy : ℕ → Outcome
-refusedBy number = record { refusal = number; answered = 0; written = 0 }
+refusedBy number = record { refusal = number; answered = 0; written = 0; damage = 0 }
 
 abbrev pub refused : ℕ → List ℕ → List ℕ → After
 refused number answer out = record { outcome = refusedBy number; answer = answer; out = out }
 
--- an answer and an image at the front of the buffers, and their lengths; the bytes past them are untouched
-abbrev pub given : List ℕ → List ℕ → List ℕ → List ℕ → After
-given sent setup answer out = record {
-  outcome = record { refusal = 0; answered = length sent; written = length setup };
+-- an answer and an image at the front of the buffers, their lengths, and the damage's number; the bytes past them are untouched
+abbrev pub given : List ℕ → List ℕ → Damage → List ℕ → List ℕ → After
+given sent setup damage answer out = record {
+  outcome = record { refusal = 0; answered = length sent; written = length setup; damage = damageNumber damage };
   answer = laidOver sent answer;
   out = laidOver setup out;
 }
@@ -48,7 +49,7 @@ afterBurst form image burst answer out =
     let o = played (r .wall) burst in
     let room = leb longest (length answer) && leb (sizeOf form (r .wall)) (length out) in
     let n = refusalFor (r .refusal) (losesNothing form (r .wall)) room in
-    cond (eqb n 0) (given (sentBytes (o .reply)) (setupOf form (o .wall)) answer out) (refused n answer out)
+    cond (eqb n 0) (given (sentBytes (o .reply)) (setupOf form (o .wall)) (damageOf burst) answer out) (refused n answer out)
 
 -- writing a setup again in a form is playing no bytes, where there is room for an answer
 unfoldable pub afterMove : Form → List ℕ → List ℕ → After

@@ -19,12 +19,14 @@ use image_write::Written;
 use packet::LONGEST;
 use panels::Table;
 
-// What comes back: 0 or the refusal's number, and how many bytes the answer and the image written have.
+// What comes back: 0 or the refusal's number, how many bytes the answer and the image written have, and the number of what was
+// wrong with the burst.
 #[repr(C)]
 pub struct Outcome {
     pub refusal: u32,
     pub answered: u32,
     pub written: u32,
+    pub damage: u32,
 }
 
 // Room for any answer, and for a table's image.
@@ -52,7 +54,7 @@ fn refusal_for(read: Refusal, held: bool, room: bool) -> u32
     if room { 0 } else { 19 }
 }
 
-// A refusal: both lengths are 0.
+// A refusal: both lengths are 0, and no damage is told.
 fn refused(refusal: u32) -> Outcome
     ensures { λ r. ⌜ r ≡ refusedBy refusal ⌝ }
 {
@@ -60,6 +62,7 @@ fn refused(refusal: u32) -> Outcome
         refusal,
         answered: 0,
         written: 0,
+        damage: 0,
     }
 }
 
@@ -108,6 +111,7 @@ fn moved(form: Form, image: &[u8], out: &mut [u8]) -> Outcome
         refusal: 0,
         answered: 0,
         written,
+        damage: 0,
     }
 }
 
@@ -134,12 +138,14 @@ pub extern "C" fn undivarro_play(
     let played = answers::play(table, burst);
     let reply = played.reply;
     let after = played.table;
+    let damage = played.damage;
     let answered = put_answer(reply, answer);
     let written = put_setup(Form::Two, after, out);
     Outcome {
         refusal: 0,
         answered,
         written,
+        damage: packet::damage_number(damage) as u32,
     }
 }
 

@@ -10,7 +10,8 @@ use Rattle.settings.specs.Settings.{allowedFor}
 use Rattle.panels.specs.Wall.{Wall, blank, tableOf}
 use Rattle.answers.specs.declared.Order.{Order}
 use Rattle.answers.specs.declared.Order.the-variants.{Report, Store, NotAvailable}
-use Rattle.answers.specs.declared.Played.{Played}
+use Rattle.answers.specs.declared.Turned.{Turned}
+use Rattle.answers.specs.Played.{Outcome}
 use Rattle.answers.specs.Judged.{Command, getOf, setOf, unavailable, judge, panelAfter, replyBy}
 
 -- What a command asks of every panel: a report of a row, values to be stored in a row, or nothing.
@@ -26,8 +27,12 @@ takersOf row values = allowedFor General row values ∷ allowedFor Phoenix row v
 abbrev pub isTaker : List Bool → Profile → Bool
 isTaker takers profile = getD takers (profileNumber profile) false
 
+-- an outcome with its wall in a table
+abbrev pub inTable : Outcome → Turned
+inTable o = record { table = tableOf (o .wall); reply = o .reply }
+
 -- one panel asked, and the table with it as it then is
-abbrev pub asked : Wall → ℕ → Command → Played
+abbrev pub asked : Wall → ℕ → Command → Turned
 asked w k c =
     let p = getD w k blank in
     record { table = tableOf (set w k (panelAfter (judge c p) p)); reply = replyBy (p .id) (judge c p) }

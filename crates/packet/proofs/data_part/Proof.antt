@@ -21,7 +21,7 @@ use Rattle.packet.proofs.data_part.Tie as tie
 no-data : (b : List ℕ) (v : Verdict) → OneOf (0 ∷ 1 ∷ []) (tagOf the-type v) → [] ≡ dataOf b v
 unfolding dataOf
 no-data b Empty h = refl
-no-data b Damaged h = refl
+no-data b (Damaged d) h = refl
 no-data b (Intact i g n) h = absurd (⊎-elim (λ e. omega arith) (λ e. omega arith) h)
 
 other-count : (b : List ℕ) (i : MonitorId) (g : GroupId) (n : ℕ) → (length b ≡ n + 4 → ⊥) → [] ≡ dataOf b (Intact i g n)

@@ -5,7 +5,8 @@ use mathlib.Core.List.{List, []}
 use Prim.Native.Nat.{ℕ, _≤_}
 use lib.Dec.{leb}
 use lib.ListN.{length, replicate}
-use Rattle.packet.specs.Packet.{longest}
+use Rattle.packet.specs.Packet.{longest, damageOf}
+use Rattle.packet.specs.declared.Damage.the-variants.{Nothing}
 use Rattle.panels.specs.Wall.{Wall}
 use Rattle.undivarro.specs.declared.Outcome.{Outcome}
 use Rattle.answers.specs.Reply.{sentBytes}
@@ -80,7 +81,7 @@ same-length : tie.Need-same-length
 same-length c = search needs
 
 returns-2 : tie.Need-returns-2
-unfolding afterMove sentBytes
+unfolding afterMove sentBytes damageOf
 returns-2 c =
     let put = c .before .before in
     let past = put .before .before in
@@ -88,11 +89,11 @@ returns-2 c =
     let a = start (read-of refusal) .args in
     let e = read-of refusal .read-image .ensures in
     let all =
-    ap (λ (w : Wall). given [] (setupOf (a .form) w) room-for (a .out .now)) (wall-read (a .image .now) _ e)
-    ∙ ap (λ (o : BurstOutcome). given (sentBytes (o .reply)) (setupOf (a .form) (o .wall)) room-for (a .out .now)) (sym (played-none _))
+    ap (λ (w : Wall). given [] (setupOf (a .form) w) Nothing room-for (a .out .now)) (wall-read (a .image .now) _ e)
+    ∙ ap (λ (o : BurstOutcome). given (sentBytes (o .reply)) (setupOf (a .form) (o .wall)) Nothing room-for (a .out .now)) (sym (played-none _))
     ∙ play-given (a .form) (a .image .now) [] room-for (a .out .now) _ (number refusal) (past .if1 .left)
     in (
-      ap {B = Outcome} (λ (m : ℕ). record { refusal = 0; answered = 0; written = m }) (put .put-setup .ensures .0) ∙ ap (λ (r : After). r .outcome) all,
+      ap {B = Outcome} (λ (m : ℕ). record { refusal = 0; answered = 0; written = m; damage = 0 }) (put .put-setup .ensures .0) ∙ ap (λ (r : After). r .outcome) all,
       put .put-setup .ensures .1 ∙ ap (λ (r : After). r .out) all,
     )
 

@@ -4,7 +4,7 @@ use mathlib.Core.Bool.{_&&_}
 use Prim.Native.Nat.{ℕ, _≤_}
 use lib.Dec.{leb}
 use lib.ListN.{length}
-use Rattle.packet.specs.Packet.{longest}
+use Rattle.packet.specs.Packet.{longest, damageNumber}
 use Rattle.forms.specs.declared.Form.the-variants.{Two}
 use Rattle.image_write.specs.Written.{sizeOf, losesNothing}
 use Rattle.image_write.proofs.Losing.{two-holds}
@@ -15,6 +15,9 @@ use Rattle.undivarro.proofs.Calls.{formed-read, refusal-is, enough, for
 use borrow.Author.Needs.{needs}
 use Rattle.undivarro.proofs.undivarro_play.Statement.{statement}
 use Rattle.undivarro.proofs.undivarro_play.Tie as tie
+
+abbrev numbers : ℕ → ℕ → ℕ → Outcome
+numbers n m d = record { refusal = 0; answered = n; written = m; damage = d }
 
 abbrev start : tie.After-read-image → tie.Start
 start c = c .before .before .before .before .before
@@ -70,6 +73,12 @@ put-setup-requires c κs =
     let f = play .play .ensures in
     (formed-played _ _ _ e _ f, two-holds _, rw (size-played _ _ _ e _ f Two) (there (play .before) .1))
 
+damage-number-requires : tie.Need-damage-number-requires
+damage-number-requires c κs = search needs
+
+cast-t25 : tie.Need-cast-t25
+cast-t25 c = search needs
+
 same-length : tie.Need-same-length
 same-length c = search needs
 
@@ -78,7 +87,7 @@ same-length-2 c = search needs
 
 returns-2 : tie.Need-returns-2
 returns-2 c =
-    let put = c .before .before in
+    let put = c .before .before .before in
     let sent = put .before .before .before .before in
     let play = sent .before .before .before .before in
     let past = play .before in
@@ -88,7 +97,8 @@ returns-2 c =
     given-played (a .image .now) (a .burst .now) _ (read .read-image .ensures) _ (play .play .ensures) Two (a .answer .now) (a .out .now)
     ∙ play-given Two (a .image .now) (a .burst .now) (a .answer .now) (a .out .now) _ (number (past .before)) (past .if1 .left)
     in (
-      ap₂ {C = Outcome} (λ (n m : ℕ). record { refusal = 0; answered = n; written = m }) (sent .put-answer .ensures .0) (put .put-setup .ensures .0)
+      ap (numbers (sent .put-answer .result) (put .put-setup .result)) (c .damage-number .ensures)
+          ∙ ap₂ (λ (n m : ℕ). numbers n m (damageNumber (play .play .result .damage))) (sent .put-answer .ensures .0) (put .put-setup .ensures .0)
           ∙ ap (λ (r : After). r .outcome) all,
       (sent .put-answer .ensures .1 ∙ ap (λ (r : After). r .answer) all, put .put-setup .ensures .1 ∙ ap (λ (r : After). r .out) all),
     )
@@ -105,6 +115,8 @@ undivarro-play-spec =
     play-requires
     put-answer-requires
     put-setup-requires
+    damage-number-requires
+    cast-t25
     same-length
     same-length-2
     returns-2)

@@ -1,118 +1,38 @@
--- The verdict decides who plays the burst. Assumes nothing.
-use mathlib.Core.Path.{_≡_, sym, ap, ap₂, _∙_}
-use mathlib.Core.List.{List}
-use Prim.Native.Nat.{ℕ}
-use Rattle.packet.specs.declared.GroupId.{GroupId}
-use Rattle.packet.specs.declared.Verdict.{Verdict}
-use Rattle.packet.specs.Packet.{groupId, verdictOf}
-use Rattle.panels.specs.declared.Table.{Table}
-use Rattle.panels.specs.Wall.{Wall, panelsOf}
-use Rattle.answers.specs.declared.Reply.{Reply}
-use Rattle.answers.specs.declared.Played.{Played}
-use Rattle.answers.specs.Judged.{command}
-use Rattle.answers.specs.Played.{playedPacket, playedBy, played, inTable}
-use Rattle.answers.proofs.Turns.{heard-means}
+-- The burst's own verdict decides, and says its damage. Assumes nothing.
+use mathlib.Core.Path.{_≡_, ap, ap₂, _∙_}
 use borrow.Author.Needs.{needs}
+use Rattle.packet.specs.declared.Damage.{Damage}
+use Rattle.packet.specs.declared.Verdict.{Verdict}
+use Rattle.packet.specs.Packet.{damageIn}
+use Rattle.packet.proofs.Damages.{damage-said}
+use Rattle.answers.specs.declared.Turned.{Turned}
+use Rattle.answers.specs.declared.Played.{Played}
+use Rattle.answers.specs.Played.{playedBy, played}
+use Rattle.answers.specs.Private.Orders.{inTable}
+use Rattle.panels.specs.Wall.{panelsOf}
 use Rattle.answers.proofs.playing.play.Statement.{statement}
 use Rattle.answers.proofs.playing.play.Tie as tie
 
 verdict-on-requires : tie.Need-verdict-on-requires
 verdict-on-requires c κs = search needs
 
-enum-told : tie.Need-enum-told
-enum-told c = search needs
+damage-in-requires : tie.Need-damage-in-requires
+damage-in-requires c κs = search needs
 
-no-reply-requires : tie.Need-no-reply-requires
-no-reply-requires c κs = search needs
-
-enum-told-2 : tie.Need-enum-told-2
-enum-told-2 c = search needs
-
-damaged-reply-requires : tie.Need-damaged-reply-requires
-damaged-reply-requires c κs = search needs
-
-enum-known-verdict : tie.Need-enum-known-verdict
-enum-known-verdict c = search needs
-
-data-part-requires : tie.Need-data-part-requires
-data-part-requires c κs = search needs
-
-is-answered-requires : tie.Need-is-answered-requires
-is-answered-requires c κs = search needs
-
-by-verdict : (w : Wall) (b : List ℕ) (v : Verdict) → verdictOf b ≡ v → inTable (playedBy v w b) ≡ inTable (played w b)
-unfolding played
-by-verdict w b v e = ap (λ (x : Verdict). inTable (playedBy x w b)) (sym e)
-
-abbrev both : Table → Reply → Played
-both t r = record { table = t; reply = r }
-
-abbrev start : tie.After-verdict-on → tie.Start
-start c = c .before .before
-
-play-heard-requires : tie.Need-play-heard-requires
-play-heard-requires c κs =
-    let call = c .before in
-    let verdict = call .before .before .before in
-    (start (verdict .before .before) .pre, heard-means _ _ (sym (call .is-answered .ensures) ∙ c .if1 .taken) .1)
+play-by-requires : tie.Need-play-by-requires
+play-by-requires c κs = search needs
 
 returns : tie.Need-returns
+unfolding played
 returns c =
-    let call = c .before .before in
-    let part = call .before in
-    let verdict = part .before .before in
-    let on = verdict .before .before in
-    let a = start on .args in
-    let v = verdict .verdict .given in
-    let heard = heard-means _ _ (sym (call .is-answered .ensures) ∙ c .before .if1 .taken) in
-    let group : groupId 0 ≡ v .0 .1 .0 = λ t. record { 0 = sym (heard .0) t } in
-    c .play-heard .ensures
-    ∙ ap₂ (λ (g : GroupId) (d : List ℕ). inTable (playedPacket (panelsOf (a .t)) (v .0 .0) g (command d))) group (part .data-part .ensures)
-    ∙ by-verdict _ _ _ (sym (on .verdict-on .ensures) ∙ v .1)
-
-play-unheard-requires : tie.Need-play-unheard-requires
-play-unheard-requires c κs =
-    let call = c .before in
-    let verdict = call .before .before .before in
-    (start (verdict .before .before) .pre, sym (call .is-answered .ensures) ∙ c .if1 .left)
-
-returns-2 : tie.Need-returns-2
-returns-2 c =
-    let on = c .before .before .before in
-    ap₂ both (start on .pre .held) (c .no-reply .ensures) ∙ by-verdict _ _ _ (sym (on .verdict-on .ensures) ∙ c .before .enum-told .given .1)
-
-returns-3 : tie.Need-returns-3
-returns-3 c =
-    let on = c .before .before .before in
-    ap₂ both (start on .pre .held) (c .damaged-reply .ensures) ∙ by-verdict _ _ _ (sym (on .verdict-on .ensures) ∙ c .before .enum-told2 .given .1)
-
-returns-4 : tie.Need-returns-4
-returns-4 c =
-    let call = c .before .before in
-    let part = call .before in
-    let verdict = part .before .before in
-    let on = verdict .before .before in
-    let a = start on .args in
-    let v = verdict .verdict .given in
-    c .play-unheard .ensures
-    ∙ ap (λ (d : List ℕ). inTable (playedPacket (panelsOf (a .t)) (v .0 .0) (v .0 .1 .0) (command d))) (part .data-part .ensures)
-    ∙ by-verdict _ _ _ (sym (on .verdict-on .ensures) ∙ v .1)
+    let turned = c .before .before in
+    let damage = turned .before in
+    let verdict = damage .before in
+    let a = verdict .before .before .args in
+    let is = verdict .verdict-on .ensures in
+    ap₂ {C = Played} (λ (o : Turned) (d : Damage). record { table = o .table; reply = o .reply; damage = d })
+    (turned .play-by .ensures ∙ ap (λ (v : Verdict). inTable (playedBy v (panelsOf (a .t)) (a .burst .now))) is)
+    (damage .damage-in .ensures ∙ ap damageIn is ∙ damage-said (a .burst .now))
 
 pub play-spec : {M : Type 1} → statement M
-play-spec =
-    tie.close
-    (tie.spec
-    verdict-on-requires
-    enum-told
-    no-reply-requires
-    enum-told-2
-    damaged-reply-requires
-    enum-known-verdict
-    data-part-requires
-    is-answered-requires
-    play-heard-requires
-    returns
-    play-unheard-requires
-    returns-2
-    returns-3
-    returns-4)
+play-spec = tie.close (tie.spec verdict-on-requires damage-in-requires play-by-requires returns)

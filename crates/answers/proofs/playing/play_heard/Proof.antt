@@ -4,7 +4,7 @@ use native.Mathlib.Omega.{arith}
 use Rattle.panels.specs.declared.Table.{Table}
 use Rattle.panels.proofs.Laws.{count-is, place-there}
 use Rattle.answers.specs.declared.Reply.{Reply}
-use Rattle.answers.specs.declared.Played.{Played}
+use Rattle.answers.specs.declared.Turned.{Turned}
 use Rattle.answers.proofs.Turns.{heard-there, heard-nowhere}
 use borrow.Author.Needs.{needs}
 use Rattle.answers.proofs.playing.play_heard.Statement.{statement}
@@ -28,7 +28,7 @@ returns c =
     let found = told .before .before in
     let start = found .before .before in
     let nowhere = sym (found .find-panel .ensures) ∙ told .enum-told .given .1 in
-    ap₂ {C = Played} (λ (t : Table) (r : Reply). record { table = t; reply = r }) (start .pre .0 .held) (c .no-reply .ensures)
+    ap₂ {C = Turned} (λ (t : Table) (r : Reply). record { table = t; reply = r }) (start .pre .0 .held) (c .no-reply .ensures)
     ∙ sym (heard-nowhere _ _ (start .pre .1) _ nowhere)
 
 order-of-requires : tie.Need-order-of-requires

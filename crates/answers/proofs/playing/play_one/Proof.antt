@@ -16,7 +16,7 @@ use Rattle.panels.specs.WellFormed.{WellFormed}
 use Rattle.panels.proofs.Laws.{count-few, in-wall, replaced}
 use Rattle.answers.specs.declared.Order.{Order}
 use Rattle.answers.specs.declared.Reply.{Reply}
-use Rattle.answers.specs.declared.Played.{Played}
+use Rattle.answers.specs.declared.Turned.{Turned}
 use Rattle.answers.specs.Reply.{wordFrom, reportFrom}
 use Rattle.answers.specs.Judged.{Command, Judged, command, judge, stored, panelAfter, replyBy}
 use Rattle.answers.specs.Private.Orders.{asked}
@@ -26,7 +26,7 @@ use Rattle.answers.proofs.playing.play_one.Tie as tie
 
 asked-is : (t : Table) (k : ℕ) (c : Command) (j : Judged) (u : Table) → judge c (getD (panelsOf t) k blank) ≡ j
     → u ≡ tableOf (set (panelsOf t) k (panelAfter j (getD (panelsOf t) k blank)))
-    → _≡_ {A = Played} (record { table = u; reply = replyBy (getD (panelsOf t) k blank .id) j }) (asked (panelsOf t) k c)
+    → _≡_ {A = Turned} (record { table = u; reply = replyBy (getD (panelsOf t) k blank .id) j }) (asked (panelsOf t) k c)
 asked-is t k c j u e h = rw (e, h)
 
 -- a panel that stays as it is
@@ -89,7 +89,7 @@ returns c =
     let row = takes .before .before .before .order2 .given in
     let o = told read _ (row .1) in
     let vs = drop 1 (a .d .now) in
-    ap {B = Played} (λ r. record { table = a .t1; reply = r }) (c .word-from .ensures ∙ ap (λ (q : Panel). wordFrom (q .id) Nav) (here read _))
+    ap {B = Turned} (λ r. record { table = a .t1; reply = r }) (c .word-from .ensures ∙ ap (λ (q : Panel). wordFrom (q .id) Nav) (here read _))
     ∙ asked-is (a .t1) (a .k) _ _ (a .t1) (judge-not (command (a .d .now)) (row .0 .0) vs _ (o .2) (own takes ∙ not-true _ (c .before .if1 .taken))) (unchanged (start read .pre .0) (a .k))
 
 with-values-requires : tie.Need-with-values-requires
@@ -120,7 +120,7 @@ returns-2 c =
     let a = start read .args in
     let row = c .before .before .order .given in
     let o = told read _ (row .1) in
-    ap {B = Played} (λ r. record { table = a .t1; reply = r })
+    ap {B = Turned} (λ r. record { table = a .t1; reply = r })
     (c .report-of .ensures ∙ ap (λ (q : Panel). reportFrom (q .id) (getCode (row .0 .0) ∷ valuesOf (row .0 .0) (q .values))) (here read _))
     ∙ asked-is (a .t1) (a .k) _ _ (a .t1) (judge-get (command (a .d .now)) (row .0 .0) _ (o .1)) (unchanged (start read .pre .0) (a .k))
 
@@ -132,7 +132,7 @@ returns-3 c =
     let row = takes .before .before .before .order2 .given in
     let o = told read _ (row .1) in
     let vs = drop 1 (a .d .now) in
-    ap₂ {C = Played} (λ (q : Panel) (r : Reply). record { table = record { panels = set (a .t1 .panels) (a .k) q; count = a .t1 .count }; reply = r })
+    ap₂ {C = Turned} (λ (q : Panel) (r : Reply). record { table = record { panels = set (a .t1 .panels) (a .k) q; count = a .t1 .count }; reply = r })
     (c .before .with-values .ensures ∙ ap (stored (row .0 .0) vs) (here read _))
     (c .word-from2 .ensures ∙ ap (λ (q : Panel). wordFrom (q .id) Ack) (here read _))
     ∙ asked-is (a .t1) (a .k) _ _ _
@@ -144,7 +144,7 @@ returns-4 c =
     let read = c .before .before .before in
     let a = start read .args in
     let p = here read _ in
-    ap {B = Played} (λ r. record { table = a .t1; reply = r }) (c .word-from3 .ensures ∙ ap (λ (q : Panel). wordFrom (q .id) Nav) p)
+    ap {B = Turned} (λ r. record { table = a .t1; reply = r }) (c .word-from3 .ensures ∙ ap (λ (q : Panel). wordFrom (q .id) Nav) p)
     ∙ asked-is (a .t1) (a .k) _ _ (a .t1) (told read _ (c .before .enum-told .given .1) _) (unchanged (start read .pre .0) (a .k))
 
 pub play-one-spec : {M : Type 1} → statement M

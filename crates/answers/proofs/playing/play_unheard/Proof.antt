@@ -5,7 +5,7 @@ use Rattle.panels.specs.declared.Table.{Table}
 use Rattle.panels.specs.Wall.{tableOf, panelsOf}
 use Rattle.answers.specs.declared.Order.{Order}
 use Rattle.answers.specs.declared.Reply.{Reply}
-use Rattle.answers.specs.declared.Played.{Played}
+use Rattle.answers.specs.declared.Turned.{Turned}
 use Rattle.answers.specs.Judged.{Command, Judged, panelAfter}
 use Rattle.answers.specs.Played.{turned}
 use Rattle.answers.proofs.Orders.{OrderIs, order-right, judge-get}
@@ -33,7 +33,7 @@ told : (c : tie.After-order-of) (o : Order) → c .order-of .result ≡ o → Or
 told c o e = subst (OrderIs _) (sym (c .order-of .ensures) ∙ e) (order-right _)
 
 -- the table as it is, and silence
-abbrev both : Table → Reply → Played
+abbrev both : Table → Reply → Turned
 both t r = record { table = t; reply = r }
 
 store-in-all-requires : tie.Need-store-in-all-requires

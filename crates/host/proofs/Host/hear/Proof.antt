@@ -1,9 +1,25 @@
--- Each test decides a case of the call. Assumes nothing.
+-- Each test decides a case of the call; the burst's verdict says its damage. Assumes nothing.
+use mathlib.Core.Path.{_≡_, refl, ap, _∙_}
 use borrow.Author.Needs.{needs}
-use Rattle.host.proofs.Moves.{no-room, idle-burst, burst-heard}
-use Rattle.host.proofs.Answers.{stays}
+use Rattle.packet.specs.declared.Damage.{Damage}
+use Rattle.packet.specs.Packet.{damageOf, damageIn}
+use Rattle.packet.proofs.Damages.{damage-said}
+use Rattle.host.specs.declared.Step.{Step}
+use Rattle.host.specs.declared.Outcome.the-variants.{Idle}
+use Rattle.host.specs.Machine.{Move, quiet, heard}
+use Rattle.host.specs.Calls.{stateOf, Answers}
+use Rattle.host.specs.Private.Steps.{tellingStep}
+use Rattle.host.proofs.Moves.{no-room, idle-burst, burst-heard, heard-is}
+use Rattle.host.proofs.Answers.{stays, tells}
 use Rattle.host.proofs.Host.hear.Statement.{statement}
 use Rattle.host.proofs.Host.hear.Tie as tie
+
+-- the damage that is told is the burst's
+told : (c : tie.After-damage-in) (r : Step)
+    → tellingStep (c .damage-in .result) r ≡ tellingStep (damageOf (c .before .before .before .before .before .args .b .now)) r
+told c r =
+    let b = c .before .before .before .before .before .args .b .now in
+    ap (λ (d : Damage). tellingStep d r) (c .damage-in .ensures ∙ ap damageIn (c .before .verdict-on .ensures) ∙ damage-said b)
 
 plain-requires : tie.Need-plain-requires
 plain-requires c κs = search needs
@@ -11,27 +27,50 @@ plain-requires c κs = search needs
 returns : tie.Need-returns
 returns c = stays _ _ _ (no-room _ _ _ (c .before .if1 .taken)) (c .plain .ensures)
 
+verdict-on-requires : tie.Need-verdict-on-requires
+verdict-on-requires c κs = search needs
+
+damage-in-requires : tie.Need-damage-in-requires
+damage-in-requires c κs = search needs
+
 plain-requires-2 : tie.Need-plain-requires-2
 plain-requires-2 c κs = search needs
 
+telling-requires : tie.Need-telling-requires
+telling-requires c κs = search needs
+
 returns-2 : tie.Need-returns-2
 returns-2 c =
-    let has = c .before .before .before in
+    let idle = c .before .before in
+    let damage = idle .before .before in
+    let has = damage .before .before in
     let a = has .before .before .before .args in
-    stays _ _ _ (idle-burst (a .out .now) (a .self) (has .if1 .left) (c .before .if2 .taken) (a .b .now)) (c .plain2 .ensures)
+    rw (idle-burst (a .out .now) (a .self) (has .if1 .left) (idle .if2 .taken) (a .b .now))
+    (tells (quiet (stateOf (a .self)) Idle) _ _ (stays _ _ _ refl (c .before .plain2 .ensures)) (c .telling .ensures ∙ told damage (c .before .plain2 .result)))
+
+data-part-requires : tie.Need-data-part-requires
+data-part-requires c κs = search needs
 
 heeded-requires : tie.Need-heeded-requires
 heeded-requires c κs = search needs
+
+telling-requires-2 : tie.Need-telling-requires-2
+telling-requires-2 c κs = search needs
 
 same-length : tie.Need-same-length
 same-length c = search needs
 
 returns-3 : tie.Need-returns-3
 returns-3 c =
-    let waits = c .before .before .before .before in
-    let has = waits .before .before in
+    let heeded = c .before .before .before in
+    let part = heeded .before .before in
+    let waits = part .before in
+    let damage = waits .before .before in
+    let has = damage .before .before in
     let a = has .before .before .before .args in
-    rw (burst-heard (a .out .now) (a .self) (has .if1 .left) (waits .if2 .left) (a .b .now)) (c .before .before .heeded .ensures)
+    let said = heard-is (stateOf (a .self)) (a .b .now) _ _ (damage .before .verdict-on .ensures) (part .data-part .ensures) in
+    rw (burst-heard (a .out .now) (a .self) (has .if1 .left) (waits .if2 .left) (a .b .now))
+    (tells (heard (stateOf (a .self)) (a .b .now)) _ _ (rw said at (heeded .heeded .ensures)) (c .telling2 .ensures ∙ told damage (heeded .heeded .result)))
 
 pub hear-spec : {M : Type 1} → statement M
 hear-spec =
@@ -39,8 +78,13 @@ hear-spec =
     (tie.spec
     plain-requires
     returns
+    verdict-on-requires
+    damage-in-requires
     plain-requires-2
+    telling-requires
     returns-2
+    data-part-requires
     heeded-requires
+    telling-requires-2
     same-length
     returns-3)

@@ -7,6 +7,7 @@ use lib.ListN.{length, take, drop, replicate}
 use lib.Seq.{take-length}
 use Rattle.settings.specs.Settings.{mostValues}
 use Rattle.lists.specs.Lists.{laidOver}
+use Rattle.packet.specs.declared.Damage.the-variants.{Nothing}
 use Rattle.host.specs.declared.Host.{Host}
 use Rattle.host.specs.declared.Step.{Step}
 use Rattle.host.specs.declared.Outcome.the-variants.{Report}
@@ -17,7 +18,7 @@ use Rattle.host.proofs.hearing.reported.Tie as tie
 
 made : (h : Host) (n sendings : ℕ) (v values : List ℕ) → h ≡ hostOf idle → n ≡ length v
     → values ≡ take (length v) v ++ drop (length v) (replicate mostValues 0)
-    → _≡_ {A = Step} (record { host = h; length = 0; outcome = Report sendings; values = values; count = n }) (stepOf (over (Report sendings) v))
+    → _≡_ {A = Step} (record { host = h; length = 0; outcome = Report sendings; values = values; count = n; damage = Nothing }) (stepOf (over (Report sendings) v))
 unfolding stepOf laidOver flatten
 made h n sendings v values eh en ev = rw (eh, en, ev, take-length v)
 

@@ -8,7 +8,7 @@ use borrow.Author.Tests.{lt-ltb, le-ltb}
 use lib.ListN.{length-replicate}
 use Rattle.host.specs.declared.Host.{Host}
 use Rattle.host.specs.declared.Outcome.the-variants.{Waiting, GivenUp}
-use Rattle.host.specs.Machine.{mostSendings, over, again}
+use Rattle.host.specs.Machine.{mostSendings, move, over, again}
 use Rattle.requests.specs.Request.{requestPacket}
 use Rattle.host.specs.Calls.{stateOf}
 use Rattle.host.proofs.Answers.{ends, gives}
@@ -21,7 +21,7 @@ gives-up h e = rw (length-replicate, le-ltb _ _ e)
 
 sends : (h : Host) → h .sendings < mostSendings
     → let p = requestPacket (h .request) in
-    again (stateOf h) ≡ record { next = record { request = h .request; given = p ∷ stateOf h .given }; sent = p ∷ []; outcome = Waiting; values = [] }
+    again (stateOf h) ≡ move (record { request = h .request; given = p ∷ stateOf h .given }) (p ∷ []) Waiting []
 unfolding again
 sends h e = rw (length-replicate, lt-ltb _ _ e)
 

@@ -4,13 +4,15 @@ use mathlib.Core.List.{[], _∷_, _++_}
 use native.Mathlib.Omega.{arith}
 use lib.ListN.{length, length-append}
 use lib.Seq.{take-all, length-take-le, take-append-le}
+use Prim.Native.Nat.{_<_}
 use Rattle.packet.specs.Packet.{longest}
+use Rattle.packet.specs.declared.Damage.the-variants.{TooLong}
+use Rattle.packet.proofs.Damages.{too-long}
 use Rattle.panels.specs.declared.Table.{Table}
 use Rattle.panels.specs.Wall.{panelsOf}
 use Rattle.line.specs.declared.Heard.{Heard}
 use Rattle.answers.specs.declared.Reply.{Reply}
-use Rattle.answers.specs.declared.Played.{Played}
-use Rattle.line.specs.Session.{receiverOf, burstOf, atMark}
+use Rattle.line.specs.Session.{receiverOf, burstOf, heardAs, atMark}
 use Rattle.answers.proofs.Bursts.{played-long, damaged-bare}
 use borrow.Author.Needs.{needs}
 use Rattle.line.proofs.Receiver.quiet.Statement.{statement}
@@ -29,9 +31,11 @@ returns c =
     let a = start .args in
     let n : length (a .self .bytes) ≡ longest = search needs in
     let burst = take-all (a .self .count) (a .self .bytes ++ 0 ∷ []) (simp length-append (omega arith)) in
-    let o = played-long (panelsOf (a .t)) (a .self .bytes ++ 0 ∷ []) (simp length-append (omega arith)) in
+    let long : longest < length (a .self .bytes ++ 0 ∷ []) = simp length-append (omega arith) in
+    let o = played-long (panelsOf (a .t)) (a .self .bytes ++ 0 ∷ []) long in
     let reply = c .damaged-reply .ensures ∙ damaged-bare (panelsOf (a .t)) (a .self .bytes) (0 ∷ []) (omega arith) in
-    rw (burst, o) (ap₂ {C = Heard} (λ (t : Table) (r : Reply). record { receiver = receiverOf []; table = t; reply = r }) (start .pre .held) reply)
+    rw (burst, o, too-long (a .self .bytes ++ 0 ∷ []) long)
+    (ap₂ {C = Heard} (λ (t : Table) (r : Reply). record { receiver = receiverOf []; table = t; reply = r; damage = TooLong }) (start .pre .held) reply)
 
 array-share-prefix-bytes : tie.Need-array-share-prefix-bytes
 array-share-prefix-bytes c =
@@ -54,7 +58,7 @@ returns-2 c =
     let a = start .args in
     let n : length (a .self .bytes) ≡ longest = search needs in
     let burst = take-append-le (a .self .count) (a .self .bytes) (0 ∷ []) (omega arith) in
-    rw burst (ap {B = Heard} (λ (p : Played). record { receiver = receiverOf []; table = p .table; reply = p .reply }) (c .before .before .play .ensures))
+    rw burst (ap heardAs (c .before .before .play .ensures))
 
 pub quiet-spec : {M : Type 1} → statement M
 quiet-spec =

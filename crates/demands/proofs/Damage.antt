@@ -1,0 +1,81 @@
+-- What is wrong with a burst. Assumes nothing.
+use Prim.Native.Nat.{ℕ, _+_, _-_}
+use mathlib.Core.Path.{_≡_, refl, sym, ap, _∙_}
+use mathlib.Core.Bool.{Bool, true, false, cond, not, _||_, false≢true}
+use mathlib.Core.List.{List}
+use native.Mathlib.Omega.{arith}
+use borrow.Author.Tests.{leb-true, leb-false, lt-ltb, le-ltb, eq-eqb, ne-eqb, eqb-true, eqb-false}
+use lib.Dec.{leb, ltb, eqb}
+use lib.ListN.{length, getD}
+use Rattle.packet.specs.declared.Damage.{Damage}
+use Rattle.packet.specs.declared.Damage.the-variants.{Nothing, TooShort, TooLong, Size, Checksum}
+use Rattle.packet.specs.Xor.{xorAll}
+use Rattle.packet.specs.Packet.{isIntact, damageOf, damageNumber, verdictOf, dataOf}
+use Rattle.packet.proofs.Packets.{sound, intact}
+use Rattle.packet.proofs.Spoiled.{spoiled-told as told}
+use Rattle.packet.proofs.Damages.{undamaged, passed}
+use Rattle.answers.specs.Played.{played}
+use Rattle.host.specs.Machine.{step}
+use Rattle.line.proofs.Streams.{marked}
+use Rattle.demands.specs.Damage.{Kinds, NoDamage, SpoiledTold, AnyLength, before, Unchanged, HostUnchanged}
+
+short : (n : ℕ) → leb n 3 ≡ ltb n 4
+short n = go (leb n 3) refl
+  where
+    go : (t : Bool) → leb n 3 ≡ t → leb n 3 ≡ ltb n 4
+    go true e = e ∙ sym (lt-ltb n 4 (omega (arith, leb-true n 3 e)))
+    go false e = e ∙ sym (le-ltb n 4 (omega (arith, leb-false n 3 e)))
+
+pub kinds : Kinds
+unfolding damageOf
+kinds b = rw (short (length b)) (go (eqb (length b) 0) (ltb (length b) 4) (ltb 40 (length b)) (eqb (getD b 0 0) (length b)) (eqb (xorAll b) 0))
+  where
+    go : (none short long size sum : Bool)
+        → damageNumber (cond none Nothing (cond short TooShort (cond long TooLong (cond (not size) Size (cond (not sum) Checksum Nothing)))))
+        ≡ cond none 0 (cond short 1 (cond long 2 (cond (not size) 3 (cond sum 0 4))))
+    go true short long size sum = refl
+    go false true long size sum = refl
+    go false false true size sum = refl
+    go false false false false sum = refl
+    go false false false true true = refl
+    go false false false true false = refl
+
+-- a damage has a number
+numbered : (d : Damage) → (d ≡ Nothing → ⊥) → eqb (damageNumber d) 0 ≡ false
+numbered Nothing h = absurd (h refl)
+numbered TooShort h = refl
+numbered TooLong h = refl
+numbered Size h = refl
+numbered Checksum h = refl
+
+pub no-damage : NoDamage
+unfolding damageOf
+no-damage b = go (eqb (length b) 0) refl (isIntact b) refl
+  where
+    intact-none : (t : Bool) → isIntact b ≡ true → true ≡ (t || true)
+    intact-none true e = refl
+    intact-none false e = refl
+
+    go : (none : Bool) → eqb (length b) 0 ≡ none → (t : Bool) → isIntact b ≡ t → eqb (damageNumber (damageOf b)) 0 ≡ (none || t)
+    go none z true e = rw (undamaged b (sound b e)) (intact-none none e)
+    go true z false e = rw z
+    go false z false e = numbered _ (λ n. false≢true (sym e ∙ intact b (passed b (eqb-false _ _ z) n)))
+
+pub spoiled-told : SpoiledTold
+spoiled-told p s = told s p
+
+pub unchanged : Unchanged
+unfolding played verdictOf dataOf
+unchanged w b = go (eqb (length b) 0) refl (isIntact b) refl
+  where
+    go : (none : Bool) → eqb (length b) 0 ≡ none → (t : Bool) → isIntact b ≡ t → played w b ≡ before w b
+    go true z t e = rw z
+    go false z true e = let n = sound b e in rw (z, e, eq-eqb (length b) (length b - 4 + 4) (omega (arith, n)))
+    go false z false e = rw (z, e)
+
+pub any-length : AnyLength
+any-length = marked
+
+pub host-unchanged : HostUnchanged
+unfolding step
+host-unchanged s b = refl

@@ -1,0 +1,58 @@
+-- What is wrong with a burst, told beside the answer. 02, A3.
+use Prim.Native.Nat.{ℕ, _-_}
+use mathlib.Core.Bool.{true, cond, not, _||_}
+use mathlib.Core.Path.{_≡_}
+use mathlib.Core.List.{List, []}
+use lib.Dec.{leb, eqb}
+use lib.ListN.{length, getD, take, drop}
+use Rattle.packet.specs.declared.Damage.the-variants.{Nothing}
+use Rattle.packet.specs.Xor.{xorAll}
+use Rattle.packet.specs.Packet.{monitorId, groupId, isIntact, damageOf, damageNumber}
+use Rattle.packet.specs.Spoiled.{Spoiling, spoiled, Spoils}
+use Rattle.panels.specs.declared.Table.{Table}
+use Rattle.panels.specs.Wall.{Wall}
+use Rattle.answers.specs.Reply.{silence}
+use Rattle.answers.specs.Judged.{command}
+use Rattle.answers.specs.Played.{Outcome, playedPacket, damagedReply, played, playedOn}
+use Rattle.line.specs.Session.{receiverOf, heardAs, atMark, fed}
+use Rattle.host.specs.declared.Outcome.the-variants.{Idle}
+use Rattle.host.specs.Machine.{burst, State, waits, quiet, heard, telling, step}
+
+-- 1 to 3 bytes are 1, over 40 are 2, a size that differs from the count is 3, a wrong checksum is 4: the first that holds. Else 0,
+abbrev pub Kinds : Type 0
+Kinds =
+    (b : List ℕ)
+    → damageNumber (damageOf b)
+    ≡ cond (eqb (length b) 0) 0
+    (cond (leb (length b) 3) 1 (cond (leb 41 (length b)) 2 (cond (not (eqb (getD b 0 0) (length b))) 3 (cond (eqb (xorAll b) 0) 0 4))))
+
+-- which is for an empty and for an intact burst alone,
+abbrev pub NoDamage : Type 0
+NoDamage = (b : List ℕ) → eqb (damageNumber (damageOf b)) 0 ≡ (eqb (length b) 0 || isIntact b)
+
+-- and never for a packet that was spoiled by one byte.
+abbrev pub SpoiledTold : Type 0
+SpoiledTold = (packet : List ℕ) (s : Spoiling) → isIntact packet ≡ true → Spoils s packet → damageOf (spoiled s packet) ≡ Nothing → ⊥
+
+-- The receiver, which keeps 40 bytes, leaves of a burst of any length, byte after byte and then the mark, what the whole burst does,
+-- and tells what is wrong with it.
+abbrev pub AnyLength : Type 0
+AnyLength = (t : Table) (b : List ℕ) → atMark (fed (receiverOf []) b) t ≡ heardAs (playedOn t b)
+
+-- The wall and the answer as they were before this request, by 01: an empty burst does nothing, an intact one is a packet, and any
+-- other gets NACK or silence.
+abbrev pub before : Wall → List ℕ → Outcome
+before w b =
+    cond (eqb (length b) 0)
+    (record { wall = w; reply = silence })
+    (cond (isIntact b)
+    (playedPacket w (monitorId (getD b 1 0)) (groupId (getD b 2 0)) (command (take (length b - 4) (drop 3 b))))
+    (record { wall = w; reply = damagedReply w b }))
+
+-- What goes out on the line is unchanged,
+abbrev pub Unchanged : Type 0
+Unchanged = (w : Wall) (b : List ℕ) → played w b ≡ before w b
+
+-- and the host's move is what it was, with what is wrong with the burst beside it, whatever the host waits for.
+abbrev pub HostUnchanged : Type 0
+HostUnchanged = (s : State) (b : List ℕ) → step s (burst b) ≡ telling (damageOf b) (cond (waits s) (heard s b) (quiet s Idle))

@@ -1,0 +1,64 @@
+-- What a burst's damage says of it: an intact burst has none, and another that is not empty has some. Assumes nothing.
+use mathlib.Core.Path.{_≡_, refl, sym, ap, _∙_}
+use mathlib.Core.Bool.{Bool, true, false, cond, not}
+use mathlib.Core.List.{List}
+use Prim.Native.Nat.{ℕ, _<_}
+use native.Mathlib.Omega.{arith}
+use borrow.Author.Tests.{le-ltb, lt-ltb, ltb-false, eq-eqb, ne-eqb, eqb-true, eqb-false}
+use lib.Dec.{eqb}
+use lib.ListN.{length}
+use Rattle.packet.specs.Packet.{longest, isIntact, damageOf, damageNumber, verdictOf, damageIn}
+use Rattle.packet.specs.declared.Damage.the-variants.{Nothing, TooShort, TooLong, Size, Checksum}
+use Rattle.packet.specs.declared.Verdict.the-variants.{Damaged}
+use Rattle.packet.proofs.Packets.{Sound, sound, intact-verdict}
+
+pub undamaged : (b : List ℕ) → Sound b → damageOf b ≡ Nothing
+unfolding damageOf
+undamaged b s = rw (ne-eqb (length b) 0 (λ z. omega arith), le-ltb _ _ (s .least), le-ltb _ _ (s .most), eq-eqb _ _ (s .size), eq-eqb _ _ (s .sum))
+
+-- none of the tests holds
+all-passed : (short long size sum : Bool)
+    → cond short TooShort (cond long TooLong (cond (not size) Size (cond (not sum) Checksum Nothing))) ≡ Nothing
+    → (short ≡ false) × (long ≡ false) × (size ≡ true) × (sum ≡ true)
+all-passed true long size sum e = absurd (omega (arith, ap damageNumber e))
+all-passed false true size sum e = absurd (omega (arith, ap damageNumber e))
+all-passed false false false sum e = absurd (omega (arith, ap damageNumber e))
+all-passed false false true false e = absurd (omega (arith, ap damageNumber e))
+all-passed false false true true e = (refl, refl, refl, refl)
+
+-- a burst that is not empty
+module _ (b : List ℕ) (some : length b ≡ 0 → ⊥) where
+  pub passed : damageOf b ≡ Nothing → Sound b
+  unfolding damageOf
+  passed e =
+      let t = all-passed _ _ _ _ (rw (ne-eqb _ _ some) at e) in
+      record { least = ltb-false _ _ (t .0); most = ltb-false _ _ (t .1); size = eqb-true _ _ (t .2); sum = eqb-true _ _ (t .3) }
+
+  pub damaged-verdict : isIntact b ≡ false → verdictOf b ≡ Damaged (damageOf b)
+  unfolding verdictOf
+  damaged-verdict e = rw (ne-eqb _ _ some, e)
+
+  pub not-intact : (damageOf b ≡ Nothing → ⊥) → isIntact b ≡ false
+  not-intact h = go (isIntact b) refl
+    where
+      go : (t : Bool) → isIntact b ≡ t → isIntact b ≡ false
+      go true e = absurd (h (undamaged b (sound b e)))
+      go false e = e
+
+-- over 40 bytes
+pub too-long : (b : List ℕ) → longest < length b → damageOf b ≡ TooLong
+unfolding damageOf
+too-long b h = rw (ne-eqb (length b) 0 (λ z. omega arith), le-ltb (length b) 4 (omega arith), lt-ltb _ _ h)
+
+empty-said : (b : List ℕ) → length b ≡ 0 → damageIn (verdictOf b) ≡ damageOf b
+unfolding verdictOf damageOf
+empty-said b e = rw (eq-eqb _ _ e)
+
+-- the verdict says the damage
+pub damage-said : (b : List ℕ) → damageIn (verdictOf b) ≡ damageOf b
+damage-said b = go (isIntact b) refl (eqb (length b) 0) refl
+  where
+    go : (t : Bool) → isIntact b ≡ t → (z : Bool) → eqb (length b) 0 ≡ z → damageIn (verdictOf b) ≡ damageOf b
+    go true e z n = ap damageIn (intact-verdict b e) ∙ sym (undamaged b (sound b e))
+    go false e true n = empty-said b (eqb-true _ _ n)
+    go false e false n = ap damageIn (damaged-verdict b (eqb-false _ _ n) e)

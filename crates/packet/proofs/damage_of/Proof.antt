@@ -1,0 +1,63 @@
+-- Each test decides a case of `damageOf`; those before it have failed. Assumes nothing.
+use mathlib.Core.Path.{_≡_}
+use native.Mathlib.Omega.{arith}
+use borrow.Author.Needs.{needs}
+use borrow.Author.Tests.{lt-ltb, le-ltb, eq-eqb, ne-eqb}
+use Rattle.packet.specs.Packet.{damageOf}
+use Rattle.packet.proofs.damage_of.Statement.{statement}
+use Rattle.packet.proofs.damage_of.Tie as tie
+
+returns : tie.Need-returns
+unfolding damageOf
+returns c = rw (eq-eqb _ _ (c .if1 .taken))
+
+returns-2 : tie.Need-returns-2
+unfolding damageOf
+returns-2 c = rw (ne-eqb _ _ (c .before .if1 .left), lt-ltb _ _ (c .if2 .taken))
+
+returns-3 : tie.Need-returns-3
+unfolding damageOf
+returns-3 c = rw (ne-eqb _ _ (c .before .before .if1 .left), le-ltb _ _ (c .before .if2 .left), lt-ltb _ _ (c .if3 .taken))
+
+shared-slice-read-if4 : tie.Need-shared-slice-read-if4
+shared-slice-read-if4 c = search needs
+
+cast-if4 : tie.Need-cast-if4
+cast-if4 c = omega (arith, c .shared-slice-known2 .given 0)
+
+returns-4 : tie.Need-returns-4
+unfolding damageOf
+returns-4 c =
+    let if3 = c .before .before in
+    rw (ne-eqb _ _ (if3 .before .before .if1 .left), le-ltb _ _ (if3 .before .if2 .left), le-ltb _ _ (if3 .if3 .left), ne-eqb _ _ (c .if4 .taken))
+
+xor-of-requires : tie.Need-xor-of-requires
+xor-of-requires c κs = search needs
+
+returns-5 : tie.Need-returns-5
+unfolding damageOf
+returns-5 c =
+    let if4 = c .before .before in
+    let if3 = if4 .before .before in
+    rw (ne-eqb _ _ (if3 .before .before .if1 .left), le-ltb _ _ (if3 .before .if2 .left), le-ltb _ _ (if3 .if3 .left), eq-eqb _ _ (if4 .if4 .left), ← c .before .xor-of .ensures, ne-eqb _ _ (c .if5 .taken))
+
+returns-6 : tie.Need-returns-6
+unfolding damageOf
+returns-6 c =
+    let if4 = c .before .before in
+    let if3 = if4 .before .before in
+    rw (ne-eqb _ _ (if3 .before .before .if1 .left), le-ltb _ _ (if3 .before .if2 .left), le-ltb _ _ (if3 .if3 .left), eq-eqb _ _ (if4 .if4 .left), ← c .before .xor-of .ensures, eq-eqb _ _ (c .if5 .left))
+
+pub damage-of-spec : {M : Type 1} → statement M
+damage-of-spec =
+    tie.close
+    (tie.spec
+    returns
+    returns-2
+    returns-3
+    shared-slice-read-if4
+    cast-if4
+    returns-4
+    xor-of-requires
+    returns-5
+    returns-6)
