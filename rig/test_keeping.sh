@@ -38,8 +38,7 @@ fan_2_kept() {
 # stop MOMENT STATUS: the program is stopped while it sets the fan to 4
 stop() {
     fan_2_kept || return
-    # a shell of its own, so that its word about the kill stays out of the log
-    (echo 060100610462 | STOP_AT=$1 rig_stopped play stopped/w >answers 2>message; exit "$?") 2>/dev/null
+    stopped "$1" 060100610462 play stopped/w
     same "status when $1" $? "$2"
 }
 old_setup_whole() {
