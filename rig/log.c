@@ -24,7 +24,7 @@ static bool same_file(const char *path, const char *other)
 static bool ends_in_line(int fd, const char *path)
 {
     struct stat is;
-    if (fstat(fd, &is) != 0 || !S_ISREG(is.st_mode) || is.st_size == 0)
+    if (fstat(fd, &is) != 0 || is.st_size == 0)         /* what is no file on a disk has no size */
         return false;
     int to_read = open(path, O_RDONLY | O_CLOEXEC);
     if (to_read < 0)
