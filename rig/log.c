@@ -88,8 +88,8 @@ static bool write_line(struct log *log, const struct played *played)
 int log_burst(struct log *log, const struct played *played)
 {
     if (!write_line(log, played)) {
-        fprintf(stderr, "rig: cannot write to the log %s: %s; the burst of line %lu was played, but its answer is held back; "
-                "make room for the log, or name another\n", log->path, strerror(errno), played->number);
+        fprintf(stderr, "rig: cannot write to the log %s: %s; the burst of line %lu was played, but its answer is held "
+                "back; make room for the log, or name another\n", log->path, strerror(errno), played->number);
         return BAD;
     }
     log->in_line = false;
