@@ -33,7 +33,17 @@ enum {
     UNDIVARRO_PHOENIX = 1               /* sharpness 0 to 10, tint -50 to +50 in two's complement, the rest as general */
 };
 
-/* refusal: 0, or the number of what was wrong; then both lengths are 0 and both buffers are as they were.
+/* What was wrong with a burst: the first that holds, in this order. It is a fact about the burst alone, told also where
+ * the box stays silent. */
+enum {
+    UNDIVARRO_NO_DAMAGE = 0,            /* intact or empty */
+    UNDIVARRO_TOO_SHORT = 1,            /* 1 to 3 bytes */
+    UNDIVARRO_TOO_LONG = 2,             /* over 40 bytes */
+    UNDIVARRO_SIZE_DIFFERS = 3,         /* the first byte is not the count of bytes */
+    UNDIVARRO_CHECKSUM_WRONG = 4        /* the last byte is not the XOR of those before it */
+};
+
+/* refusal: 0, or the number of what was wrong; then the other three are 0 and both buffers are as they were.
  *
  *   11  image: fewer than 2 bytes
  *   12  image: last byte is neither 1 nor 2
@@ -53,13 +63,14 @@ struct undivarro_result {
     uint32_t refusal;
     uint32_t answer_len;                /* bytes written to answer; 0 is silence */
     uint32_t image_len;                 /* bytes written to out: 36n + 2, or 35n + 2 by undivarro_back */
+    uint32_t damage;                    /* of the burst; 0 from undivarro_read and undivarro_back */
 };
 
 /* Plays one burst on the wall of the image. A burst is all the bytes between two quiet marks of the line, of any number,
  * none included. The answer packet, ready to be sent, goes to the front of answer, and the image after the burst to the
  * front of out, in form 2; the bytes past them stay as they were. A damaged burst is no refusal: its answer is NACK or
- * silence. Each panel judges a set by its own profile: of a group, one may take it while its neighbour keeps what it
- * had. */
+ * silence, and damage says what was wrong with it. Each panel judges a set by its own profile: of a group, one may take
+ * it while its neighbour keeps what it had. */
 struct undivarro_result undivarro_play(const uint8_t *image, size_t image_len,
                                        const uint8_t *burst, size_t burst_len,
                                        uint8_t *answer, size_t answer_cap,

@@ -2,20 +2,20 @@
 
 #include <string.h>
 
+#include "checksum.h"
+
 const char *const burst_kind_names[BURST_KINDS] = {
     "empty", "get", "set", "set with any values", "set of video for one profile", "set with any length",
     "get with bytes behind it", "any code", "no data", "36 bytes of data", "one byte changed", "one byte lost",
-    "one byte added", "two bytes swapped", "1 to 3 bytes", "41 to 300 bytes", "over 65,535 bytes", "random bytes",
+    "one byte added", "two bytes swapped", "1 to 3 bytes", "41 to 300 bytes", "over 65,535 bytes", "3 to 5 or 39 to 41 bytes",
+    "random bytes",
 };
 
 enum { AROUND_DATA = 4, MAX_PACKET = 40, MAX_DATA = MAX_PACKET - AROUND_DATA };
 
 static void set_checksum(uint8_t *burst, size_t len)
 {
-    uint8_t sum = 0;
-    for (size_t i = 0; i < len - 1; i++)
-        sum ^= burst[i];
-    burst[len - 1] = sum;
+    burst[len - 1] = xor_of(burst, len - 1);
 }
 
 static void close_packet(uint8_t *burst, size_t len)
@@ -109,9 +109,23 @@ static size_t add_byte(struct source *s, uint8_t *burst, size_t len)
 static size_t make_short(struct source *s, uint8_t *burst)
 {
     size_t len = 1 + below(s, 3);
-    burst[0] = (uint8_t)len;
+    if (one_in(s, 2))
+        burst[0] = (uint8_t)len;
     if (one_in(s, 2))                   /* an XOR of 0, as a packet of 3 bytes would have */
         set_checksum(burst, len);
+    return len;
+}
+
+/* At one of the limits of a packet's length or beside it; the size right or wrong, and the XOR as well. */
+static size_t make_limit(struct source *s, uint8_t *burst)
+{
+    static const uint8_t lens[] = {3, 4, 5, 39, 40, 41};
+    size_t len = lens[below(s, sizeof lens)];
+    fill_any(s, burst + 3, len - 3);
+    burst[0] = one_in(s, 4) ? any_byte(s) : (uint8_t)(one_in(s, 3) ? len - 1 + 2 * below(s, 2) : len);
+    set_checksum(burst, len);
+    if (one_in(s, 2))
+        burst[len - 1] ^= (uint8_t)(1 + below(s, 255));
     return len;
 }
 
@@ -165,9 +179,11 @@ static size_t spoil_burst(struct source *s, enum burst_kind kind, uint8_t *burst
     case BURST_SHORT:
         return make_short(s, burst);
     case BURST_LONG:
-        return make_long(s, burst, len, MAX_PACKET + 1 + below(s, one_in(s, 2) ? 3 : 260));
+        return make_long(s, burst, len, one_in(s, 6) ? 256 : MAX_PACKET + 1 + below(s, one_in(s, 2) ? 3 : 260));
     case BURST_VERY_LONG:
-        return make_long(s, burst, len, 65536 + below(s, 64));
+        return make_long(s, burst, len, one_in(s, 3) ? 65536 : 65536 + below(s, 64));
+    case BURST_LIMIT:
+        return make_limit(s, burst);
     case BURST_RANDOM:
         return make_random(s, burst);
     default:
@@ -180,7 +196,7 @@ void make_burst(struct source *s, struct test_case *c, const struct draft *d)
     enum burst_kind kind = below(s, BURST_KINDS);
     if (one_in(s, 3))
         kind = one_in(s, 3) ? BURST_SET_ONE_PROFILE : BURST_SET;
-    if (kind == BURST_VERY_LONG && !one_in(s, 60))
+    if (kind == BURST_VERY_LONG && !one_in(s, 8))
         kind = BURST_GET;
     c->burst_kind = kind;
 

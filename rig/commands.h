@@ -4,7 +4,8 @@
 
 #include <stddef.h>
 
-int play(const char *path);
+/* log_path is NULL where no log is wanted. */
+int play(const char *path, const char *log_path);
 int make_new(const char *path, size_t count, char **panels);
 int show(const char *path);
 int back(const char *path, const char *new_path);

@@ -1,12 +1,14 @@
 /* The proved box beside the plain one on random cases: compare CASES [SEED [FIRST]]
  *
- * Equal in refusal, lengths and every byte, guards included, or the first case that differs is printed whole. Built with
- * PLAIN_ALONE the proved box is left out: that is the sanitized run, whose sum shows that it met the same outcomes. */
+ * Equal in refusal, lengths, damage and every byte, guards included, or the first case that differs is printed whole.
+ * Built with PLAIN_ALONE the proved box is left out: that is the sanitized run, whose sum shows that it met the same
+ * outcomes. */
 #include <inttypes.h>
 #include <stdio.h>
 #include <stdlib.h>
 #include <sys/random.h>
 
+#include "names.h"
 #include "plain.h"
 #include "tally.h"
 #include "trial.h"
@@ -29,8 +31,9 @@ static void print_hex(const char *what, const uint8_t *bytes, size_t len)
 
 static void print_trial(const struct box *box, const struct test_case *c, const struct trial *t)
 {
-    printf("%s: refusal %" PRIu32 ", answer length %" PRIu32 ", image length %" PRIu32 "%s%s\n", box->name,
-           t->result.refusal, t->result.answer_len, t->result.image_len, t->fault ? ": " : "", t->fault ? t->fault : "");
+    printf("%s: refusal %" PRIu32 ", answer length %" PRIu32 ", image length %" PRIu32 ", damage %" PRIu32 " (%s)%s%s\n",
+           box->name, t->result.refusal, t->result.answer_len, t->result.image_len, t->result.damage,
+           damage_name(t->result.damage), t->fault ? ": " : "", t->fault ? t->fault : "");
     print_hex("answer buffer with guards", t->answer, GUARD + c->answer_cap + GUARD);
     print_hex("output buffer with guards", t->out, GUARD + c->out_cap + GUARD);
 }

@@ -1,25 +1,60 @@
 #include "names.h"
 
+#include <stddef.h>
+
 #include "undivarro.h"
 
-static const char *const power_words[] = {"0", "off", "on"};
-
-const struct column columns[COLUMNS] = {
-    {"power", 0x18, 0, 1, power_words, 3},
-    {"video", 0x32, 0, 6, 0, 0},
-    {"gamma", 0x32, 6, 1, 0, 0},
-    {"colour temperature", 0x34, 0, 1, 0, 0},
-    {"treble", 0x42, 0, 1, 0, 0},
-    {"bass", 0x42, 1, 1, 0, 0},
-    {"fan", 0x61, 0, 1, 0, 0},
-    {"cold start", 0xA3, 0, 1, 0, 0},
-    {"APM", 0xD0, 0, 1, 0, 0},
-    {"power saving", 0xDD, 0, 1, 0, 0},
+const struct setting settings[SETTINGS] = {
+    [POWER] = {"power", 0x18, 0x19, 1, {0}},
+    [VIDEO] = {"video", 0x32, 0x33, 7, {"brightness", "colour", "contrast", "sharpness", "tint", "black level", "gamma"}},
+    [COLOUR_TEMPERATURE] = {"colour temperature", 0x34, 0x35, 1, {0}},
+    [AUDIO] = {"audio", 0x42, 0x43, 2, {"treble", "bass"}},
+    [FAN] = {"fan", 0x61, 0x62, 1, {0}},
+    [COLD_START] = {"cold start", 0xA3, 0xA4, 1, {0}},
+    [APM] = {"APM", 0xD0, 0xD1, 1, {0}},
+    [POWER_SAVING] = {"power saving", 0xDD, 0xDE, 1, {0}},
 };
+
+const struct setting *setting_of(uint8_t code)
+{
+    for (const struct setting *s = settings; s < settings + SETTINGS; s++)
+        if (s->set_code == code || s->get_code == code)
+            return s;
+    return NULL;
+}
+
+const char *value_word(const struct setting *setting, uint8_t value)
+{
+    static const char *const power_words[] = {NULL, "off", "on"};
+    return setting == &settings[POWER] && value <= 2 ? power_words[value] : NULL;
+}
+
+bool is_tint(const struct setting *setting, unsigned i)
+{
+    return setting == &settings[VIDEO] && i == 4;
+}
 
 const char *profile_name(uint8_t profile)
 {
     return profile == UNDIVARRO_PHOENIX ? "Phoenix" : "general";
+}
+
+const char *damage_name(uint32_t damage)
+{
+    switch (damage) {
+    case UNDIVARRO_NO_DAMAGE:
+        return "none";
+    case UNDIVARRO_TOO_SHORT:
+        return "too short";
+    case UNDIVARRO_TOO_LONG:
+        return "too long";
+    case UNDIVARRO_SIZE_DIFFERS:
+        return "size differs from the count";
+    case UNDIVARRO_CHECKSUM_WRONG:
+        return "checksum wrong";
+    default:
+        return "not a number of the header";
+    }
 }
 
 const char *refusal_words(uint32_t refusal)

@@ -1,23 +1,35 @@
-/* The papers' words for the settings, the profiles and the refusals. */
+/* The papers' words for the settings, the profiles, the damages of a burst and the refusals. */
 #ifndef NAMES_H
 #define NAMES_H
 
+#include <stdbool.h>
 #include <stdint.h>
 
-/* A value of a panel as rig show prints it: a column. */
-struct column {
+enum { POWER, VIDEO, COLOUR_TEMPERATURE, AUDIO, FAN, COLD_START, APM, POWER_SAVING, SETTINGS };
+enum { MAX_VALUES = 7 };
+
+struct setting {
     const char *name;
-    uint8_t set_code;                   /* of the field */
-    uint8_t first, count;               /* which of the field's values */
-    const char *const *words;           /* for the values from 0 on, where they have names; else NULL */
-    uint8_t word_count;
+    uint8_t set_code, get_code;
+    uint8_t count;                      /* of its values */
+    const char *value_names[MAX_VALUES];        /* where it has more than one */
 };
 
-enum { COLUMNS = 10 };
+extern const struct setting settings[SETTINGS];
 
-extern const struct column columns[COLUMNS];
+/* The setting that has this set code or get code, or NULL. */
+const struct setting *setting_of(uint8_t code);
+
+/* The value's word, or NULL where it is a number. */
+const char *value_word(const struct setting *setting, uint8_t value);
+
+/* Value i of the setting is the tint, which has a sign on a Phoenix panel. */
+bool is_tint(const struct setting *setting, unsigned i);
 
 const char *profile_name(uint8_t profile);
+
+/* What was wrong with a burst. */
+const char *damage_name(uint32_t damage);
 
 /* What a refusal of the library means. */
 const char *refusal_words(uint32_t refusal);

@@ -21,9 +21,17 @@ static uint8_t xor_of(const uint8_t *bytes, size_t len)
     return sum;
 }
 
-static bool is_intact(const uint8_t *burst, size_t len)
+static uint32_t damage_of(const uint8_t *burst, size_t len)
 {
-    return len >= MIN_PACKET && len <= MAX_PACKET && burst[0] == len && xor_of(burst, len) == 0;
+    if (len == 0)
+        return UNDIVARRO_NO_DAMAGE;
+    if (len < MIN_PACKET)
+        return UNDIVARRO_TOO_SHORT;
+    if (len > MAX_PACKET)
+        return UNDIVARRO_TOO_LONG;
+    if (burst[0] != len)
+        return UNDIVARRO_SIZE_DIFFERS;
+    return xor_of(burst, len) == 0 ? UNDIVARRO_NO_DAMAGE : UNDIVARRO_CHECKSUM_WRONG;
 }
 
 /* An answer packet from the panel: the first data byte, then the rest. Its length. */
@@ -69,11 +77,11 @@ static bool store(struct wall *wall, uint8_t id, uint8_t group, const struct set
 }
 
 /* Answering a burst: the length of the answer. answer has room for 40 bytes. */
-static size_t answer_burst(struct wall *wall, const uint8_t *burst, size_t len, uint8_t *answer)
+static size_t answer_burst(struct wall *wall, const uint8_t *burst, size_t len, uint32_t damage, uint8_t *answer)
 {
     if (len == 0)
         return 0;
-    if (!is_intact(burst, len)) {
+    if (damage) {
         if (len < 3 || burst[2] != 0 || !panel_with_id(wall, burst[1]))
             return 0;
         return write_control(answer, burst[1], NACK);
@@ -123,11 +131,13 @@ struct undivarro_result plain_play(const uint8_t *image, size_t image_len,
     if (answer_cap < UNDIVARRO_ANSWER_CAP || out_cap < image_len_of(&wall, FORM_2))
         return refused(19);
 
-    size_t answer_len = answer_burst(&wall, burst, burst_len, answer);
+    uint32_t damage = damage_of(burst, burst_len);
+    size_t answer_len = answer_burst(&wall, burst, burst_len, damage, answer);
     write_image(&wall, FORM_2, out);
     return (struct undivarro_result){
         .answer_len = (uint32_t)answer_len,
         .image_len = (uint32_t)image_len_of(&wall, FORM_2),
+        .damage = damage,
     };
 }
 

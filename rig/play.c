@@ -7,6 +7,7 @@
 #include <string.h>
 
 #include "commands.h"
+#include "log.h"
 #include "setup.h"
 #include "status.h"
 
@@ -45,37 +46,53 @@ static void print_answer(const uint8_t *answer, size_t len)
     putchar('\n');
 }
 
-static int play_burst(const char *path, struct setup *setup, const uint8_t *burst, size_t len)
+struct session {
+    const char *path;
+    struct setup setup;
+    struct log *log;                    /* or NULL */
+};
+
+static int keep_if_changed(struct session *session, const struct setup *after)
+{
+    struct setup *setup = &session->setup;
+    /* Both are in form 2 with all fields, so other bytes are other settings. */
+    if (after->len == setup->len && memcmp(after->bytes, setup->bytes, after->len) == 0)
+        return DONE;
+    int status = keep(session->path, after);
+    if (status == DONE)
+        *setup = *after;
+    return status;
+}
+
+/* The answer is printed last: one that was printed speaks of a setup that is kept, and stands in the log. */
+static int play_burst(struct session *session, unsigned long number, const uint8_t *burst, size_t len)
 {
     uint8_t answer[UNDIVARRO_ANSWER_CAP];
     struct setup after;
-    struct undivarro_result r = undivarro_play(setup->bytes, setup->len, burst, len, answer, sizeof answer,
+    struct undivarro_result r = undivarro_play(session->setup.bytes, session->setup.len, burst, len, answer, sizeof answer,
                                                after.bytes, sizeof after.bytes);
     if (r.refusal)
-        return refused(path, r.refusal);
+        return refused(session->path, r.refusal);
     after.len = r.image_len;
-    /* Both are in form 2 with all fields, so other bytes are other settings. */
-    if (after.len != setup->len || memcmp(after.bytes, setup->bytes, after.len) != 0) {
-        int status = keep(path, &after);
-        if (status != DONE)
-            return status;
-        *setup = after;
-    }
+    int status = keep_if_changed(session, &after);
+    if (status == DONE && session->log)
+        status = log_burst(session->log, &(struct played){number, burst, len, r.damage, answer, r.answer_len});
+    if (status != DONE)
+        return status;
     print_answer(answer, r.answer_len);
     return printed();
 }
 
-int play(const char *path)
+static int play_lines(struct session *session)
 {
-    struct setup setup;
-    int status = load(path, &setup, NULL);
+    int status = DONE;
     char *line = NULL;
     size_t cap = 0;
     ssize_t len;
     for (unsigned long number = 1; status == DONE && (len = getline(&line, &cap, stdin)) >= 0; number++) {
         size_t burst_len, wrong_at;
         if (hex_line(line, (size_t)len, &burst_len, &wrong_at)) {
-            status = play_burst(path, &setup, (const uint8_t *)line, burst_len);
+            status = play_burst(session, number, (const uint8_t *)line, burst_len);
         } else {
             fprintf(stderr, "rig: line %lu, place %zu: a burst has two hex digits for each byte, and spaces only between "
                     "bytes; the lines before were played\n", number, wrong_at);
@@ -86,4 +103,14 @@ int play(const char *path)
         status = not_done("read", "standard input");
     free(line);
     return status;
+}
+
+int play(const char *path, const char *log_path)
+{
+    struct log log;
+    struct session session = {.path = path, .log = log_path ? &log : NULL};
+    int status = load(path, &session.setup, NULL);
+    if (status == DONE && log_path)
+        status = open_log(&log, log_path, path);
+    return status == DONE ? play_lines(&session) : status;
 }

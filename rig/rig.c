@@ -6,21 +6,25 @@
 #include "status.h"
 
 static const char usage[] =
-    "usage: rig play IMAGE                           plays bursts from standard input, one in hex on each line\n"
+    "usage: rig play IMAGE [--log FILE]              plays bursts from standard input, one in hex on each line\n"
     "       rig new IMAGE [ID:GROUP[:phoenix] ...]   a new setup of up to 32 fresh panels, in this order\n"
     "       rig show IMAGE                           the panels of a setup\n"
     "       rig back IMAGE NEW                       the setup in form 1, for an older box, in a new file NEW\n"
     "\n"
     "A burst's bytes have two hex digits each, with or without spaces between bytes; an empty line is an empty burst. The\n"
     "answer is printed in hex, or - for silence. IMAGE is written at each burst that changes a setting, before its answer\n"
-    "is printed, and at no other time. IDs are 1 to 255, groups 1 to 255; group 255 is group off. A panel is general\n"
-    "unless :phoenix is given. Setups of form 1 and form 2 are read, and form 2 is written; form 1 has no Phoenix panels.\n"
+    "is printed, and at no other time. With --log a line for each burst is put at the end of FILE, before its answer is\n"
+    "printed: the burst in hex, what it asks for or what was wrong with it, and the answer in words. IDs are 1 to 255,\n"
+    "groups 1 to 255; group 255 is group off. A panel is general unless :phoenix is given. Setups of form 1 and form 2 are\n"
+    "read, and form 2 is written; form 1 has no Phoenix panels.\n"
     "Exit status: 0 done, 1 the setup image was refused, 2 bad arguments, input or files.\n";
 
 /* The arguments of a command in words, or NULL if there is no such command. */
 static const char *arguments_of(const char *command)
 {
-    if (strcmp(command, "play") == 0 || strcmp(command, "show") == 0)
+    if (strcmp(command, "play") == 0)
+        return "one IMAGE, and --log FILE where a log is wanted";
+    if (strcmp(command, "show") == 0)
         return "one IMAGE";
     if (strcmp(command, "new") == 0)
         return "an IMAGE and then panels";
@@ -34,7 +38,9 @@ int main(int argc, char **argv)
         return printed();
     }
     if (argc == 3 && strcmp(argv[1], "play") == 0)
-        return play(argv[2]);
+        return play(argv[2], NULL);
+    if (argc == 5 && strcmp(argv[1], "play") == 0 && strcmp(argv[3], "--log") == 0)
+        return play(argv[2], argv[4]);
     if (argc >= 3 && strcmp(argv[1], "new") == 0)
         return make_new(argv[2], (size_t)argc - 3, argv + 3);
     if (argc == 3 && strcmp(argv[1], "show") == 0)

@@ -11,6 +11,8 @@
 #include <sys/stat.h>
 #include <unistd.h>
 
+#include "write_all.h"
+
 bool load_setup(const char *path, uint8_t bytes[SETUP_FILE_LIMIT + 1], size_t *len)
 {
     int fd = open(path, O_RDONLY | O_CLOEXEC);
@@ -28,20 +30,6 @@ bool load_setup(const char *path, uint8_t bytes[SETUP_FILE_LIMIT + 1], size_t *l
     close(fd);
     errno = error;
     return got >= 0;
-}
-
-static bool write_all(int fd, const uint8_t *bytes, size_t len)
-{
-    while (len > 0) {
-        ssize_t done = write(fd, bytes, len);
-        if (done < 0 && errno == EINTR)
-            continue;
-        if (done < 0)
-            return false;
-        bytes += done;
-        len -= (size_t)done;
-    }
-    return true;
 }
 
 /* A new file at path with the bytes, on the disk; it takes over the permissions of the file at old, if there is one. */

@@ -31,15 +31,13 @@ static int fail(int error)
 ssize_t __wrap_write(int fd, const void *bytes, size_t len)
 {
     static bool half_done;
-    if (at("killed-in-write") || at("no-space")) {
-        if (half_done && at("killed-in-write"))
-            raise(SIGKILL);
-        if (half_done)
-            return fail(ENOSPC);
+    if (!half_done && (at("killed-in-write") || at("no-space") || at("two-writes"))) {
         half_done = true;
         return __real_write(fd, bytes, len / 2);
     }
-    return __real_write(fd, bytes, len);
+    if (at("killed-in-write"))
+        raise(SIGKILL);
+    return at("no-space") ? fail(ENOSPC) : __real_write(fd, bytes, len);
 }
 
 int __wrap_fsync(int fd)

@@ -2,6 +2,8 @@
 
 #include <stdio.h>
 
+#include "names.h"
+
 static void count_answer(struct tally *tally, const struct trial *t)
 {
     const uint8_t *answer = t->answer + GUARD;
@@ -24,6 +26,7 @@ void count_outcome(struct tally *tally, const struct test_case *c, const struct 
     if (c->call != CALL_PLAY)
         return;
     tally->burst[c->burst_kind]++;
+    count_damage(&tally->damages, c, by_plain);
     if (!by_plain->result.refusal)
         count_answer(tally, by_plain);
 }
@@ -71,6 +74,18 @@ static void each_answer(take_line *take, void *to, const struct tally *tally)
     }
 }
 
+static void each_damage(take_line *take, void *to, const struct damages *d)
+{
+    take(to, "damage", NULL, 0);
+    for (int damage = 0; damage < DAMAGES; damage++)
+        take(to, "damage", damage_name(damage), d->told[damage]);
+    for (int damage = UNDIVARRO_TOO_SHORT; damage < DAMAGES; damage++)
+        each_name(take, to, damage_name(damage), way_names, d->met[damage], WAYS);
+    take(to, "burst and damage", NULL, 0);
+    for (unsigned i = 0; i < LIMITS; i++)
+        take(to, "burst and damage", limit_name(i), d->at_limit[i]);
+}
+
 static void each_line(take_line *take, void *to, const struct tally *tally)
 {
     each_name(take, to, "image, by its last spoiling", image_kind_names, tally->image, IMAGE_KINDS);
@@ -79,6 +94,7 @@ static void each_line(take_line *take, void *to, const struct tally *tally)
     for (int call = 0; call < CALLS; call++)
         each_of_call(take, to, tally, call);
     each_answer(take, to, tally);
+    each_damage(take, to, &tally->damages);
     each_name(take, to, "case and outcome", meeting_names, tally->meetings.met, MEETINGS);
 }
 

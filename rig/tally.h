@@ -2,12 +2,14 @@
 #ifndef TALLY_H
 #define TALLY_H
 
+#include "damages.h"
 #include "meetings.h"
 
 struct tally {
     unsigned long image[IMAGE_KINDS], burst[BURST_KINDS], room[ROOM_KINDS];
     unsigned long refusal[CALLS][256];  /* 0 is none */
     unsigned long silence, control[256], report[256];
+    struct damages damages;
     struct meetings meetings;
 };
 
@@ -15,8 +17,8 @@ struct tally {
 void count_outcome(struct tally *tally, const struct test_case *c, const struct trial *by_plain);
 void print_tally(const struct tally *tally);
 
-/* Every kind of case, every refusal and every kind of wall for each call, every kind of answer and every meeting; if not,
- * says which was not met. */
+/* Every kind of case, every refusal and every kind of wall for each call, every kind of answer, every damage in all its ways
+ * and at all limits, and every meeting; if not, says which was not met. */
 bool met_everything(const struct tally *tally);
 
 #endif

@@ -13,7 +13,13 @@ cp "$programs/bin/rig" "$programs/bin/rig-stopped" .
 chmod 755 rig rig-stopped
 
 rig() { ${RUN:-} ./rig "$@"; }
-rig_stopped() { ${RUN:-} ./rig-stopped "$@"; }
+# stopped MOMENT BURST ARGUMENT...: the rig, stopped at this moment; in a shell of its own, so that its word about the kill
+# stays out of the log
+stopped() {
+    local moment=$1 burst=$2
+    shift 2
+    (echo "$burst" | STOP_AT=$moment ${RUN:-} ./rig-stopped "$@" >answers 2>message; exit "$?") 2>/dev/null
+}
 
 passed=0
 failed=0
@@ -48,6 +54,8 @@ ends() {
 
 # a wall of 01's two panels, both in group 9
 wall() { rm -f "$1" && rig new "$1" 1:9 2:9; }
+# the same, the second Phoenix
+mixed_wall() { rm -f "$1" && rig new "$1" 1:9 2:9:phoenix; }
 # packet ID GROUP DATA...: the burst of these bytes, with its size and checksum
 packet() {
     local size=$(($# + 2)) sum byte
@@ -67,7 +75,7 @@ image() {
     for byte in $*; do printf "\\x$byte"; done >"$file"
 }
 
-for part in comparison program forms keeping; do
+for part in comparison program forms keeping words log; do
     . "$parts/test_$part.sh" || exit 2
 done
 comparison_tests

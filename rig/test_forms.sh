@@ -8,8 +8,6 @@ pair_in_form_2() { echo "010900$(fields "$1")020900$(fields 1)""00000022""0202";
 # image_of FILE HEX: a file of these bytes, in one run of digits
 image_of() { image "$1" "$(echo "$2" | sed 's/../& /g')"; }
 
-# panels 1 (general) and 2 (Phoenix), both in group 9
-mixed_wall() { rm -f "$1" && rig new "$1" 1:9 2:9:phoenix; }
 # video FILE ID: the panel's video values, from its report
 video() { packet "$2" 00 33 | rig play "$1" | cut -c 9-22; }
 

@@ -38,8 +38,7 @@ fan_2_kept() {
 # stop MOMENT STATUS: the program is stopped while it sets the fan to 4
 stop() {
     fan_2_kept || return
-    # a shell of its own, so that its word about the kill stays out of the log
-    (echo 060100610462 | STOP_AT=$1 rig_stopped play stopped/w >answers 2>message; exit "$?") 2>/dev/null
+    stopped "$1" 060100610462 play stopped/w
     same "status when $1" $? "$2"
 }
 old_setup_whole() {
@@ -57,6 +56,7 @@ sets_as_before() {
 
 # the test program is the rig where it is not stopped
 not_stopped() { stop never 0 && same answer "$(cat answers)" 060100000601 && new_setup_whole && nothing_beside; }
+two_writes() { stop two-writes 0 && same answer "$(cat answers)" 060100000601 && new_setup_whole && nothing_beside; }
 killed_in_write() { stop killed-in-write 137 && old_setup_whole && sets_as_before; }
 killed_before_sync() { stop killed-before-sync 137 && old_setup_whole && sets_as_before; }
 killed_before_rename() {
@@ -102,6 +102,7 @@ test_that 'the file is written only when a setting changes' written_only_when_ch
 test_that 'a link to the image is followed' a_link_is_followed
 test_that 'the permissions of the image stay' permissions_stay
 test_that 'the program of the tests below, not stopped' not_stopped
+test_that 'half written at first, then the rest: the new setup' two_writes
 test_that 'killed half through writing: the old setup' killed_in_write
 test_that 'killed before the sync: the old setup' killed_before_sync
 test_that 'killed between writing and renaming: the old setup' killed_before_rename

@@ -48,6 +48,10 @@ static const char *fault_of(const struct test_case *c, const struct trial *t)
         return "the lent burst was written to";
     if (r.refusal && (r.answer_len || r.image_len))
         return "a refusal with a length that is not 0";
+    if (r.damage && (r.refusal || c->call != CALL_PLAY))
+        return "damage from a refusal, or from a call without a burst";
+    if (r.damage > UNDIVARRO_CHECKSUM_WRONG)
+        return "a damage that the header does not name";
     if (r.answer_len > c->answer_cap || r.image_len > c->out_cap)
         return "a length above what was lent";
     if (!as_before(t->answer, 0, GUARD) || !as_before(t->out, 0, GUARD))
@@ -89,7 +93,7 @@ void run_trial(const struct box *box, const struct test_case *c, struct trial *t
 bool same_outcome(const struct test_case *c, const struct trial *a, const struct trial *b)
 {
     return a->result.refusal == b->result.refusal && a->result.answer_len == b->result.answer_len
-        && a->result.image_len == b->result.image_len
+        && a->result.image_len == b->result.image_len && a->result.damage == b->result.damage
         && memcmp(a->answer, b->answer, GUARD + c->answer_cap + GUARD) == 0
         && memcmp(a->out, b->out, GUARD + c->out_cap + GUARD) == 0;
 }
@@ -114,7 +118,7 @@ static uint64_t mix_bytes(uint64_t sum, const uint8_t *bytes, size_t len)
 /* Guards and the bytes past the lengths are left to fault_of. */
 uint64_t add_outcome(uint64_t sum, const struct trial *t)
 {
-    sum = mix(sum, t->result.refusal);
+    sum = mix(sum, (uint64_t)t->result.refusal << 32 | t->result.damage);
     sum = mix(sum, (uint64_t)t->result.answer_len << 32 | t->result.image_len);
     sum = mix_bytes(sum, t->answer + GUARD, t->result.answer_len);
     return mix_bytes(sum, t->out + GUARD, t->result.image_len);

@@ -23,7 +23,7 @@ struct trial {
 
 void run_trial(const struct box *box, const struct test_case *c, struct trial *t);
 
-/* Refusal, lengths and every byte of both areas the same. */
+/* Refusal, lengths, damage and every byte of both areas the same. */
 bool same_outcome(const struct test_case *c, const struct trial *a, const struct trial *b);
 
 /* The outcome mixed into a sum over all cases so far; runs with equal sums met equal outcomes. */

@@ -1,0 +1,106 @@
+#include "words.h"
+
+#include "checksum.h"
+#include "names.h"
+#include "undivarro.h"
+
+/* A packet: size, ID, group, data, checksum. */
+enum { SIZE_AT, ID_AT, GROUP_AT, DATA_AT, AROUND_DATA };
+enum { CONTROL = 0x00, ACK = 0x06, NACK = 0x15 };
+
+static const char *plural(size_t count)
+{
+    return count == 1 ? "" : "s";
+}
+
+static void say_value(FILE *to, const struct setting *setting, unsigned i, uint8_t value)
+{
+    const char *word = value_word(setting, value);
+    if (setting->count > 1)
+        fprintf(to, "%s ", setting->value_names[i]);
+    if (word)
+        fputs(word, to);
+    else if (is_tint(setting, i) && value > 127)
+        fprintf(to, "%d (byte %02X)", (int8_t)value, value);
+    else
+        fprintf(to, "%u", value);
+}
+
+static void say_setting(FILE *to, const struct setting *setting, const uint8_t *values)
+{
+    fputs(setting->name, to);
+    for (unsigned i = 0; i < setting->count; i++) {
+        fputs(i > 0 ? ", " : " ", to);
+        say_value(to, setting, i, values[i]);
+    }
+}
+
+static void say_data(FILE *to, const uint8_t *data, size_t len)
+{
+    if (len == 0) {
+        fputs("no data", to);
+        return;
+    }
+    const struct setting *setting = setting_of(data[0]);
+    size_t given = len - 1;
+    if (!setting) {
+        fprintf(to, "unknown code %02X", data[0]);
+    } else if (data[0] == setting->get_code) {
+        fprintf(to, "get %s", setting->name);
+        if (given > 0)
+            fprintf(to, " with %zu value%s, and a get has none", given, plural(given));
+    } else if (given != setting->count) {
+        fprintf(to, "set %s with %zu value%s, and it has %u", setting->name, given, plural(given), setting->count);
+    } else {
+        fputs("set ", to);
+        say_setting(to, setting, data + 1);
+    }
+}
+
+static void say_damage(FILE *to, const uint8_t *burst, size_t len, uint32_t damage)
+{
+    fputs(damage_name(damage), to);
+    switch (damage) {
+    case UNDIVARRO_TOO_SHORT:
+        fprintf(to, ", %zu byte%s and a packet has at least 4", len, plural(len));
+        break;
+    case UNDIVARRO_TOO_LONG:
+        fprintf(to, ", %zu bytes and a packet has at most 40", len);
+        break;
+    case UNDIVARRO_SIZE_DIFFERS:
+        fprintf(to, ", the first byte says %u and %zu bytes came", burst[SIZE_AT], len);
+        break;
+    case UNDIVARRO_CHECKSUM_WRONG:
+        fprintf(to, ", the last byte is %02X and the others give %02X", burst[len - 1], xor_of(burst, len - 1));
+        break;
+    }
+}
+
+void say_burst(FILE *to, const uint8_t *burst, size_t len, uint32_t damage)
+{
+    if (damage != UNDIVARRO_NO_DAMAGE) {
+        say_damage(to, burst, len, damage);
+    } else if (len == 0) {
+        fputs("no bytes", to);
+    } else {
+        fprintf(to, "ID %u, group %u, ", burst[ID_AT], burst[GROUP_AT]);
+        say_data(to, burst + DATA_AT, len - AROUND_DATA);
+    }
+}
+
+static const char *control_name(uint8_t control)
+{
+    return control == ACK ? "ACK" : control == NACK ? "NACK" : "NAV";
+}
+
+void say_answer(FILE *to, const uint8_t *answer, size_t len)
+{
+    if (len == 0) {
+        fputs("silence", to);
+    } else if (answer[DATA_AT] == CONTROL) {
+        fprintf(to, "%s from panel %u", control_name(answer[DATA_AT + 1]), answer[ID_AT]);
+    } else {
+        fprintf(to, "report from panel %u, ", answer[ID_AT]);
+        say_setting(to, setting_of(answer[DATA_AT]), answer + DATA_AT + 1);
+    }
+}

@@ -1,0 +1,15 @@
+/* A burst and its answer in words, on one line and without a colon. */
+#ifndef WORDS_H
+#define WORDS_H
+
+#include <stddef.h>
+#include <stdint.h>
+#include <stdio.h>
+
+/* What the burst asks for, or what was wrong with it; damage is what the library told of it. */
+void say_burst(FILE *to, const uint8_t *burst, size_t len, uint32_t damage);
+
+/* What the box answered; no bytes are silence. */
+void say_answer(FILE *to, const uint8_t *answer, size_t len);
+
+#endif
