@@ -1,10 +1,9 @@
 -- What is wrong with a burst. Assumes nothing.
 use Prim.Native.Nat.{ℕ, _+_, _-_}
-use mathlib.Core.Path.{_≡_, refl, sym, ap, _∙_}
+use mathlib.Core.Path.{_≡_, refl, sym, _∙_}
 use mathlib.Core.Bool.{Bool, true, false, cond, not, _||_, false≢true}
-use mathlib.Core.List.{List}
 use native.Mathlib.Omega.{arith}
-use borrow.Author.Tests.{leb-true, leb-false, lt-ltb, le-ltb, eq-eqb, ne-eqb, eqb-true, eqb-false}
+use borrow.Author.Tests.{leb-true, leb-false, lt-ltb, le-ltb, eq-eqb, eqb-false}
 use lib.Dec.{leb, ltb, eqb}
 use lib.ListN.{length, getD}
 use Rattle.packet.specs.declared.Damage.{Damage}
@@ -52,13 +51,10 @@ pub no-damage : NoDamage
 unfolding damageOf
 no-damage b = go (eqb (length b) 0) refl (isIntact b) refl
   where
-    intact-none : (t : Bool) → isIntact b ≡ true → true ≡ (t || true)
-    intact-none true e = refl
-    intact-none false e = refl
-
     go : (none : Bool) → eqb (length b) 0 ≡ none → (t : Bool) → isIntact b ≡ t → eqb (damageNumber (damageOf b)) 0 ≡ (none || t)
-    go none z true e = rw (undamaged b (sound b e)) (intact-none none e)
+    go true z true e = rw (undamaged b (sound b e))
     go true z false e = rw z
+    go false z true e = rw (undamaged b (sound b e))
     go false z false e = numbered _ (λ n. false≢true (sym e ∙ intact b (passed b (eqb-false _ _ z) n)))
 
 pub spoiled-told : SpoiledTold

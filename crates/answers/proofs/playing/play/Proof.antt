@@ -1,5 +1,5 @@
 -- The burst's own verdict decides, and says its damage. Assumes nothing.
-use mathlib.Core.Path.{_≡_, ap, ap₂, _∙_}
+use mathlib.Core.Path.{ap, ap₂, _∙_}
 use borrow.Author.Needs.{needs}
 use Rattle.packet.specs.declared.Damage.{Damage}
 use Rattle.packet.specs.declared.Verdict.{Verdict}

@@ -6,8 +6,8 @@ use Rattle.packet.specs.Packet.{damageOf, damageIn}
 use Rattle.packet.proofs.Damages.{damage-said}
 use Rattle.host.specs.declared.Step.{Step}
 use Rattle.host.specs.declared.Outcome.the-variants.{Idle}
-use Rattle.host.specs.Machine.{Move, quiet, heard}
-use Rattle.host.specs.Calls.{stateOf, Answers}
+use Rattle.host.specs.Machine.{quiet, heard}
+use Rattle.host.specs.Calls.{stateOf}
 use Rattle.host.specs.Private.Steps.{tellingStep}
 use Rattle.host.proofs.Moves.{no-room, idle-burst, burst-heard, heard-is}
 use Rattle.host.proofs.Answers.{stays, tells}

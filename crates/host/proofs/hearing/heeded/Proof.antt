@@ -1,7 +1,5 @@
 -- Each test decides a case of what the burst says. Assumes nothing.
-use mathlib.Core.Path.{_≡_, ap}
 use borrow.Author.Needs.{needs}
-use Rattle.host.specs.Machine.{ending}
 use Rattle.host.specs.Calls.{stateOf}
 use Rattle.host.proofs.Moves.{not-intact, other-group, other-id, addressed}
 use Rattle.host.proofs.Answers.{stays}
