@@ -1,5 +1,5 @@
--- Demand 2. Each burst gets exactly the answer that 01 gives: that is `played`, to which `line::play` is proved equal. What
--- it never does is said here.
+-- Demand 2. Each burst gets exactly the answer that 01 gives: that is `played`, to which `answers::play` is proved
+-- equal. What it never does is said here.
 use Prim.Native.Nat.{ℕ, _<_}
 use mathlib.Core.Bool.{true}
 use mathlib.Core.Logic.{_⊎_}

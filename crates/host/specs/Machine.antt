@@ -54,6 +54,7 @@ waits s = ltb 0 (sendings s)
 abbrev pub mostSendings : ℕ
 mostSendings = 3
 
+-- of no burst is anything told
 abbrev pub move : State → List (List ℕ) → Outcome → List ℕ → Move
 move s packets o vs = record { next = s; sent = packets; outcome = o; values = vs; damage = Nothing }
 

@@ -35,7 +35,7 @@ mostData = longest - shortest
 unfoldable pub isIntact : List ℕ → Bool
 isIntact burst = leb shortest (length burst) && leb (length burst) longest && eqb (getD burst 0 0) (length burst) && eqb (xorAll burst) 0
 
--- What is wrong with a burst, the first that holds. 02, A3; an empty burst has no damage.
+-- What is wrong with a burst: the first that holds, in 02's order (A3). An empty burst has no damage.
 unfoldable pub damageOf : List ℕ → Damage
 damageOf burst =
     cond (eqb (length burst) 0)
@@ -44,7 +44,7 @@ damageOf burst =
     (cond (ltb longest (length burst)) TooLong
     (cond (not (eqb (getD burst 0 0) (length burst))) Size (cond (not (eqb (xorAll burst) 0)) Checksum Nothing))))
 
--- 02's numbers
+-- its number, 0 for none
 abbrev pub damageNumber : Damage → ℕ
 damageNumber Nothing = 0
 damageNumber TooShort = 1
@@ -52,7 +52,8 @@ damageNumber TooLong = 2
 damageNumber Size = 3
 damageNumber Checksum = 4
 
--- size, monitor ID, group, data, checksum: of an intact burst the ID, the group and the count of its data bytes
+-- size, monitor ID, group, data, checksum: of an intact burst the ID, the group and the count of its data bytes; of a damaged one
+-- what is wrong
 unfoldable pub verdictOf : List ℕ → Verdict
 verdictOf burst =
     cond (eqb (length burst) 0)

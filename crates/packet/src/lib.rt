@@ -1,4 +1,4 @@
-// One burst of the line: the verdict on it, its data bytes, and a packet written out.
+// One burst of the line: the verdict on it and what is wrong with it, its data bytes, and a packet written out.
 ghost use mathlib.Core.Path.{_≡_};
 ghost use Rattle.packet.specs.Xor.{xorAll};
 ghost use Rattle.packet.specs.Control.{controlByte};

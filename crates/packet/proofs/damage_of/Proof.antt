@@ -1,8 +1,14 @@
 -- Each test decides a case of `damageOf`; those before it have failed. Assumes nothing.
+use mathlib.Core.Path.{_≡_}
+use mathlib.Core.Bool.{cond, not}
 use native.Mathlib.Omega.{arith}
 use borrow.Author.Needs.{needs}
 use borrow.Author.Tests.{lt-ltb, le-ltb, eq-eqb, ne-eqb}
+use lib.Dec.{eqb}
+use lib.ListN.{length, getD}
+use Rattle.packet.specs.Xor.{xorAll}
 use Rattle.packet.specs.Packet.{damageOf}
+use Rattle.packet.specs.declared.Damage.the-variants.{Nothing, Size, Checksum}
 use Rattle.packet.proofs.damage_of.Statement.{statement}
 use Rattle.packet.proofs.damage_of.Tie as tie
 
@@ -18,6 +24,12 @@ returns-3 : tie.Need-returns-3
 unfolding damageOf
 returns-3 c = rw (ne-eqb _ _ (c .before .before .if1 .left), le-ltb _ _ (c .before .if2 .left), lt-ltb _ _ (c .if3 .taken))
 
+-- past the tests of its length
+fits : (c : tie.Else3) → let b = c .before .before .before .before .args .burst .now in
+    damageOf b ≡ cond (not (eqb (getD b 0 0) (length b))) Size (cond (not (eqb (xorAll b) 0)) Checksum Nothing)
+unfolding damageOf
+fits c = rw (ne-eqb _ _ (c .before .before .if1 .left), le-ltb _ _ (c .before .if2 .left), le-ltb _ _ (c .if3 .left))
+
 shared-slice-read-if4 : tie.Need-shared-slice-read-if4
 shared-slice-read-if4 c = search needs
 
@@ -25,27 +37,20 @@ cast-if4 : tie.Need-cast-if4
 cast-if4 c = omega (arith, c .shared-slice-known2 .given 0)
 
 returns-4 : tie.Need-returns-4
-unfolding damageOf
-returns-4 c =
-    let if3 = c .before .before in
-    rw (ne-eqb _ _ (if3 .before .before .if1 .left), le-ltb _ _ (if3 .before .if2 .left), le-ltb _ _ (if3 .if3 .left), ne-eqb _ _ (c .if4 .taken))
+returns-4 c = rw (fits (c .before .before), ne-eqb _ _ (c .if4 .taken))
 
 xor-of-requires : tie.Need-xor-of-requires
 xor-of-requires c κs = search needs
 
 returns-5 : tie.Need-returns-5
-unfolding damageOf
 returns-5 c =
-    let if4 = c .before .before in
-    let if3 = if4 .before .before in
-    rw (ne-eqb _ _ (if3 .before .before .if1 .left), le-ltb _ _ (if3 .before .if2 .left), le-ltb _ _ (if3 .if3 .left), eq-eqb _ _ (if4 .if4 .left), ← c .before .xor-of .ensures, ne-eqb _ _ (c .if5 .taken))
+    let size = c .before .before in
+    rw (fits (size .before .before), eq-eqb _ _ (size .if4 .left), ← c .before .xor-of .ensures, ne-eqb _ _ (c .if5 .taken))
 
 returns-6 : tie.Need-returns-6
-unfolding damageOf
 returns-6 c =
-    let if4 = c .before .before in
-    let if3 = if4 .before .before in
-    rw (ne-eqb _ _ (if3 .before .before .if1 .left), le-ltb _ _ (if3 .before .if2 .left), le-ltb _ _ (if3 .if3 .left), eq-eqb _ _ (if4 .if4 .left), ← c .before .xor-of .ensures, eq-eqb _ _ (c .if5 .left))
+    let size = c .before .before in
+    rw (fits (size .before .before), eq-eqb _ _ (size .if4 .left), ← c .before .xor-of .ensures, eq-eqb _ _ (c .if5 .left))
 
 pub damage-of-spec : {M : Type 1} → statement M
 damage-of-spec =
