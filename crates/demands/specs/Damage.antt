@@ -10,11 +10,11 @@ use Rattle.packet.specs.Xor.{xorAll}
 use Rattle.packet.specs.Packet.{monitorId, groupId, isIntact, damageOf, damageNumber}
 use Rattle.packet.specs.Spoiled.{Spoiling, spoiled, Spoils}
 use Rattle.panels.specs.declared.Table.{Table}
-use Rattle.panels.specs.Wall.{Wall}
+use Rattle.panels.specs.Wall.{Wall, panelsOf, tableOf}
 use Rattle.answers.specs.Reply.{silence}
 use Rattle.answers.specs.Judged.{command}
-use Rattle.answers.specs.Played.{Outcome, playedPacket, damagedReply, played, playedOn}
-use Rattle.line.specs.Session.{receiverOf, heardAs, atMark, fed}
+use Rattle.answers.specs.Played.{Outcome, playedPacket, damagedReply, played}
+use Rattle.line.specs.Session.{receiverOf, atMark, fed}
 use Rattle.host.specs.declared.Outcome.the-variants.{Idle}
 use Rattle.host.specs.Machine.{burst, State, waits, quiet, heard, telling, step}
 
@@ -37,7 +37,10 @@ SpoiledTold = (packet : List ℕ) (s : Spoiling) → isIntact packet ≡ true �
 -- The receiver, which keeps 40 bytes, leaves of a burst of any length, byte after byte and then the mark, what the whole burst does,
 -- and tells what is wrong with it.
 abbrev pub AnyLength : Type 0
-AnyLength = (t : Table) (b : List ℕ) → atMark (fed (receiverOf []) b) t ≡ heardAs (playedOn t b)
+AnyLength =
+    (t : Table) (b : List ℕ)
+    → let o = played (panelsOf t) b in
+    atMark (fed (receiverOf []) b) t ≡ record { receiver = receiverOf []; table = tableOf (o .wall); reply = o .reply; damage = damageOf b }
 
 -- The wall and the answer as they were before this request, by 01: an empty burst does nothing, an intact one is a packet, and any
 -- other gets NACK or silence.
