@@ -38,11 +38,11 @@ pub codes-rise : {row : ℕ} → suc row < rowCount → setCode row < setCode (s
 unfolding settings
 codes-rise {row} h = ltb-true _ _ (alike (λ k. ltb (setCode k) (setCode (suc k))) (λ k. true) (rowCount - 1) refl {k = row} (omega arith))
 
--- the walk at row k: what is found from there on
-unfoldable pub foundAfter : ℕ → ℕ → Found
+-- what is found from row k on
+foundAfter : ℕ → ℕ → Found
 foundAfter c k = foundFrom c k (drop k settings)
 
-pub found-step : (c k : ℕ) → k < rowCount
+found-step : (c k : ℕ) → k < rowCount
     → foundAfter c k ≡ cond (eqb (setCode k) c) (Set k) (cond (eqb (getCode k) c) (Get k) (foundAfter c (k + 1)))
 unfolding foundAfter foundFrom
 found-step c k h = rw (drop-cons settings k noSetting (unfold settings in h), add-one)
@@ -95,12 +95,16 @@ pub byte-count-few : {row : ℕ} → row < rowCount → byteCount row ≤ mostVa
 unfolding settings
 byte-count-few h = leb-true _ mostValues (alike (λ k. leb (byteCount k) mostValues) (λ k. true) rowCount refl h)
 
+pub byte-count-some : {row : ℕ} → row < rowCount → 0 < byteCount row
+unfolding settings
+byte-count-some h = ltb-true 0 _ (alike (λ k. ltb 0 (byteCount k)) (λ k. true) rowCount refl h)
+
 pub fresh-count : (profile : Profile) → length (freshValues profile) ≡ valueCount
 unfolding settings freshValues flatten
 fresh-count General = refl
 fresh-count Phoenix = refl
 
-pub listed : ℕ → List ℕ → Bool
+unfoldable pub listed : ℕ → List ℕ → Bool
 listed v [] = false
 listed v (x ∷ xs) = eqb x v || listed v xs
 

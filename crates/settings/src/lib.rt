@@ -11,8 +11,22 @@ pub use ranges::allowed;
 // How many settings there are.
 pub const ROW_COUNT: usize = 8;
 
-// The row of video.
+// The settings' rows, by rising code.
+const POWER_ROW: usize = 0;
+
 pub const VIDEO_ROW: usize = 1;
+
+const COLOUR_TEMPERATURE_ROW: usize = 2;
+
+const AUDIO_ROW: usize = 3;
+
+const FAN_ROW: usize = 4;
+
+const COLD_START_ROW: usize = 5;
+
+const APM_ROW: usize = 6;
+
+const POWER_SAVING_ROW: usize = 7;
 
 // How many value bytes they have in all, which are a panel's.
 pub const VALUE_COUNT: usize = 15;
@@ -164,22 +178,30 @@ fn values_at(k: usize) -> Values
     values[k]
 }
 
-// The setting that a code sets or gets.
+// The setting that a code sets or gets, in the order of the manual's sections: where 000 (SICP 2.01) has it, and 001 (1.85)
+// and 002 (1.6) where they do.
 pub fn find_setting(code: u8) -> Found
     ensures { λ r. ⌜ r ≡ foundBy code ⌝ }
 {
-    let mut k = 0;
-    while k < ROW_COUNT {
-        let codes = codes_at(k);
-        if codes.0 == code {
-            return Found::Set(k);
-        }
-        if codes.1 == code {
-            return Found::Get(k);
-        }
-        k += 1;
+    match code {
+        0x19 => Found::Get(POWER_ROW), // power: 000, 4.1.1; 001, 4.1.1; 002, 4.1.1
+        0x18 => Found::Set(POWER_ROW), // power: 000, 4.1.3; 001, 4.1.3; 002, 4.1.3
+        0xA4 => Found::Get(COLD_START_ROW), // cold start: 000, 4.3.1; 001, 4.3.1; 002, 4.3.1
+        0xA3 => Found::Set(COLD_START_ROW), // cold start: 000, 4.3.3; 001, 4.3.3; 002, 4.3.3
+        0x33 => Found::Get(VIDEO_ROW), // video: 000, 5.1.1; 001, 6.1.1; 002, 6.1.1
+        0x32 => Found::Set(VIDEO_ROW), // video: 000, 5.1.3; 001, 6.1.3; 002, 6.1.3
+        0x35 => Found::Get(COLOUR_TEMPERATURE_ROW), // colour temperature: 000, 5.1.4; 001, 6.1.4
+        0x34 => Found::Set(COLOUR_TEMPERATURE_ROW), // colour temperature: 000, 5.1.6; 001, 6.1.6
+        0x43 => Found::Get(AUDIO_ROW), // treble, bass: 000, 6.1.7.1; 001, 7.3.1; 002, 7.1.1
+        0x42 => Found::Set(AUDIO_ROW), // treble, bass: 000, 6.1.7.3; 001, 7.3.3; 002, 7.1.3
+        0xDE => Found::Get(POWER_SAVING_ROW), // power saving: 000, 7.2.1; 001, 8.2.1
+        0xDD => Found::Set(POWER_SAVING_ROW), // power saving: 000, 7.2.3; 001, 8.2.3; 002, 8.2.1
+        0x62 => Found::Get(FAN_ROW), // fan: 000, 7.20.1
+        0x61 => Found::Set(FAN_ROW), // fan: 000, 7.20.3
+        0xD1 => Found::Get(APM_ROW), // APM: 000, 7.21.1
+        0xD0 => Found::Set(APM_ROW), // APM: 000, 7.21.3
+        _ => Found::Nothing,
     }
-    Found::Nothing
 }
 
 // A row's set code, with which its field in a setup image begins.

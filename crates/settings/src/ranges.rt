@@ -55,19 +55,23 @@ fn allowed_at(p: usize, range: Span, v: u8) -> bool
     in_more(p, v)
 }
 
-// Whether these bytes may be set in a row of a general panel: as many as it has, and each of them allowed.
+// Whether these bytes may be set in a row of a general panel: as many as it has, and each of them allowed. The first is tried
+// by itself: most rows have no other.
 fn general_allowed(row: usize, values: &[u8]) -> bool
     requires { ⌜ row < rowCount ⌝ }
     ensures { λ r. ⌜ r ≡ allowedFor General row (now (values .entry)) ⌝ }
 {
-    let first = crate::place_of(row);
-    let count = crate::byte_count(row);
-    if values.len() != count {
+    let at = crate::values_at(row);
+    let first = at.1 as usize;
+    if values.len() != at.0 as usize {
         return false;
     }
     let ranges = crate::the_table().ranges;
-    let mut k = 0;
-    while k < count {
+    if !allowed_at(first, ranges[first], values[0]) {
+        return false;
+    }
+    let mut k = 1;
+    while k < values.len() {
         let p = first + k;
         if !allowed_at(p, ranges[p], values[k]) {
             return false;

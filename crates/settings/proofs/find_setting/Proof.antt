@@ -1,73 +1,57 @@
--- The walk over the table finds what `foundBy` finds. The invariant: the answer is what is found from row k on.
--- Assumes nothing.
-use mathlib.Core.Path.{_≡_, refl, sym, ap, _∙_}
-use Prim.Native.Nat.{_-_, _≤_}
-use native.Mathlib.Nat.{le-antisymm}
-use native.Mathlib.Omega.{arith}
-use borrow.Author.Tests.{eq-eqb, ne-eqb}
-use Rattle.settings.specs.Settings.{settings, foundFrom, rowCount}
-use Rattle.settings.proofs.Laws.{foundAfter, found-step}
+-- Each arm says what `foundBy` computes of its code, and of a code that is in no arm it computes nothing. Assumes nothing.
+use mathlib.Core.Path.{_≡_, refl, sym, ap}
+use mathlib.Core.Bool.{false, cond}
+use mathlib.Core.List.{List, [], _∷_}
+use Prim.Native.Nat.{ℕ, _<_}
+use borrow.Author.Tests.{ne-eqb}
+use Rattle.lists.proofs.Each.{alike}
+use Rattle.settings.specs.declared.Found.the-variants.{Nothing}
+use Rattle.settings.specs.Settings.{settings, foundFrom, foundBy}
+use Rattle.settings.proofs.Laws.{listed}
 use Rattle.settings.proofs.find_setting.Statement.{statement}
 use Rattle.settings.proofs.find_setting.Tie as tie
 
-abbrev Inv-loop : tie.InvT-loop
-Inv-loop code k₀ k = (k ≤ rowCount) × (foundAfter code 0 ≡ foundAfter code k)
+arm : {code k : ℕ} → code ≡ k → foundBy k ≡ foundBy code
+arm e = ap foundBy (sym e)
 
-abbrev μ-loop : tie.MeasureT-loop
-μ-loop code k₀ k = rowCount - k
+-- the arms' codes, the last first
+abbrev codes : List ℕ
+codes = 0xD0 ∷ 0xD1 ∷ 0x61 ∷ 0x62 ∷ 0xDD ∷ 0xDE ∷ 0x42 ∷ 0x43 ∷ 0x34 ∷ 0x35 ∷ 0x32 ∷ 0x33 ∷ 0xA3 ∷ 0xA4 ∷ 0x18 ∷ 0x19 ∷ []
 
-loop-holds : tie.Need-loop-holds Inv-loop μ-loop
-loop-holds c = (omega arith, refl)
+-- the code is none of ks, as `rest` says it
+abbrev NoneOf : ℕ → List ℕ → Type 0
+NoneOf code [] = Unit {0}
+NoneOf code (k ∷ ks) = NoneOf code ks × (code ≡ k → ⊥)
 
-codes-at-requires : tie.Need-codes-at-requires Inv-loop μ-loop
-codes-at-requires c κs = omega arith
+none-listed : (code : ℕ) (ks : List ℕ) → NoneOf code ks → listed code ks ≡ false
+unfolding listed
+none-listed code [] none = refl
+none-listed code (k ∷ ks) none = rw (ne-eqb k code (λ e. none .1 (sym e))) (none-listed code ks (none .0))
 
-returns : tie.Need-returns Inv-loop μ-loop
-unfolding foundAfter
-returns c =
-    let call = c .before .before in
-    let loop = call .before .before .loop in
-    sym (loop .inv .1 ∙ found-step _ _ (omega arith) ∙ simp (eq-eqb _ _ (sym (call .codes-at .ensures .0) ∙ c .if1 .taken)))
-
-returns-2 : tie.Need-returns-2 Inv-loop μ-loop
-unfolding foundAfter
-returns-2 c =
-    let call = c .before .before .before .before in
-    let loop = call .before .before .loop in
-    let at = call .codes-at .ensures in
-    let no-set = ne-eqb _ _ (λ e. c .before .before .if1 .left (at .0 ∙ e)) in
-    sym (loop .inv .1 ∙ found-step _ _ (omega arith) ∙ simp (no-set, eq-eqb _ _ (sym (at .1) ∙ c .if2 .taken)))
-
-add-k : tie.Need-add-k Inv-loop μ-loop
-add-k c = omega arith
-
-loop-less : tie.Need-loop-less Inv-loop μ-loop
-loop-less c = omega arith
-
-loop-again : tie.Need-loop-again Inv-loop μ-loop
-loop-again c =
-    let call = c .before .before .before .before in
-    let loop = call .before .before .loop in
-    let at = call .codes-at .ensures in
-    let no-set = ne-eqb _ _ (λ e. c .before .before .if1 .left (at .0 ∙ e)) in
-    let no-get = ne-eqb _ _ (λ e. c .if2 .left (at .1 ∙ e)) in
-    (omega arith, loop .inv .1 ∙ found-step _ _ (omega arith) ∙ simp (no-set, no-get))
-
-returns-3 : tie.Need-returns-3 Inv-loop μ-loop
-unfolding foundAfter foundFrom settings
-returns-3 c = sym (c .before .loop .inv .1 ∙ ap (foundAfter (c .before .before .args .code)) (le-antisymm (c .before .loop .inv .0) (c .loop-test .left)))
+-- of all bytes
+no-more : {code : ℕ} → code < 256 → NoneOf code codes → Nothing ≡ foundBy code
+unfolding settings foundFrom listed
+no-more {code} h none = sym (rw (none-listed code codes none) at (alike (λ k. cond (listed k codes) Nothing (foundBy k)) (λ k. Nothing) 256 refl h))
 
 pub find-setting-spec : {M : Type 1} → statement M
+unfolding settings foundFrom
 find-setting-spec =
     tie.close
     (tie.spec
-    Inv-loop
-    μ-loop
-    loop-holds
-    codes-at-requires
-    returns
-    returns-2
-    add-k
-    loop-less
-    loop-again
-    returns-3)
+    (λ c. arm (c .match .keys1))
+    (λ c. arm (c .match .keys2))
+    (λ c. arm (c .match .keys3))
+    (λ c. arm (c .match .keys4))
+    (λ c. arm (c .match .keys5))
+    (λ c. arm (c .match .keys6))
+    (λ c. arm (c .match .keys7))
+    (λ c. arm (c .match .keys8))
+    (λ c. arm (c .match .keys9))
+    (λ c. arm (c .match .keys10))
+    (λ c. arm (c .match .keys11))
+    (λ c. arm (c .match .keys12))
+    (λ c. arm (c .match .keys13))
+    (λ c. arm (c .match .keys14))
+    (λ c. arm (c .match .keys15))
+    (λ c. arm (c .match .keys16))
+    (λ c. no-more (c .before .fits .code .fits) (c .match .rest)))
