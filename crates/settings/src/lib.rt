@@ -178,28 +178,29 @@ fn values_at(k: usize) -> Values
     values[k]
 }
 
-// The setting that a code sets or gets, in the order of the manual's sections: where 000 (SICP 2.01) has it, and 001 (1.85)
-// and 002 (1.6) where they do.
+// The setting that a code gets or sets, in the order of the manual's sections, those of 000 (SICP 2.01). 001 is SICP 1.85, and
+// 002 SICP 1.6.
 pub fn find_setting(code: u8) -> Found
     ensures { λ r. ⌜ r ≡ foundBy code ⌝ }
 {
     match code {
-        0x19 => Found::Get(POWER_ROW), // power: 000, 4.1.1; 001, 4.1.1; 002, 4.1.1
-        0x18 => Found::Set(POWER_ROW), // power: 000, 4.1.3; 001, 4.1.3; 002, 4.1.3
-        0xA4 => Found::Get(COLD_START_ROW), // cold start: 000, 4.3.1; 001, 4.3.1; 002, 4.3.1
-        0xA3 => Found::Set(COLD_START_ROW), // cold start: 000, 4.3.3; 001, 4.3.3; 002, 4.3.3
-        0x33 => Found::Get(VIDEO_ROW), // video: 000, 5.1.1; 001, 6.1.1; 002, 6.1.1
-        0x32 => Found::Set(VIDEO_ROW), // video: 000, 5.1.3; 001, 6.1.3; 002, 6.1.3
-        0x35 => Found::Get(COLOUR_TEMPERATURE_ROW), // colour temperature: 000, 5.1.4; 001, 6.1.4
-        0x34 => Found::Set(COLOUR_TEMPERATURE_ROW), // colour temperature: 000, 5.1.6; 001, 6.1.6
-        0x43 => Found::Get(AUDIO_ROW), // treble, bass: 000, 6.1.7.1; 001, 7.3.1; 002, 7.1.1
-        0x42 => Found::Set(AUDIO_ROW), // treble, bass: 000, 6.1.7.3; 001, 7.3.3; 002, 7.1.3
-        0xDE => Found::Get(POWER_SAVING_ROW), // power saving: 000, 7.2.1; 001, 8.2.1
-        0xDD => Found::Set(POWER_SAVING_ROW), // power saving: 000, 7.2.3; 001, 8.2.3; 002, 8.2.1
-        0x62 => Found::Get(FAN_ROW), // fan: 000, 7.20.1
-        0x61 => Found::Set(FAN_ROW), // fan: 000, 7.20.3
-        0xD1 => Found::Get(APM_ROW), // APM: 000, 7.21.1
-        0xD0 => Found::Set(APM_ROW), // APM: 000, 7.21.3
+        // the setting: its section in 000 | in 001 | in 002
+        0x19 => Found::Get(POWER_ROW), // power: 4.1.1 | 4.1.1 | 4.1.1
+        0x18 => Found::Set(POWER_ROW), // power: 4.1.3 | 4.1.3 | 4.1.3
+        0xA4 => Found::Get(COLD_START_ROW), // cold start: 4.3.1 | 4.3.1 | 4.3.1
+        0xA3 => Found::Set(COLD_START_ROW), // cold start: 4.3.3 | 4.3.3 | 4.3.3
+        0x33 => Found::Get(VIDEO_ROW), // video: 5.1.1 | 6.1.1 | 6.1.1
+        0x32 => Found::Set(VIDEO_ROW), // video: 5.1.3 | 6.1.3 | 6.1.3
+        0x35 => Found::Get(COLOUR_TEMPERATURE_ROW), // colour temperature: 5.1.4 | 6.1.4 | none
+        0x34 => Found::Set(COLOUR_TEMPERATURE_ROW), // colour temperature: 5.1.6 | 6.1.6 | none
+        0x43 => Found::Get(AUDIO_ROW), // treble, bass: 6.1.7.1 | 7.3.1 | 7.1.1
+        0x42 => Found::Set(AUDIO_ROW), // treble, bass: 6.1.7.3 | 7.3.3 | 7.1.3
+        0xDE => Found::Get(POWER_SAVING_ROW), // power saving: 7.2.1 | 8.2.1 | none
+        0xDD => Found::Set(POWER_SAVING_ROW), // power saving: 7.2.3 | 8.2.3 | 8.2.1
+        0x62 => Found::Get(FAN_ROW), // fan: 7.20.1 | none | none
+        0x61 => Found::Set(FAN_ROW), // fan: 7.20.3 | none | none
+        0xD1 => Found::Get(APM_ROW), // APM: 7.21.1 | none | none
+        0xD0 => Found::Set(APM_ROW), // APM: 7.21.3 | none | none
         _ => Found::Nothing,
     }
 }

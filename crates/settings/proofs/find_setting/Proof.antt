@@ -1,4 +1,4 @@
--- Each arm says what `foundBy` computes of its code, and of a code that is in no arm it computes nothing. Assumes nothing.
+-- Each arm says what `foundBy` computes of its code, and `foundBy` finds no code that is in no arm. Assumes nothing.
 use mathlib.Core.Path.{_≡_, refl, sym, ap}
 use mathlib.Core.Bool.{false, cond}
 use mathlib.Core.List.{List, [], _∷_}
@@ -28,7 +28,7 @@ unfolding listed
 none-listed code [] none = refl
 none-listed code (k ∷ ks) none = rw (ne-eqb k code (λ e. none .1 (sym e))) (none-listed code ks (none .0))
 
--- of all bytes
+-- `foundBy` tried on every byte
 no-more : {code : ℕ} → code < 256 → NoneOf code codes → Nothing ≡ foundBy code
 unfolding settings foundFrom listed
 no-more {code} h none = sym (rw (none-listed code codes none) at (alike (λ k. cond (listed k codes) Nothing (foundBy k)) (λ k. Nothing) 256 refl h))

@@ -40,6 +40,10 @@ row c = looked c .before .before .args .row
 abbrev values : Ready → List ℕ
 values c = looked c .before .before .args .values .now
 
+-- the answer of the values from k on
+abbrev after : Ready → ℕ → Bool
+after c k = rest (row c) (values c) k
+
 abbrev first : Ready → ℕ
 first c = looked c .values-at .result .1
 
@@ -60,14 +64,12 @@ first-range c {p} d h =
 
 -- value k was tried at place p
 tried : (c : Ready) (k : ℕ) {p : ℕ} (allowed : Bool) → k < byteCount (row c) → p ≡ first c + k → allowed ≡ within (rangesOf p) (getD (values c) k 0)
-    → rest (row c) (values c) k ≡ allowed && rest (row c) (values c) (k + 1)
+    → after c k ≡ allowed && after c (k + 1)
 tried c k {p} allowed h e is =
     let here : p ≡ place (row c) + k = omega (arith, looked c .values-at .ensures .1) in
     rw (is, here, ← at-place (row c) k h) (allowed-step (setting (row c) .allowed General) (values c) k h (rw (← as-many c) h))
 
-first-tried : (c : tie.After-allowed-at Inv-loop μ-loop)
-    → let ready = c .before .before .before in
-    rest (row ready) (values ready) 0 ≡ c .allowed-at .result && rest (row ready) (values ready) 1
+first-tried : (c : tie.After-allowed-at Inv-loop μ-loop) → let ready = c .before .before .before in after ready 0 ≡ c .allowed-at .result && after ready 1
 first-tried c = let ready = c .before .before .before in tried ready 0 (c .allowed-at .result) (some-value ready) (omega arith) (c .allowed-at .ensures)
 
 abbrev ready-in : tie.In-loop Inv-loop μ-loop → Ready
@@ -77,11 +79,11 @@ turn : (c : tie.In-loop Inv-loop μ-loop) → c .before .loop .k < byteCount (ro
 turn c = rw (as-many (ready-in c)) (c .loop-test .taken)
 
 next-tried : (c : tie.After-allowed-at2 Inv-loop μ-loop)
-    → let ready = ready-in (c .before .before .before) in let k = c .before .before .before .before .loop .k in
-    rest (row ready) (values ready) k ≡ c .allowed-at2 .result && rest (row ready) (values ready) (k + 1)
+    → let loop = c .before .before .before in
+    after (ready-in loop) 0 ≡ c .allowed-at2 .result && after (ready-in loop) (loop .before .loop .k + 1)
 next-tried c =
     let loop = c .before .before .before in
-    tried (ready-in loop) (loop .before .loop .k) (c .allowed-at2 .result) (turn loop) refl (c .allowed-at2 .ensures)
+    loop .before .loop .inv .1 ∙ tried (ready-in loop) (loop .before .loop .k) (c .allowed-at2 .result) (turn loop) refl (c .allowed-at2 .ensures)
 
 values-at-requires : tie.Need-values-at-requires Inv-loop μ-loop
 values-at-requires c κs = search needs
@@ -140,7 +142,7 @@ allowed-at-requires-2 c κs =
 
 returns-3 : tie.Need-returns-3 Inv-loop μ-loop
 unfolding allowedAfter
-returns-3 c = sym (c .before .before .before .before .before .loop .inv .1 ∙ next-tried (c .before) ∙ simp (not-true (c .before .allowed-at2 .result) (c .if3 .taken)))
+returns-3 c = sym (next-tried (c .before) ∙ simp (not-true (c .before .allowed-at2 .result) (c .if3 .taken)))
 
 add-k : tie.Need-add-k Inv-loop μ-loop
 add-k c = omega (arith, inside (ready-in (c .before .before .before .before)) (turn (c .before .before .before .before)))
@@ -151,7 +153,7 @@ loop-less c = omega (arith, turn (c .before .before .before .before))
 loop-again : tie.Need-loop-again Inv-loop μ-loop
 loop-again c = (
   omega (arith, turn (c .before .before .before .before)),
-  c .before .before .before .before .before .loop .inv .1 ∙ next-tried (c .before) ∙ simp (not-false (c .before .allowed-at2 .result) (c .if3 .left)),
+  next-tried (c .before) ∙ simp (not-false (c .before .allowed-at2 .result) (c .if3 .left)),
 )
 
 returns-4 : tie.Need-returns-4 Inv-loop μ-loop
