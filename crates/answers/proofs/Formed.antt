@@ -1,11 +1,16 @@
 -- A burst keeps a wall good: every setting stays in its range. Assumes nothing.
-use mathlib.Core.Path.{_≡_, refl}
-use mathlib.Core.Bool.{Bool, true, false, cond}
-use mathlib.Core.List.{List}
+use mathlib.Core.Path.{_≡_, refl, sym, ap}
+use mathlib.Core.Bool.{Bool, true, false, cond, false≢true}
+use mathlib.Core.List.{List, [], _∷_, flatten}
 use Prim.Native.Nat.{ℕ}
 use native.Mathlib.Omega.{arith}
+use borrow.Author.Tests.{eqb-true}
+use lib.Dec.{eqb}
 use lib.ListN.{length, length-map}
-use Rattle.settings.specs.Settings.{byteCount, allowedFor, valueCount}
+use Rattle.lists.specs.Lists.{laidAt, same}
+use Rattle.lists.proofs.Both.{both}
+use Rattle.lists.proofs.Same.{same-is}
+use Rattle.settings.specs.Settings.{settings, allowedByRow, byteCount, allowedFor, valuesWith, valueCount, powerRow, off}
 use Rattle.settings.proofs.Laws.{allowed-many}
 use Rattle.packet.specs.declared.MonitorId.{MonitorId}
 use Rattle.packet.specs.declared.GroupId.{GroupId}
@@ -19,8 +24,9 @@ use Rattle.panels.specs.Addressed.{reaches}
 use Rattle.panels.specs.WellFormed.{GoodPanel, GoodWall, WellFormed}
 use Rattle.panels.proofs.Values.{set-row, other-row, with-twice, with-in-range}
 use Rattle.panels.proofs.Formed.{formed, good-map}
-use Rattle.answers.specs.Judged.{Command, getOf, setOf, unavailable, command, notAvailable, taken, judge, stored, panelAfter}
+use Rattle.answers.specs.Judged.{Command, getOf, setOf, unavailable, command, notAvailable, taken, offAlready, takes, judge, stored, panelAfter}
 use Rattle.answers.specs.Played.{turned, playedBy, played}
+use Rattle.answers.proofs.Orders.{taken-allowed}
 
 -- A row that was stored to has the values, and every other row has what it had.
 module _ (row : ℕ) (vs : List ℕ) (p : Panel) (ok : allowedFor (p .profile) row vs ≡ true) (full : length (p .values) ≡ valueCount) where
@@ -47,34 +53,53 @@ stored-good row vs p ok g =
     let i = with-in-range (record { full = g .full; rows = g .inRange }) row vs ok in
     record { named = g .named; grouped = g .grouped; full = i .full; inRange = i .rows }
 
--- what a panel does with a command keeps its ID and keeps it good
-judged-id : (c : Command) (p : Panel) → panelAfter (judge c p) p .id ≡ p .id
-unfolding judge stored
-judged-id (getOf row) p = refl
-judged-id (setOf row vs) p = go (allowedFor (p .profile) row vs)
-  where
-    go : (t : Bool) → panelAfter (cond t (taken (stored row vs p)) notAvailable) p .id ≡ p .id
-    go true = refl
-    go false = refl
-judged-id unavailable p = refl
+-- power off leaves a panel that is off as it is
+off-values : (values : List ℕ) → same (valuesOf powerRow values) off ≡ true → valuesWith powerRow off values ≡ values
+unfolding settings allowedByRow flatten laidAt same
+off-values [] e = absurd (false≢true e)
+off-values (v ∷ values) e = ap (λ (x : ℕ). x ∷ values) (sym (eqb-true v 1 (both (eqb v 1) _ e .0)))
+
+pub off-same : (row : ℕ) (vs : List ℕ) (p : Panel) → offAlready row vs p ≡ true → stored row vs p ≡ p
+unfolding offAlready stored
+off-same row vs p e =
+    let (power, sets) = both (eqb row powerRow) _ e in
+    let here = eqb-true row powerRow power in
+    let (to, from) = both (same vs off) _ sets in
+    rw (same-is vs off to, here) (ap {B = Panel} (λ (l : List ℕ). record { id = p .id; group = p .group; profile = p .profile; values = l }) (off-values (p .values) (rw here at from)))
+
+-- what storing keeps, a panel that is turned keeps: its names
+module _ {A : Type 0} (f : Panel → A) (p : Panel) (kept : (row : ℕ) (vs : List ℕ) → f (stored row vs p) ≡ f p) where
+  judged-keeps : (c : Command) → f (panelAfter (judge c p) p) ≡ f p
+  unfolding judge
+  judged-keeps (getOf row) = refl
+  judged-keeps (setOf row vs) = go (takes row vs p)
+    where
+      go : (t : Bool) → f (panelAfter (cond t (taken (stored row vs p)) notAvailable) p) ≡ f p
+      go true = kept row vs
+      go false = refl
+  judged-keeps unavailable = refl
+
+  pub turned-keeps : (i : MonitorId) (g : GroupId) (c : Command) → f (turned i g c p) ≡ f p
+  unfolding turned
+  turned-keeps i g c = go (reaches i g p)
+    where
+      go : (t : Bool) → f (cond t (panelAfter (judge c p) p) p) ≡ f p
+      go true = judged-keeps c
+      go false = refl
 
 judged-good : (c : Command) (p : Panel) → GoodPanel p → GoodPanel (panelAfter (judge c p) p)
 unfolding judge
 judged-good (getOf row) p g = g
-judged-good (setOf row vs) p g = go (allowedFor (p .profile) row vs) refl
+judged-good (setOf row vs) p g = go (takes row vs p) refl
   where
-    go : (t : Bool) → allowedFor (p .profile) row vs ≡ t → GoodPanel (panelAfter (cond t (taken (stored row vs p)) notAvailable) p)
-    go true e = stored-good row vs p e g
+    go : (t : Bool) → takes row vs p ≡ t → GoodPanel (panelAfter (cond t (taken (stored row vs p)) notAvailable) p)
+    go true e = stored-good row vs p (taken-allowed row vs p e) g
     go false e = g
 judged-good unavailable p g = g
 
 turned-id : (i : MonitorId) (g : GroupId) (c : Command) (p : Panel) → turned i g c p .id ≡ p .id
-unfolding turned
-turned-id i g c p = go (reaches i g p)
-  where
-    go : (t : Bool) → cond t (panelAfter (judge c p) p) p .id ≡ p .id
-    go true = judged-id c p
-    go false = refl
+unfolding stored
+turned-id i g c p = turned-keeps (λ (q : Panel). q .id) p (λ row vs. refl) i g c
 
 turned-good : (i : MonitorId) (g : GroupId) (c : Command) (p : Panel) → GoodPanel p → GoodPanel (turned i g c p)
 unfolding turned

@@ -1,22 +1,23 @@
 -- What an order says of the data that it was made of. Assumes nothing.
-use mathlib.Core.Path.{_≡_, refl, sym, ap}
-use mathlib.Core.Bool.{Bool, true, false}
-use mathlib.Core.List.{List, [], _∷_}
+use mathlib.Core.Path.{_≡_, refl, ap}
+use mathlib.Core.Bool.{true, false, and-true}
+use mathlib.Core.List.{List, [], _∷_, flatten}
 use Prim.Native.Nat.{ℕ, _+_, _<_}
 use native.Mathlib.Omega.{arith}
-use lib.ListN.{length, drop, length-drop}
-use Rattle.settings.specs.declared.Profile.{Profile}
-use Rattle.settings.specs.declared.Profile.the-variants.{General, Phoenix}
+use lib.Dec.{eqb}
+use lib.ListN.{length, getD, drop, length-drop}
+use Rattle.lists.specs.Lists.{same}
+use Rattle.lists.proofs.Both.{both}
 use Rattle.settings.specs.declared.Found.{Found}
 use Rattle.settings.specs.declared.Found.the-variants.{Set, Get, Nothing}
-use Rattle.settings.specs.Settings.{foundBy, getCode, byteCount, allowedFor, rowCount}
+use Rattle.settings.specs.Settings.{settings, foundBy, getCode, byteCount, place, allowedByRow, allowedFor, rowCount, powerRow, off}
 use Rattle.settings.proofs.Laws.{IsFound, found-right, allowed-many}
 use Rattle.panels.specs.declared.Panel.{Panel}
 use Rattle.panels.specs.Wall.{valuesOf}
 use Rattle.answers.specs.declared.Order.{Order}
 use Rattle.answers.specs.declared.Order.the-variants.{Report, Store, NotAvailable}
-use Rattle.answers.specs.Judged.{Command, getOf, setOf, command, commandBy, notAvailable, reported, taken, stored, judge}
-use Rattle.answers.specs.Private.Orders.{orderOf, takersOf, isTaker}
+use Rattle.answers.specs.Judged.{Command, getOf, setOf, command, commandBy, notAvailable, reported, taken, stored, takes, judge}
+use Rattle.answers.specs.Private.Orders.{orderOf}
 
 abbrev pub OrderIs : List ℕ → Order → Type 0
 OrderIs d (Report row) = (row < rowCount) × (command d ≡ getOf row)
@@ -39,21 +40,27 @@ pub judge-get : (c : Command) (row : ℕ) (p : Panel) → c ≡ getOf row → ju
 unfolding judge
 judge-get c row p e = ap (λ (x : Command). judge x p) e
 
--- A panel is a taker where its own profile allows the values.
-pub taker : (profile : Profile) (row : ℕ) (vs : List ℕ) {takers : List Bool} → takers ≡ takersOf row vs → allowedFor profile row vs ≡ isTaker takers profile
-taker General row vs e = ap (λ (t : List Bool). isTaker t General) (sym e)
-taker Phoenix row vs e = ap (λ (t : List Bool). isTaker t Phoenix) (sym e)
+-- a panel is off by one value
+pub is-off : (values : List ℕ) → same (valuesOf powerRow values) off ≡ eqb (getD values (place powerRow) 0) 1
+unfolding settings allowedByRow flatten same
+is-off [] = refl
+is-off (v ∷ values) = and-true (eqb v 1)
 
--- values that are taken are as many as the row has
-pub taken-many : (profile : Profile) (row : ℕ) (d : List ℕ) → 0 < length d → allowedFor profile row (drop 1 d) ≡ true → length d ≡ byteCount row + 1
-taken-many profile row d h a = omega (arith, rw length-drop at (allowed-many profile row (drop 1 d) a))
+-- what a panel takes its own profile allows,
+pub taken-allowed : (row : ℕ) (vs : List ℕ) (p : Panel) → takes row vs p ≡ true → allowedFor (p .profile) row vs ≡ true
+unfolding takes
+taken-allowed row vs p t = both (allowedFor (p .profile) row vs) _ t .0
 
--- a set is taken where the panel's own profile allows it, and else it is not available
+-- and it is as many values as the row has
+pub taken-many : (row : ℕ) (d : List ℕ) (p : Panel) → 0 < length d → takes row (drop 1 d) p ≡ true → length d ≡ byteCount row + 1
+taken-many row d p h t = omega (arith, rw length-drop at (allowed-many (p .profile) row (drop 1 d) (taken-allowed row (drop 1 d) p t)))
+
+-- a set that the panel takes, and one that it does not
 module _ (c : Command) (row : ℕ) (vs : List ℕ) (p : Panel) (e : c ≡ setOf row vs) where
-  pub judge-set : allowedFor (p .profile) row vs ≡ true → judge c p ≡ taken (stored row vs p)
+  pub judge-set : takes row vs p ≡ true → judge c p ≡ taken (stored row vs p)
   unfolding judge
-  judge-set a = rw (e, a)
+  judge-set t = rw (e, t)
 
-  pub judge-not : allowedFor (p .profile) row vs ≡ false → judge c p ≡ notAvailable
+  pub judge-not : takes row vs p ≡ false → judge c p ≡ notAvailable
   unfolding judge
-  judge-not a = rw (e, a)
+  judge-not t = rw (e, t)

@@ -1,10 +1,13 @@
--- What one panel makes of a packet's data. 01, "Answering a burst", steps 4 and 5; "The settings"; 02, A1: by its own profile.
+-- What one panel makes of a packet's data. 01, "Answering a burst", steps 4 and 5; "The settings"; 02, A1: by its own profile;
+-- A5: amends both steps, and "power set to the value it has is an ACK", for power off.
 use Prim.Native.Nat.{ℕ}
-use mathlib.Core.Bool.{cond}
+use mathlib.Core.Bool.{Bool, cond, not, _&&_}
 use mathlib.Core.List.{List, [], _∷_}
+use lib.Dec.{eqb}
+use Rattle.lists.specs.Lists.{same}
 use Rattle.settings.specs.declared.Found.{Found}
 use Rattle.settings.specs.declared.Found.the-variants.{Set, Get, Nothing}
-use Rattle.settings.specs.Settings.{foundBy, getCode, allowedFor, valuesWith}
+use Rattle.settings.specs.Settings.{foundBy, getCode, allowedFor, valuesWith, powerRow, off}
 use Rattle.packet.specs.declared.MonitorId.{MonitorId}
 use Rattle.packet.specs.declared.Control.the-variants.{Ack, Nav}
 use Rattle.panels.specs.declared.Panel.{Panel}
@@ -37,10 +40,18 @@ pub data Judged : Type 0 where
 unfoldable pub stored : ℕ → List ℕ → Panel → Panel
 stored row values p = record { id = p .id; group = p .group; profile = p .profile; values = valuesWith row values (p .values) }
 
+-- power off to a panel that is off; 001, 3.1.1, the third NAV: "system is already in stand-by mode"
+unfoldable pub offAlready : ℕ → List ℕ → Panel → Bool
+offAlready row values p = eqb row powerRow && (same values off && same (valuesOf row (p .values)) off)
+
+-- all other values are taken that the panel's own profile allows
+unfoldable pub takes : ℕ → List ℕ → Panel → Bool
+takes row values p = allowedFor (p .profile) row values && not (offAlready row values p)
+
 -- one panel decides for itself
 unfoldable pub judge : Command → Panel → Judged
 judge (getOf row) p = reported (getCode row ∷ valuesOf row (p .values))
-judge (setOf row values) p = cond (allowedFor (p .profile) row values) (taken (stored row values p)) notAvailable
+judge (setOf row values) p = cond (takes row values p) (taken (stored row values p)) notAvailable
 judge unavailable p = notAvailable
 
 abbrev pub panelAfter : Judged → Panel → Panel

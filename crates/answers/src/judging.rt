@@ -6,8 +6,8 @@ ghost use lib.ListN.{length, drop};
 ghost use Rattle.settings.specs.Settings.{getCode, byteCount, rowCount};
 ghost use Rattle.panels.specs.Wall.{valuesOf};
 ghost use Rattle.answers.specs.Reply.{reportFrom};
-ghost use Rattle.answers.specs.Judged.{command, stored};
-ghost use Rattle.answers.specs.Private.Orders.{orderOf, takersOf, isTaker};
+ghost use Rattle.answers.specs.Judged.{command, stored, offAlready, takes};
+ghost use Rattle.answers.specs.Private.Orders.{orderOf, allowedBy};
 use crate::Answer;
 use crate::MOST_REPORTED;
 use crate::Order;
@@ -15,6 +15,8 @@ use crate::PROFILE_COUNT;
 use crate::Reply;
 use panels::Panel;
 use settings::Found;
+use settings::OFF;
+use settings::POWER_ROW;
 use settings::Profile;
 
 // What these data bytes ask.
@@ -39,23 +41,39 @@ pub fn order_of(d: &[u8]) -> Order
     }
 }
 
-// For each profile, by its number, whether its panels take the values behind the set code.
-pub fn takers(row: usize, d: &[u8]) -> [bool; PROFILE_COUNT]
+// For each profile, by its number, whether it allows the values behind the set code.
+pub fn allowed_by(row: usize, d: &[u8]) -> [bool; PROFILE_COUNT]
     requires { ⌜ (row < rowCount) × (0 < length (now d)) ⌝ }
-    ensures { λ r. ⌜ r ≡ takersOf row (drop 1 (now (d .entry))) ⌝ }
+    ensures { λ r. ⌜ r ≡ allowedBy row (drop 1 (now (d .entry))) ⌝ }
 {
     let general = settings::allowed(Profile::General, row, &d[1..]);
     let phoenix = settings::allowed(Profile::Phoenix, row, &d[1..]);
     [general, phoenix]
 }
 
-// Whether a panel takes them: it judges by its own profile.
-pub fn takes(p: Panel, takers: [bool; PROFILE_COUNT]) -> bool
-    ensures { λ r. ⌜ r ≡ isTaker takers (p .profile) ⌝ }
+// Whether they turn off a panel that is off.
+fn off_already(p: Panel, row: usize, d: &[u8]) -> bool
+    requires { ⌜ 0 < length (now d) ⌝ }
+    ensures { λ r. ⌜ r ≡ offAlready row (drop 1 (now (d .entry))) p ⌝ }
+{
+    if row != POWER_ROW {
+        return false;
+    }
+    if d.len() != 2 {
+        return false;
+    }
+    let values = p.values;
+    d[1] == OFF && values[settings::place_of(POWER_ROW)] == OFF
+}
+
+// Whether a panel takes them: its own profile allows them, and they do not turn it off while it is off.
+pub fn takes(p: Panel, row: usize, allowed: [bool; PROFILE_COUNT], d: &[u8]) -> bool
+    requires { ⌜ (0 < length (now d)) × (allowed ≡ allowedBy row (drop 1 (now d))) ⌝ }
+    ensures { λ r. ⌜ r ≡ takes row (drop 1 (now (d .entry))) p ⌝ }
 {
     let profile = p.profile;
     let number = profiles::number_of(profile) as usize;
-    takers[number]
+    allowed[number] && !off_already(p, row, d)
 }
 
 // The panel with the values behind the set code stored in a row.

@@ -10,7 +10,7 @@ ghost use Rattle.panels.specs.Wall.{tableOf, panelsOf};
 ghost use Rattle.packet.specs.Answered.{isHeard};
 ghost use Rattle.panels.specs.WellFormed.{WellFormed};
 ghost use Rattle.answers.specs.Judged.{setOf, command};
-ghost use Rattle.answers.specs.Private.Orders.{orderOf, takersOf, inTable, asked};
+ghost use Rattle.answers.specs.Private.Orders.{orderOf, allowedBy, inTable, asked};
 ghost use Rattle.answers.specs.Played.{turned, playedPacket, damagedReply, playedBy, playedOn};
 use crate::Order;
 use crate::PROFILE_COUNT;
@@ -40,8 +40,8 @@ fn play_one(t: Table, k: usize, order: Order, d: &[u8]) -> Turned
             Turned { table: t, reply }
         }
         Order::Store(row) => {
-            let takers = judging::takers(row, d);
-            if !judging::takes(p, takers) {
+            let allowed = judging::allowed_by(row, d);
+            if !judging::takes(p, row, allowed, d) {
                 let reply = answering::word_from(id, Control::Nav);
                 return Turned { table: t, reply };
             }
@@ -67,13 +67,13 @@ fn store_in(
     id: MonitorId,
     group: GroupId,
     row: usize,
-    takers: [bool; PROFILE_COUNT],
+    allowed: [bool; PROFILE_COUNT],
     d: &[u8],
 ) -> Panel
-    requires { ⌜ (row < rowCount) × (0 < length (now d)) × (takers ≡ takersOf row (drop 1 (now d))) ⌝ }
+    requires { ⌜ (row < rowCount) × (0 < length (now d)) × (allowed ≡ allowedBy row (drop 1 (now d))) ⌝ }
     ensures { λ r. ⌜ r ≡ turned id group (setOf row (drop 1 (now (d .entry)))) p ⌝ }
 {
-    if panels::addresses(id, group, p) && judging::takes(p, takers) {
+    if panels::addresses(id, group, p) && judging::takes(p, row, allowed, d) {
         return judging::with_values(p, row, d);
     }
     p
@@ -85,11 +85,11 @@ fn store_in_all(t: Table, id: MonitorId, group: GroupId, row: usize, d: &[u8]) -
     ensures { λ r. ⌜ r ≡ tableOf (map (turned id group (setOf row (drop 1 (now (d .entry))))) (panelsOf t)) ⌝ }
 {
     let n = t.count;
-    let takers = judging::takers(row, d);
+    let allowed = judging::allowed_by(row, d);
     let mut table = t;
     let mut k = 0;
     while k < n {
-        let p = store_in(table.panels[k], id, group, row, takers, d);
+        let p = store_in(table.panels[k], id, group, row, allowed, d);
         table.panels[k] = p;
         k += 1;
     }

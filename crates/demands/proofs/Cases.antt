@@ -9,11 +9,11 @@ use Rattle.panels.specs.Wall.{placeFrom}
 use Rattle.packet.specs.Answered.{isHeard}
 use Rattle.panels.specs.Addressed.{reaches}
 use Rattle.answers.specs.Reply.{sentBytes}
-use Rattle.answers.specs.Judged.{command, stored, judge}
+use Rattle.answers.specs.Judged.{command, stored, offAlready, takes, judge}
 use Rattle.answers.specs.Played.{turned, damagedReply, played}
 use Rattle.answers.specs.Sample.{twoPanels}
 use Rattle.demands.specs.Cases.{Case, tried, cases}
 
 pub p-cases : map (λ (c : Case). tried (c .burst)) cases ≡ cases
-unfolding settings foundFrom allowedByRow freshValues within allAllowed flatten _⊕_ xorAll isIntact verdictOf dataOf packetOf placeFrom reaches isHeard sentBytes command stored laidAt judge turned damagedReply played twoPanels cases
+unfolding settings foundFrom allowedByRow freshValues within allAllowed flatten _⊕_ xorAll isIntact verdictOf dataOf packetOf placeFrom reaches isHeard sentBytes command stored laidAt offAlready takes judge turned damagedReply played twoPanels cases
 p-cases = refl

@@ -7,7 +7,6 @@ use mathlib.Core.List.{List, [], map}
 use lib.Dec.{leb, eqb}
 use lib.ListN.{length, getD, length-map, List·getD-map}
 use Rattle.panels.specs.Calls.{ifThere}
-use Rattle.settings.specs.Settings.{allowedFor}
 use Rattle.packet.specs.declared.MonitorId.{MonitorId}
 use Rattle.packet.specs.declared.GroupId.{GroupId}
 use Rattle.packet.specs.declared.Control.the-variants.{Ack, Nack, Nav}
@@ -25,8 +24,9 @@ use Rattle.panels.proofs.Laws.{place-there}
 use Rattle.lists.proofs.Places.{getD-inside}
 use Rattle.panels.proofs.Formed.{empty-formed, added-formed, removed-formed, good-at}
 use Rattle.answers.specs.Reply.{silence, wordFrom}
-use Rattle.answers.specs.Judged.{Command, getOf, setOf, unavailable, command, judge, panelAfter, stored, taken, notAvailable, replyBy}
+use Rattle.answers.specs.Judged.{Command, getOf, setOf, unavailable, command, takes, judge, panelAfter, stored, taken, notAvailable, replyBy}
 use Rattle.answers.specs.Played.{turned, replyFrom, damagedReply, playedBy, played}
+use Rattle.answers.proofs.Orders.{taken-allowed}
 use Rattle.answers.proofs.Formed.{stored-own, stored-others, played-formed}
 use Rattle.demands.proofs.Cases.{p-cases}
 use Rattle.image_read.specs.Read.{Reading}
@@ -50,9 +50,9 @@ module _ (b : List ℕ) (i : MonitorId) (g : GroupId) (n : ℕ) (e : verdictOf b
   unfolding judge
   set-by (getOf row) d r = inl refl
   set-by unavailable d r = inl refl
-  set-by (setOf row vs) d r = go (allowedFor (p .profile) row vs) refl
+  set-by (setOf row vs) d r = go (takes row vs p) refl
     where
-      go : (t : Bool) → allowedFor (p .profile) row vs ≡ t
+      go : (t : Bool) → takes row vs p ≡ t
           → (panelAfter (cond t (taken (stored row vs p)) notAvailable) p ≡ p)
           ⊎ SetBy b p (panelAfter (cond t (taken (stored row vs p)) notAvailable) p)
       go false a = inl refl
@@ -65,10 +65,10 @@ module _ (b : List ℕ) (i : MonitorId) (g : GroupId) (n : ℕ) (e : verdictOf b
         intact = e;
         addressed = r;
         named = d;
-        inRange = a;
+        inRange = taken-allowed row vs p a;
         same = unfold stored in (refl, refl, refl);
-        stored = stored-own row vs p a (ok .full);
-        others = stored-others row vs p a (ok .full);
+        stored = stored-own row vs p (taken-allowed row vs p a) (ok .full);
+        others = stored-others row vs p (taken-allowed row vs p a) (ok .full);
       })
 
   turned-by : (turned i g (command (dataOf b (Intact i g n))) p ≡ p) ⊎ SetBy b p (turned i g (command (dataOf b (Intact i g n))) p)
@@ -99,7 +99,7 @@ judged-answer : (w : Wall) (i : MonitorId) (k : ℕ) (c : Command) → k < lengt
 unfolding judge
 judged-answer w i k (getOf row) h e = inr (inr (i, k, row, h, e, refl))
 judged-answer w i k unavailable h e = inr (inl (i, Nav, refl))
-judged-answer w i k (setOf row vs) h e = go (allowedFor (getD w k blank .profile) row vs)
+judged-answer w i k (setOf row vs) h e = go (takes row vs (getD w k blank))
   where
     go : (t : Bool) → Answer·Is w (replyBy i (cond t (taken (stored row vs (getD w k blank))) notAvailable))
     go true = inr (inl (i, Ack, refl))

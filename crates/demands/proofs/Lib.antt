@@ -6,5 +6,7 @@ pub mod Demand3
 pub mod Damage
 pub mod Profiles
 pub mod Forms
-pub mod WrongBoxes
+pub mod Power
+pub mod Again
 pub mod HostAndBox
+pub mod WrongBoxes

@@ -1,7 +1,7 @@
 -- Walls of both profiles, and the tint with its sign. Assumes nothing.
-use mathlib.Core.Path.{_≡_, refl, ap₂, _∙_}
-use mathlib.Core.Bool.{Bool, true, false, cond, _&&_, and-true, or-false}
-use mathlib.Core.List.{[], _∷_, _++_, map}
+use mathlib.Core.Path.{_≡_, refl, sym, ap₂, _∙_}
+use mathlib.Core.Bool.{Bool, true, false, cond, not, _&&_, and-true, or-false}
+use mathlib.Core.List.{List, [], _∷_, _++_, map}
 use Prim.Native.Nat.{ℕ, _<_}
 use native.Mathlib.Omega.{arith}
 use borrow.Author.Tests.{le-leb}
@@ -21,8 +21,9 @@ use Rattle.panels.specs.declared.Panel.{Panel}
 use Rattle.panels.specs.Wall.{blank, videoOf}
 use Rattle.panels.specs.Addressed.{reaches}
 use Rattle.panels.proofs.Values.{set-row}
-use Rattle.answers.specs.Judged.{setOf, judge, stored, taken, notAvailable, panelAfter}
+use Rattle.answers.specs.Judged.{setOf, offAlready, takes, judge, stored, taken, notAvailable, panelAfter}
 use Rattle.answers.specs.Played.{turned, played}
+use Rattle.answers.proofs.Formed.{off-same}
 use Rattle.demands.specs.Profiles.{OwnProfile, TintBack, inPhoenixRange, VideoAllowed, SeenAsSet}
 
 -- one panel and a set
@@ -31,13 +32,24 @@ one-set true true q p = refl
 one-set true false q p = refl
 one-set false t q p = refl
 
+-- power off to a panel that is off is not taken, and storing it changes nothing
+as-allowed : (r : Bool) (row : ℕ) (vs : List ℕ) (p : Panel) → cond (r && takes row vs p) (stored row vs p) p ≡ cond (r && allowedFor (p .profile) row vs) (stored row vs p) p
+unfolding takes
+as-allowed false row vs p = refl
+as-allowed true row vs p = go (allowedFor (p .profile) row vs) (offAlready row vs p) refl
+  where
+    go : (a t : Bool) → offAlready row vs p ≡ t → cond (a && not t) (stored row vs p) p ≡ cond a (stored row vs p) p
+    go false t e = refl
+    go true false e = refl
+    go true true e = sym (off-same row vs p e)
+
 pub own-profile : OwnProfile
 unfolding played turned judge
 own-profile w b i g n row values intact named k h =
     let f = turned i g (setOf row values) in
     let p = getD w k blank in
     let at = getD-inside (map f w) k blank (f blank) (rw (length-map w f) h) ∙ List·getD-map f w k blank in
-    rw (intact, named) (at ∙ one-set (reaches i g p) (allowedFor (p .profile) row values) (stored row values p) p)
+    rw (intact, named) (at ∙ one-set (reaches i g p) (takes row values p) (stored row values p) p ∙ as-allowed (reaches i g p) row values p)
 
 fits : (t : ℤ) → mag t < 128 → SFits w8 t
 fits t h = record { sfits = h }

@@ -18,7 +18,7 @@ use Rattle.answers.specs.declared.Answer.{Answer}
 use Rattle.answers.specs.declared.Answer.the-variants.{Silence, Word, Report}
 use Rattle.answers.specs.declared.Reply.{Reply}
 use Rattle.answers.specs.Reply.{silence, sentBytes}
-use Rattle.answers.specs.Judged.{command, stored, judge}
+use Rattle.answers.specs.Judged.{command, stored, offAlready, takes, judge}
 use Rattle.answers.specs.Played.{turned, damagedReply, played}
 use Rattle.line.specs.Session.{byBurst, Ended, session}
 use Rattle.answers.specs.Sample.{twoPanels}
@@ -39,7 +39,7 @@ others = byBurst everyNav ∷ byBurst neverStores ∷ firstAlone ∷ byBurst sto
 
 -- one computed test
 tested : (sentBy session ≡ ours) × (map (λ (box : Box). same (sentBy box) ours) others ≡ false ∷ false ∷ false ∷ false ∷ false ∷ [])
-unfolding settings foundFrom allowedByRow freshValues within allAllowed flatten _⊕_ xorAll isIntact verdictOf dataOf packetOf placeFrom reaches isHeard sentBytes command stored laidAt judge turned damagedReply played twoPanels byBurst written same
+unfolding settings foundFrom allowedByRow freshValues within allAllowed flatten _⊕_ xorAll isIntact verdictOf dataOf packetOf placeFrom reaches isHeard sentBytes command stored laidAt offAlready takes judge turned damagedReply played twoPanels byBurst written same
 tested = (refl, refl)
 
 same-bytes : (box : Box) → box twoPanels written ≡ session twoPanels written → sentBy box ≡ ours

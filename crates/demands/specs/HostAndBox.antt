@@ -1,42 +1,45 @@
 -- Host and box on one line. 01, "Host side".
-use Prim.Native.Nat.{ℕ, suc}
-use mathlib.Core.Bool.{true}
+use Prim.Native.Nat.{ℕ, zero, suc, _<_}
+use mathlib.Core.Bool.{true, cond}
 use mathlib.Core.Path.{_≡_}
-use mathlib.Core.List.{List, []}
-use lib.ListN.{getD, replicate}
+use mathlib.Core.List.{[]}
+use lib.Dec.{eqb}
+use lib.ListN.{getD}
 use Rattle.settings.specs.declared.Found.{Found}
 use Rattle.settings.specs.declared.Found.the-variants.{Set, Get, Nothing}
 use Rattle.settings.specs.Settings.{foundBy}
+use Rattle.packet.specs.Answered.{isHeard}
 use Rattle.panels.specs.declared.Panel.{Panel}
 use Rattle.panels.specs.declared.Table.{Table}
 use Rattle.panels.specs.declared.Place.the-variants.{At}
 use Rattle.panels.specs.Wall.{valuesOf, blank, placeOf, panelsOf}
 use Rattle.panels.specs.WellFormed.{WellFormed}
 use Rattle.answers.specs.Reply.{sentBytes}
+use Rattle.answers.specs.Judged.{offAlready}
 use Rattle.answers.specs.Played.{played}
-use Rattle.line.specs.Session.{session}
-use Rattle.packet.specs.Answered.{isHeard}
 use Rattle.requests.specs.declared.Request.{Request}
-use Rattle.host.specs.declared.Outcome.the-variants.{Ack, Report}
-use Rattle.requests.specs.Request.{requestPacket, isRequest}
-use Rattle.host.specs.Machine.{start, burst, Move, idle, over, step}
+use Rattle.requests.specs.Request.{valuesOf as requestValues, requestPacket, isRequest}
+use Rattle.host.specs.declared.Outcome.the-variants.{Ack, Nav, OffOrRefused, Report}
+use Rattle.host.specs.Machine.{start, burst, mark, State, Move, idle, over, step, mostSendings}
 
--- A burst, and so a set, leaves the same table however often it is sent.
-abbrev pub SentAgain : Type 0
-SentAgain =
-    (t : Table) → WellFormed t → (b : List ℕ) (n : ℕ)
-    → session (panelsOf t) (replicate (suc n) b) .wall ≡ played (panelsOf t) b .wall
+-- the host that was started with a request, and to which the mark then came n times
+abbrev pub asking : Request → ℕ → State
+asking r zero = step idle (start r) .next
+asking r (suc n) = step (asking r n) mark .next
 
--- after one sending: ACK for a set, and for a get the report of the panel's values
-abbrev pub EndsWith : Found → Panel → Move → Type 0
-EndsWith (Set row) p m = m ≡ over (Ack 1) []
-EndsWith (Get row) p m = m ≡ over (Report 1) (valuesOf row (p .values))
-EndsWith Nothing p m = ⊥
+-- The packet is the nth that was sent. A get ends with the report of the panel's values, a set with ACK; but a power off (02, A5)
+-- of a panel that is off with NAV, and where an earlier sending may have done it with "off or refused".
+abbrev pub EndsWith : Found → Request → Panel → ℕ → Move → Type 0
+EndsWith (Set row) r p n m =
+    m ≡ over (cond (offAlready row (requestValues r) p) (cond (eqb n 1) (Nav n) (OffOrRefused n)) (Ack n)) []
+EndsWith (Get row) r p n m = m ≡ over (Report n) (valuesOf row (p .values))
+EndsWith Nothing r p n m = ⊥
 
--- On a line that loses nothing, a request to a panel that is there, and of the profile that the request says, ends so.
+-- On a line that loses nothing, a request to a panel that is there, and of the profile that the request says, ends so: with the
+-- first packet, and also with a later one, which the host sends where an earlier one or its answer was lost after all.
 abbrev pub Lossless : Type 0
 Lossless =
-    (t : Table) → WellFormed t → (r : Request) (k : ℕ) → isRequest r ≡ true → isHeard (r .id) (r .group) ≡ true
-    → placeOf (r .id) (panelsOf t) ≡ At k → getD (panelsOf t) k blank .profile ≡ r .profile
+    (t : Table) → WellFormed t → (r : Request) (k n : ℕ) → isRequest r ≡ true → isHeard (r .id) (r .group) ≡ true
+    → placeOf (r .id) (panelsOf t) ≡ At k → getD (panelsOf t) k blank .profile ≡ r .profile → n < mostSendings
     → let answer = sentBytes (played (panelsOf t) (requestPacket r) .reply) in
-    EndsWith (foundBy (r .code)) (getD (panelsOf t) k blank) (step (step idle (start r) .next) (burst answer))
+    EndsWith (foundBy (r .code)) r (getD (panelsOf t) k blank) (suc n) (step (asking r n) (burst answer))

@@ -7,5 +7,7 @@ pub mod Demand3
 pub mod Damage
 pub mod Profiles
 pub mod Forms
+pub mod Power
+pub mod Again
 pub mod WrongBoxes
 pub mod HostAndBox

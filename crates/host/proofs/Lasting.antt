@@ -1,7 +1,7 @@
 -- A request is over at the latest with its third NACK or mark; every packet given out for it is the same and intact; the count in
 -- its result is the number of packets given out since start. Assumes nothing.
 use mathlib.Core.Path.{_≡_, refl, sym, ap, subst, _∙_}
-use mathlib.Core.Bool.{Bool, true, false, false≢true}
+use mathlib.Core.Bool.{Bool, true, false, cond, false≢true, _&&_}
 use mathlib.Core.Logic.{_⊎_, inl, inr, ⊎-elim}
 use mathlib.Core.List.{List, [], _∷_, _++_, append-assoc}
 use Prim.Native.Nat.{ℕ, suc, _+_, _≤_}
@@ -21,9 +21,10 @@ use Rattle.packet.proofs.Packets.{packet-verdict, packet-data}
 use Rattle.requests.specs.declared.Request.{Request}
 use Rattle.requests.specs.declared.Said.{Said}
 use Rattle.requests.specs.declared.Said.the-variants.{Ack, Nack, Nav, Report, Nothing}
-use Rattle.requests.specs.Request.{requestData, requestPacket, isRequest}
+use Rattle.requests.specs.Request.{requestData, requestPacket, isPowerOff, isRequest}
+use Rattle.host.specs.declared.Outcome.the-variants.{Nav as NotAvailable, OffOrRefused}
 use Rattle.host.specs.Heard.{saidTo, dataIn}
-use Rattle.host.specs.Machine.{Happening, start, burst, mark, State, Move, idle, sendings, mostSendings, waits, begun, again, ending, heard, telling, step}
+use Rattle.host.specs.Machine.{Happening, start, burst, mark, State, Move, idle, sendings, mostSendings, waits, begun, again, navEnds, ending, heard, telling, step}
 use Rattle.host.specs.Private.Lasting.{run, after, lasts, isNack, pushes, pushed, packets, countIn}
 
 -- one happening
@@ -52,11 +53,19 @@ pushed-on s = go (ltb (sendings s) mostSendings) refl
     go true e = inr (record { next = rw e; sent = rw e; few = λ h. omega (arith, ltb-true (sendings s) mostSendings e) })
     go false e = inl (record { over = rw e; none = rw e; count = rw e })
 
+nav-count : (s : State) → countIn (navEnds s) ≡ sendings s
+unfolding navEnds
+nav-count s = go (isPowerOff (s .request) && ltb 1 (sendings s))
+  where
+    go : (t : Bool) → countIn (cond t (OffOrRefused (sendings s)) (NotAvailable (sendings s))) ≡ sendings s
+    go true = refl
+    go false = refl
+
 told : (s : State) (d : List ℕ) (w : Said) → Ends s (ending s d w) ⊎ Goes s (isNack w) (ending s d w)
 unfolding ending
 told s d Ack = inl (record { over = refl; none = refl; count = refl })
 told s d Nack = pushed-on s
-told s d Nav = inl (record { over = refl; none = refl; count = refl })
+told s d Nav = inl (record { over = refl; none = refl; count = nav-count s })
 told s d Report = inl (record { over = refl; none = refl; count = refl })
 told s d Nothing = inr (record { next = refl; sent = refl; few = λ h. omega arith })
 

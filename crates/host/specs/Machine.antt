@@ -1,6 +1,6 @@
--- The host as a machine over happenings. 000, 2.2; 01, "Host side".
+-- The host as a machine over happenings. 000, 2.2; 01, "Host side"; 02, A5: a power off that gets NAV.
 use Prim.Native.Nat.{ℕ}
-use mathlib.Core.Bool.{Bool, cond}
+use mathlib.Core.Bool.{Bool, cond, _&&_}
 use mathlib.Core.List.{List, [], _∷_}
 use lib.ListN.{length, drop, replicate}
 use lib.Dec.{ltb}
@@ -13,10 +13,10 @@ use Rattle.packet.specs.declared.Damage.the-variants.{Nothing}
 use Rattle.requests.specs.declared.Request.{Request}
 use Rattle.host.specs.declared.Refusal.the-variants.{Busy, NotARequest}
 use Rattle.host.specs.declared.Outcome.{Outcome}
-use Rattle.host.specs.declared.Outcome.the-variants.{Idle, Waiting, Unheard, Ack as Acked, Nav as NotAvailable, Report as Reported, GivenUp, Refused}
+use Rattle.host.specs.declared.Outcome.the-variants.{Idle, Waiting, Unheard, Ack as Acked, Nav as NotAvailable, OffOrRefused, Report as Reported, GivenUp, Refused}
 use Rattle.requests.specs.declared.Said.{Said}
 use Rattle.requests.specs.declared.Said.the-variants.{Ack, Nack, Nav, Report, Nothing as Other}
-use Rattle.requests.specs.Request.{isRequest, requestPacket}
+use Rattle.requests.specs.Request.{isRequest, isPowerOff, requestPacket}
 use Rattle.host.specs.Heard.{saidTo, dataIn}
 
 -- A request is started, a burst is heard, or the mark says that 500 ms have passed.
@@ -82,11 +82,15 @@ again s =
     (move (record { request = s .request; given = p ∷ s .given }) (p ∷ []) Waiting [])
     (over (GivenUp (sendings s)) [])
 
+-- NAV: where a power off was sent more than once, an earlier sending may have done the work
+unfoldable pub navEnds : State → Outcome
+navEnds s = cond (isPowerOff (s .request) && ltb 1 (sendings s)) (OffOrRefused (sendings s)) (NotAvailable (sendings s))
+
 -- ACK, report and NAV end the request
 unfoldable pub ending : State → List ℕ → Said → Move
 ending s d Ack = over (Acked (sendings s)) []
 ending s d Nack = again s
-ending s d Nav = over (NotAvailable (sendings s)) []
+ending s d Nav = over (navEnds s) []
 ending s d Report = over (Reported (sendings s)) (drop 1 d)
 ending s d Other = quiet s Waiting
 

@@ -1,11 +1,12 @@
 // What a burst says to the host that waits, and what comes of it.
 ghost use mathlib.Core.Path.{_≡_};
+ghost use mathlib.Core.List.{[]};
 ghost use Prim.Native.Nat.{_≤_};
 ghost use lib.ListN.{length};
 ghost use Rattle.packet.specs.Packet.{longest};
 ghost use Rattle.host.specs.Calls.{stateOf, stepOf, Answers};
 ghost use Rattle.host.specs.Heard.{saidBy};
-ghost use Rattle.host.specs.Machine.{over, ending};
+ghost use Rattle.host.specs.Machine.{over, navEnds, ending};
 ghost use Rattle.settings.specs.Settings.{mostValues};
 ghost use Rattle.requests.specs.Said.{wordIn};
 use crate::Host;
@@ -36,6 +37,18 @@ fn reported(sendings: usize, v: &[u8]) -> Step
     }
 }
 
+// NAV has come. Where a power off was sent more than once, an earlier sending may have done the work.
+fn not_available(host: Host) -> Step
+    ensures { λ r. ⌜ r ≡ stepOf (over (navEnds (stateOf host)) []) ⌝ }
+{
+    let sendings = host.sendings;
+    let request = host.request;
+    if 1 < sendings && requests::is_power_off(request) {
+        return crate::plain(Host::idle(), 0, Outcome::OffOrRefused(sendings));
+    }
+    crate::plain(Host::idle(), 0, Outcome::Nav(sendings))
+}
+
 // The panel that was asked has sent this data.
 fn told(host: Host, d: &[u8], out: &mut [u8]) -> Step
     requires { ⌜ longest ≤ length (now out) ⌝ }
@@ -47,7 +60,7 @@ fn told(host: Host, d: &[u8], out: &mut [u8]) -> Step
     match word {
         Said::Ack => crate::plain(Host::idle(), 0, Outcome::Ack(host.sendings)),
         Said::Nack => sending::send_again(host, out),
-        Said::Nav => crate::plain(Host::idle(), 0, Outcome::Nav(host.sendings)),
+        Said::Nav => not_available(host),
         Said::Report => reported(host.sendings, &d[1..]),
         Said::Nothing => crate::plain(host, 0, Outcome::Waiting),
     }

@@ -30,13 +30,15 @@ pub enum Refusal {
     NotARequest,
 }
 
-// What has become of the request; a number is how often its packet was sent.
+// What has become of the request; a number is how often its packet was sent. A power off that was sent more than once and got
+// NAV has left the panel off, or was refused.
 pub enum Outcome {
     Idle,
     Waiting,
     Unheard(usize),
     Ack(usize),
     Nav(usize),
+    OffOrRefused(usize),
     Report(usize),
     GivenUp(usize),
     Refused(Refusal),

@@ -62,6 +62,7 @@ fn print_outcome(outcome: Outcome, values: &[u8]) {
         Outcome::Unheard(n) => print_counted(b"unheard", n as u64),
         Outcome::Ack(n) => print_counted(b"ack", n as u64),
         Outcome::Nav(n) => print_counted(b"nav", n as u64),
+        Outcome::OffOrRefused(n) => print_counted(b"off-or-refused", n as u64),
         Outcome::Report(n) => {
             print_counted(b"report", n as u64);
             io::write_all(1, b" ");

@@ -6,3 +6,4 @@ pub mod Laid
 pub mod Places
 pub mod Mapped
 pub mod Both
+pub mod Same

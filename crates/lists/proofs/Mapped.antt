@@ -21,6 +21,11 @@ module _ {A : Type 0} (f : A → A) (d : A) where
       ap₂ (λ (y : A) (m : List A). y ∷ m) (h 0 (omega arith) (λ e. omega arith))
       (map-one l k (le-of-suc-le-suc s) (λ j t n. h (suc j) (omega arith) (λ e. n (omega arith))))
 
+-- two rules that agree on every element
+pub map-alike : {A B : Type 0} (f g : A → B) (d : A) (l : List A) → ((j : ℕ) → j < length l → f (getD l j d) ≡ g (getD l j d)) → map f l ≡ map g l
+map-alike f g d [] h = refl
+map-alike {B} f g d (x ∷ l) h = ap₂ (λ (y : B) (m : List B). y ∷ m) (h 0 (omega arith)) (map-alike f g d l (λ j s. h (suc j) (omega arith)))
+
 pub take-map : {A B : Type 0} (f : A → B) (n : ℕ) (l : List A) → take n (map f l) ≡ map f (take n l)
 take-map f zero l = refl
 take-map f (suc n) [] = refl

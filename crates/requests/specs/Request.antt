@@ -1,11 +1,12 @@
--- A request and its packet. 01, "Host side"; 02, A1: the profile of the panel that it asks comes with it.
+-- A request and its packet. 01, "Host side"; 02, A1: the profile of the panel that it asks comes with it; A5: power off.
 use Prim.Native.Nat.{ℕ}
 use mathlib.Core.Bool.{Bool, false, not, _&&_}
 use mathlib.Core.List.{List, _∷_}
 use lib.ListN.{take}
 use lib.Dec.{leb, eqb}
+use Rattle.lists.specs.Lists.{same}
 use Rattle.settings.specs.declared.Profile.the-variants.{Phoenix}
-use Rattle.settings.specs.Settings.{foundBy, setCode, byteCount, allowedFor, mostValues, videoRow}
+use Rattle.settings.specs.Settings.{foundBy, setCode, byteCount, allowedFor, mostValues, powerRow, videoRow, off}
 use Rattle.profiles.specs.declared.Video.{Video}
 use Rattle.profiles.specs.Video.{bytesOf}
 use Rattle.settings.specs.declared.Found.{Found}
@@ -30,6 +31,10 @@ requestPacket r = packetOf (r .id) (r .group) (requestData r)
 unfoldable pub videoRequest : MonitorId → GroupId → Video → Request
 videoRequest i g v =
     record { profile = Phoenix; id = i; group = g; code = setCode videoRow; values = bytesOf v; count = byteCount videoRow }
+
+-- power off: the set 0x18 with the one value 1
+unfoldable pub isPowerOff : Request → Bool
+isPowerOff r = same (requestData r) (setCode powerRow ∷ off)
 
 -- a set to a group 0 to 254 with allowed values; a get, which has no values, where an answer is due
 unfoldable pub isTaken : Request → Found → Bool

@@ -5,7 +5,7 @@ ghost use mathlib.Core.List.{_∷_};
 ghost use lib.ListN.{take};
 ghost use Rattle.settings.specs.Settings.{allowedFor, rowCount, mostValues};
 ghost use Rattle.packet.specs.Packet.{writtenOf, outputOf};
-ghost use Rattle.requests.specs.Request.{isRequest, requestData, videoRequest};
+ghost use Rattle.requests.specs.Request.{isRequest, requestData, videoRequest, isPowerOff};
 ghost use Rattle.requests.specs.Said.{isControl, isReport, wordIn};
 use packet::Control;
 use packet::GroupId;
@@ -14,6 +14,8 @@ use packet::Written;
 use profiles::Video;
 use settings::Found;
 use settings::MOST_VALUES;
+use settings::OFF;
+use settings::POWER_ROW;
 use settings::Profile;
 use settings::VIDEO_ROW;
 
@@ -72,6 +74,17 @@ pub fn is_request(request: Request) -> bool
         }
         Found::Nothing => false,
     }
+}
+
+// Whether this turns a panel off.
+pub fn is_power_off(request: Request) -> bool
+    ensures { λ r. ⌜ r ≡ isPowerOff request ⌝ }
+{
+    if request.code != settings::set_code(POWER_ROW) {
+        return false;
+    }
+    let values = request.values;
+    request.count == 1 && values[0] == OFF
 }
 
 // The set of a Phoenix panel's video.

@@ -62,9 +62,16 @@ valueCount = 15
 abbrev pub mostValues : ℕ
 mostValues = 7
 
--- the row of video
+-- the rows of power and of video
+abbrev pub powerRow : ℕ
+powerRow = 0
+
 abbrev pub videoRow : ℕ
 videoRow = 1
+
+-- the values of power off; 001, 4.1.3
+abbrev pub off : List ℕ
+off = 1 ∷ []
 
 -- row k, counted from 0
 abbrev pub setting : ℕ → Setting

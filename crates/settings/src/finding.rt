@@ -4,7 +4,7 @@ ghost use Rattle.settings.specs.Settings.{foundBy};
 use crate::Found;
 
 // The settings' rows, by rising code.
-const POWER_ROW: usize = 0;
+pub const POWER_ROW: usize = 0;
 
 pub const VIDEO_ROW: usize = 1;
 

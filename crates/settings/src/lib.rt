@@ -7,6 +7,7 @@ ghost use Prim.Native.Nat.{_<_};
 ghost use lib.ListN.{length};
 ghost use Rattle.settings.specs.Settings.{setCode, getCode, byteCount, place, freshValues, valuesWith, rowCount, valueCount};
 ghost use Rattle.settings.specs.Private.Numbers.{paperTable};
+pub use finding::POWER_ROW;
 pub use finding::VIDEO_ROW;
 pub use finding::find_setting;
 pub use ranges::allowed;
@@ -19,6 +20,9 @@ pub const VALUE_COUNT: usize = 15;
 
 // How many one has at most.
 pub const MOST_VALUES: usize = 7;
+
+// The value of power that is off.
+pub const OFF: u8 = 1;
 
 // How many ranges there are beyond the first of each value byte.
 const MORE_COUNT: usize = 3;

@@ -1,11 +1,9 @@
 -- How the code judges: once for all panels what the data asks, then one panel after the other.
 use Prim.Native.Nat.{ℕ}
-use mathlib.Core.Bool.{Bool, false}
+use mathlib.Core.Bool.{Bool}
 use mathlib.Core.List.{List, [], _∷_}
 use lib.ListN.{getD, set}
-use Rattle.settings.specs.declared.Profile.{Profile}
 use Rattle.settings.specs.declared.Profile.the-variants.{General, Phoenix}
-use Rattle.profiles.specs.Numbers.{profileNumber}
 use Rattle.settings.specs.Settings.{allowedFor}
 use Rattle.panels.specs.Wall.{Wall, blank, tableOf}
 use Rattle.answers.specs.declared.Order.{Order}
@@ -20,12 +18,9 @@ orderOf (getOf row) = Report row
 orderOf (setOf row values) = Store row
 orderOf unavailable = NotAvailable
 
--- For each profile, by its number, whether its panels take the values of a set; and whether those of one do.
-abbrev pub takersOf : ℕ → List ℕ → List Bool
-takersOf row values = allowedFor General row values ∷ allowedFor Phoenix row values ∷ []
-
-abbrev pub isTaker : List Bool → Profile → Bool
-isTaker takers profile = getD takers (profileNumber profile) false
+-- For each profile, by its number, whether it allows the values of a set.
+abbrev pub allowedBy : ℕ → List ℕ → List Bool
+allowedBy row values = allowedFor General row values ∷ allowedFor Phoenix row values ∷ []
 
 -- an outcome with its wall in a table
 abbrev pub inTable : Outcome → Turned

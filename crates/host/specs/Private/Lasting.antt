@@ -7,7 +7,7 @@ use Rattle.host.specs.declared.Host.{Host}
 use Rattle.host.specs.declared.Step.{Step}
 use Rattle.requests.specs.declared.Request.{Request}
 use Rattle.host.specs.declared.Outcome.{Outcome}
-use Rattle.host.specs.declared.Outcome.the-variants.{Idle, Waiting, Unheard, Ack as Acked, Nav as NotAvailable, Report as Reported, GivenUp, Refused}
+use Rattle.host.specs.declared.Outcome.the-variants.{Idle, Waiting, Unheard, Ack as Acked, Nav as NotAvailable, OffOrRefused, Report as Reported, GivenUp, Refused}
 use Rattle.requests.specs.declared.Said.{Said}
 use Rattle.requests.specs.declared.Said.the-variants.{Ack, Nack, Nav, Report, Nothing}
 use Rattle.host.specs.Heard.{saidTo}
@@ -58,6 +58,7 @@ countIn Waiting = 0
 countIn (Unheard n) = n
 countIn (Acked n) = n
 countIn (NotAvailable n) = n
+countIn (OffOrRefused n) = n
 countIn (Reported n) = n
 countIn (GivenUp n) = n
 countIn (Refused r) = 0

@@ -18,9 +18,9 @@ use Rattle.answers.specs.declared.Order.{Order}
 use Rattle.answers.specs.declared.Reply.{Reply}
 use Rattle.answers.specs.declared.Turned.{Turned}
 use Rattle.answers.specs.Reply.{wordFrom, reportFrom}
-use Rattle.answers.specs.Judged.{Command, Judged, command, judge, stored, panelAfter, replyBy}
+use Rattle.answers.specs.Judged.{Command, Judged, command, judge, stored, takes, panelAfter, replyBy}
 use Rattle.answers.specs.Private.Orders.{asked}
-use Rattle.answers.proofs.Orders.{OrderIs, order-right, taker, taken-many, judge-get, judge-set, judge-not}
+use Rattle.answers.proofs.Orders.{OrderIs, order-right, taken-many, judge-get, judge-set, judge-not}
 use Rattle.answers.proofs.playing.play_one.Statement.{statement}
 use Rattle.answers.proofs.playing.play_one.Tie as tie
 
@@ -59,45 +59,44 @@ report-of-requires c κs = told (c .before .before .before) _ (c .before .order 
 enum-known-order-2 : tie.Need-enum-known-order-2
 enum-known-order-2 c = search needs
 
-takers-requires : tie.Need-takers-requires
-takers-requires c κs =
+allowed-by-requires : tie.Need-allowed-by-requires
+allowed-by-requires c κs =
     let o = told (c .before .before .before) _ (c .before .order2 .given .1) in
     (o .0, o .1)
 
 takes-requires : tie.Need-takes-requires
-takes-requires c κs = search needs
+takes-requires c κs = (told (c .before .before .before .before) _ (c .before .before .order2 .given .1) .1, c .allowed-by .ensures)
 
 -- the panel's judgement is the wall's panel's
 own : (c : tie.After-takes)
     → let read = c .before .before .before .before .before in
     let row = c .before .before .before .order2 .given .0 .0 in
-    allowedFor (getD (panelsOf (start read .args .t1)) (start read .args .k) blank .profile) row (drop 1 (start read .args .d .now)) ≡ c .takes .result
+    takes row (drop 1 (start read .args .d .now)) (getD (panelsOf (start read .args .t1)) (start read .args .k) blank) ≡ c .takes .result
 own c =
     let read = c .before .before .before .before .before in
     let row = c .before .before .before .order2 .given .0 .0 in
-    let vs = drop 1 (start read .args .d .now) in
-    ap (λ (q : Panel). allowedFor (q .profile) row vs) (sym (here read _)) ∙ taker _ row vs (c .before .takers .ensures) ∙ sym (c .takes .ensures)
+    ap (takes row (drop 1 (start read .args .d .now))) (sym (here read _)) ∙ sym (c .takes .ensures)
 
 word-from-requires : tie.Need-word-from-requires
 word-from-requires c κs = search needs
 
 returns : tie.Need-returns
 returns c =
-    let takes = c .before .before in
-    let read = takes .before .before .before .before .before in
+    let judged = c .before .before in
+    let read = judged .before .before .before .before .before in
     let a = start read .args in
-    let row = takes .before .before .before .order2 .given in
+    let row = judged .before .before .before .order2 .given in
     let o = told read _ (row .1) in
     let vs = drop 1 (a .d .now) in
     ap {B = Turned} (λ r. record { table = a .t1; reply = r }) (c .word-from .ensures ∙ ap (λ (q : Panel). wordFrom (q .id) Nav) (here read _))
-    ∙ asked-is (a .t1) (a .k) _ _ (a .t1) (judge-not (command (a .d .now)) (row .0 .0) vs _ (o .2) (own takes ∙ not-true _ (c .before .if1 .taken))) (unchanged (start read .pre .0) (a .k))
+    ∙ asked-is (a .t1) (a .k) _ _ (a .t1) (judge-not (command (a .d .now)) (row .0 .0) vs _ (o .2) (own judged ∙ not-true _ (c .before .if1 .taken))) (unchanged (start read .pre .0) (a .k))
 
 with-values-requires : tie.Need-with-values-requires
 with-values-requires c κs =
-    let takes = c .before in
-    let read = takes .before .before .before .before .before in
-    let o = told read _ (takes .before .before .before .order2 .given .1) in
-    (o .0, taken-many _ _ (start read .args .d .now) (o .1) (own takes ∙ not-false _ (c .if1 .left)))
+    let judged = c .before in
+    let read = judged .before .before .before .before .before in
+    let o = told read _ (judged .before .before .before .order2 .given .1) in
+    (o .0, taken-many _ (start read .args .d .now) _ (o .1) (own judged ∙ not-false _ (c .if1 .left)))
 
 mul-q : tie.Need-mul-q
 mul-q c = omega (arith, count-few (start (c .before .before .before .before .before .before .before) .pre .0))
@@ -126,17 +125,17 @@ returns-2 c =
 
 returns-3 : tie.Need-returns-3
 returns-3 c =
-    let takes = c .before .before .before in
-    let read = takes .before .before .before .before .before in
+    let judged = c .before .before .before in
+    let read = judged .before .before .before .before .before in
     let a = start read .args in
-    let row = takes .before .before .before .order2 .given in
+    let row = judged .before .before .before .order2 .given in
     let o = told read _ (row .1) in
     let vs = drop 1 (a .d .now) in
     ap₂ {C = Turned} (λ (q : Panel) (r : Reply). record { table = record { panels = set (a .t1 .panels) (a .k) q; count = a .t1 .count }; reply = r })
     (c .before .with-values .ensures ∙ ap (stored (row .0 .0) vs) (here read _))
     (c .word-from2 .ensures ∙ ap (λ (q : Panel). wordFrom (q .id) Ack) (here read _))
     ∙ asked-is (a .t1) (a .k) _ _ _
-    (judge-set (command (a .d .now)) (row .0 .0) vs _ (o .2) (own takes ∙ not-false _ (c .before .before .if1 .left)))
+    (judge-set (command (a .d .now)) (row .0 .0) vs _ (o .2) (own judged ∙ not-false _ (c .before .before .if1 .left)))
     (replaced (start read .pre .0) (a .k) (start read .pre .1) _)
 
 returns-4 : tie.Need-returns-4
@@ -156,7 +155,7 @@ play-one-spec =
     enum-known-order
     report-of-requires
     enum-known-order-2
-    takers-requires
+    allowed-by-requires
     takes-requires
     word-from-requires
     returns

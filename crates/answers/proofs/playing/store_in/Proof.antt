@@ -1,32 +1,30 @@
 -- An addressed panel that takes the values has them, another stays. Assumes nothing.
 use mathlib.Core.Path.{_≡_, refl, sym, _∙_}
-use mathlib.Core.Bool.{Bool, true, false}
+use mathlib.Core.Bool.{true, false}
 use mathlib.Core.Logic.{⊎-elim}
 use mathlib.Core.List.{List}
 use Prim.Native.Nat.{ℕ}
 use borrow.Author.Needs.{needs}
 use lib.ListN.{drop}
-use Rattle.settings.specs.Settings.{allowedFor}
 use Rattle.packet.specs.declared.MonitorId.{MonitorId}
 use Rattle.packet.specs.declared.GroupId.{GroupId}
 use Rattle.panels.specs.declared.Panel.{Panel}
 use Rattle.panels.specs.Addressed.{reaches}
-use Rattle.answers.specs.Judged.{setOf, stored}
-use Rattle.answers.specs.Private.Orders.{isTaker}
+use Rattle.answers.specs.Judged.{setOf, stored, takes}
 use Rattle.answers.specs.Played.{turned}
-use Rattle.answers.proofs.Orders.{taker, taken-many, judge-set, judge-not}
+use Rattle.answers.proofs.Orders.{taken-many, judge-set, judge-not}
 use Rattle.answers.proofs.Turns.{stays}
 use Rattle.answers.proofs.playing.store_in.Statement.{statement}
 use Rattle.answers.proofs.playing.store_in.Tie as tie
 
 module _ (i : MonitorId) (g : GroupId) (row : ℕ) (vs : List ℕ) (p : Panel) (r : reaches i g p ≡ true) where
-  took : allowedFor (p .profile) row vs ≡ true → turned i g (setOf row vs) p ≡ stored row vs p
+  took : takes row vs p ≡ true → turned i g (setOf row vs) p ≡ stored row vs p
   unfolding turned
-  took a = rw (r, judge-set (setOf row vs) row vs p refl a)
+  took t = rw (r, judge-set (setOf row vs) row vs p refl t)
 
-  kept : allowedFor (p .profile) row vs ≡ false → turned i g (setOf row vs) p ≡ p
+  kept : takes row vs p ≡ false → turned i g (setOf row vs) p ≡ p
   unfolding turned
-  kept a = rw (r, judge-not (setOf row vs) row vs p refl a)
+  kept t = rw (r, judge-not (setOf row vs) row vs p refl t)
 
 addresses-requires : tie.Need-addresses-requires
 addresses-requires c κs = search needs
@@ -34,29 +32,23 @@ addresses-requires c κs = search needs
 takes-requires : tie.Need-takes-requires
 takes-requires c κs = search needs
 
--- the panel's own profile decides
-own : (start : tie.Start) {t : Bool} → t ≡ isTaker (start .args .takers) (start .args .p .profile)
-    → allowedFor (start .args .p .profile) (start .args .row) (drop 1 (start .args .d .now)) ≡ t
-own start e = taker (start .args .p .profile) (start .args .row) (drop 1 (start .args .d .now)) (start .pre .2) ∙ sym e
-
 with-values-requires : tie.Need-with-values-requires
 with-values-requires c κs =
     let start = c .before .before .before .before .before in
-    (start .pre .0, taken-many _ _ (start .args .d .now) (start .pre .1) (own start (c .before .takes .ensures) ∙ c .if2 .taken))
+    (start .pre .0, taken-many _ (start .args .d .now) _ (start .pre .1) (sym (c .before .takes .ensures) ∙ c .if2 .taken))
 
 returns : tie.Need-returns
 returns c =
-    let takes = c .before .before in
-    let call = takes .before .before in
-    let r = sym (call .addresses .ensures) ∙ takes .before .if1 .taken in
-    c .with-values .ensures ∙ sym (took _ _ _ _ _ r (own (call .before .before) (takes .takes .ensures) ∙ c .before .if2 .taken))
+    let judged = c .before .before in
+    let r = sym (judged .before .before .addresses .ensures) ∙ judged .before .if1 .taken in
+    c .with-values .ensures ∙ sym (took _ _ _ _ _ r (sym (judged .takes .ensures) ∙ c .before .if2 .taken))
 
 returns-2 : tie.Need-returns-2
 returns-2 c =
     let call = c .before in
     let reached = sym (call .addresses .ensures) in
     ⊎-elim
-    (λ w. sym (kept _ _ _ _ _ (reached ∙ w .0 .taken) (own (call .before .before) (w .1 .ensures) ∙ w .2 .left)))
+    (λ w. sym (kept _ _ _ _ _ (reached ∙ w .0 .taken) (sym (w .1 .ensures) ∙ w .2 .left)))
     (λ w. sym (stays _ _ _ _ (reached ∙ w .left)))
     (c .if1 .came)
 

@@ -25,14 +25,14 @@ abbrev change : MonitorId → GroupId → ℕ → List ℕ → Panel → Panel
 change i g row d = turned i g (setOf row (drop 1 d))
 
 abbrev Inv-loop : tie.InvT-loop
-Inv-loop id group row d n takers table₀ k₀ table k =
+Inv-loop id group row d n allowed table₀ k₀ table k =
     (k ≤ n) × (table .count ≡ table₀ .count) × (table .panels ≡ take k (map (change id group row d) (table₀ .panels)) ++ drop k (table₀ .panels))
 
 abbrev μ-loop : tie.MeasureT-loop
-μ-loop id group row d n takers table₀ k₀ table k = n - k
+μ-loop id group row d n allowed table₀ k₀ table k = n - k
 
-takers-requires : tie.Need-takers-requires Inv-loop μ-loop
-takers-requires c κs = search needs
+allowed-by-requires : tie.Need-allowed-by-requires Inv-loop μ-loop
+allowed-by-requires c κs = search needs
 
 loop-holds : tie.Need-loop-holds Inv-loop μ-loop
 loop-holds c = (omega arith, refl, refl)
@@ -98,4 +98,4 @@ returns c =
 pub store-in-all-spec : {M : Type 1} → statement M
 store-in-all-spec =
     tie.close
-    (tie.spec Inv-loop μ-loop takers-requires loop-holds mul-store-in element-copy-out-store-in store-in-requires mul-p element-set-from-p add-k loop-less loop-again returns)
+    (tie.spec Inv-loop μ-loop allowed-by-requires loop-holds mul-store-in element-copy-out-store-in store-in-requires mul-p element-set-from-p add-k loop-less loop-again returns)

@@ -1,5 +1,6 @@
 -- Each word is a case of `ending`. Assumes nothing.
 use mathlib.Core.Path.{_≡_, sym, _∙_}
+use mathlib.Core.List.{[]}
 use borrow.Author.Needs.{needs}
 use native.Mathlib.Omega.{arith}
 use Prim.Native.Nat.{_+_, _≤_}
@@ -46,11 +47,8 @@ send-again-requires c κs = search needs
 enum-told-3 : tie.Need-enum-told-3
 enum-told-3 c = search needs
 
-idle-requires-2 : tie.Need-idle-requires-2
-idle-requires-2 c κs = search needs
-
-plain-requires-2 : tie.Need-plain-requires-2
-plain-requires-2 c κs = search needs
+not-available-requires : tie.Need-not-available-requires
+not-available-requires c κs = search needs
 
 enum-told-4 : tie.Need-enum-told-4
 enum-told-4 c = search needs
@@ -72,8 +70,8 @@ reported-requires c κs =
 enum-told-5 : tie.Need-enum-told-5
 enum-told-5 c = search needs
 
-plain-requires-3 : tie.Need-plain-requires-3
-plain-requires-3 c κs = search needs
+plain-requires-2 : tie.Need-plain-requires-2
+plain-requires-2 c κs = search needs
 
 returns : tie.Need-returns
 unfolding ending
@@ -93,8 +91,8 @@ returns-2 c =
 returns-3 : tie.Need-returns-3
 unfolding ending
 returns-3 c =
-    let said = c .before .before in
-    ends _ _ _ (c .before .idle2 .ensures) (rw (word (said .before .before) _ (said .enum-told3 .given .1), length-replicate)) (c .plain2 .ensures)
+    let said = c .before in
+    reports _ [] _ (rw (word (said .before .before) _ (said .enum-told3 .given .1))) (c .not-available .ensures)
 
 returns-4 : tie.Need-returns-4
 unfolding ending
@@ -109,7 +107,7 @@ returns-5 : tie.Need-returns-5
 unfolding ending
 returns-5 c =
     let said = c .before in
-    stays _ _ _ (rw (word (said .before .before) _ (said .enum-told5 .given .1))) (c .plain3 .ensures)
+    stays _ _ _ (rw (word (said .before .before) _ (said .enum-told5 .given .1))) (c .plain2 .ensures)
 
 pub told-spec : {M : Type 1} → statement M
 told-spec =
@@ -122,15 +120,14 @@ told-spec =
     enum-told-2
     send-again-requires
     enum-told-3
-    idle-requires-2
-    plain-requires-2
+    not-available-requires
     enum-told-4
     sub-reported
     part-reported-start
     part-reported-end
     reported-requires
     enum-told-5
-    plain-requires-3
+    plain-requires-2
     returns
     same-length
     returns-2

@@ -6,8 +6,8 @@ use Rattle.lists.proofs.Places.{rest}
 use Rattle.settings.specs.declared.Profile.the-variants.{General, Phoenix}
 use Rattle.settings.specs.Settings.{allowedFor}
 use borrow.Author.Needs.{needs}
-use Rattle.answers.proofs.judging.takers.Statement.{statement}
-use Rattle.answers.proofs.judging.takers.Tie as tie
+use Rattle.answers.proofs.judging.allowed_by.Statement.{statement}
+use Rattle.answers.proofs.judging.allowed_by.Tie as tie
 
 sub-allowed : tie.Need-sub-allowed
 sub-allowed c = search needs
@@ -42,8 +42,8 @@ returns c =
     (first .allowed .ensures ∙ ap (allowedFor General (a .row)) vs)
     (c .allowed2 .ensures ∙ ap (allowedFor Phoenix (a .row)) vs)
 
-pub takers-spec : {M : Type 1} → statement M
-takers-spec =
+pub allowed-by-spec : {M : Type 1} → statement M
+allowed-by-spec =
     tie.close
     (tie.spec
     sub-allowed

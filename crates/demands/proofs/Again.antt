@@ -1,0 +1,142 @@
+-- A burst sent again: panel by panel, and each panel by itself. Assumes nothing.
+use Prim.Native.Nat.{ℕ, _<_}
+use mathlib.Core.Bool.{Bool, true, false, false≢true, _&&_}
+use mathlib.Core.Path.{_≡_, refl, sym, ap, _∙_}
+use mathlib.Core.List.{List, [], _∷_, map, map-map, map-id}
+use lib.ListN.{length, getD}
+use Rattle.lists.proofs.Mapped.{map-alike}
+use Rattle.packet.specs.declared.MonitorId.{MonitorId}
+use Rattle.packet.specs.declared.GroupId.{GroupId}
+use Rattle.packet.specs.declared.Verdict.{Verdict}
+use Rattle.packet.specs.declared.Verdict.the-variants.{Empty, Damaged, Intact}
+use Rattle.packet.specs.Packet.{verdictOf, dataOf}
+use Rattle.panels.specs.declared.Panel.{Panel}
+use Rattle.panels.specs.Wall.{Wall, blank, panelsOf}
+use Rattle.panels.specs.Addressed.{reaches}
+use Rattle.panels.specs.WellFormed.{GoodPanel}
+use Rattle.panels.proofs.Formed.{good-at}
+use Rattle.answers.specs.Judged.{Command, getOf, setOf, unavailable, command, takes, judge, stored}
+use Rattle.answers.specs.Played.{turned, playedBy, played}
+use Rattle.answers.proofs.Orders.{taken-allowed}
+use Rattle.answers.proofs.Formed.{stored-twice, turned-keeps}
+use Rattle.answers.proofs.Turns.{stays}
+use Rattle.line.specs.Session.{byBurst, session}
+use Rattle.demands.specs.Again.{addressedBy, Apart, Again, done, again, other, SentAgain}
+
+-- what a burst makes of a panel, and bursts one after the other
+abbrev changedBy : Verdict → List ℕ → Panel → Panel
+changedBy Empty b p = p
+changedBy (Damaged d) b p = p
+changedBy (Intact i g n) b p = turned i g (command (dataOf b (Intact i g n))) p
+
+abbrev changed : List ℕ → Panel → Panel
+changed b = changedBy (verdictOf b) b
+
+abbrev changedByAll : List (List ℕ) → Panel → Panel
+changedByAll [] p = p
+changedByAll (b ∷ bs) p = changedByAll bs (changed b p)
+
+played-each : (w : Wall) (b : List ℕ) → played w b .wall ≡ map (changed b) w
+unfolding played
+played-each w b = go (verdictOf b)
+  where
+    go : (v : Verdict) → playedBy v w b .wall ≡ map (changedBy v b) w
+    go Empty = sym (map-id w)
+    go (Damaged d) = sym (map-id w)
+    go (Intact i g n) = refl
+
+session-each : (w : Wall) (bs : List (List ℕ)) → session w bs .wall ≡ map (changedByAll bs) w
+unfolding byBurst
+session-each w [] = sym (map-id w)
+session-each w (b ∷ bs) = session-each (played w b .wall) bs ∙ ap (map (changedByAll bs)) (played-each w b) ∙ map-map (changedByAll bs) (changed b) w
+
+-- a panel that is not addressed stays, and whom another burst addresses stays so too
+not-addressed : (v : Verdict) (b : List ℕ) (p : Panel) → addressedBy v p ≡ false → changedBy v b p ≡ p
+not-addressed Empty b p e = refl
+not-addressed (Damaged d) b p e = refl
+not-addressed (Intact i g n) b p e = stays i g _ p e
+
+same-reached : (i : MonitorId) (g : GroupId) (v : Verdict) (b : List ℕ) (p : Panel) → reaches i g (changedBy v b p) ≡ reaches i g p
+unfolding stored reaches
+same-reached i g Empty b p = refl
+same-reached i g (Damaged d) b p = refl
+same-reached i g (Intact j h n) b p = turned-keeps (reaches i g) p (λ row vs. refl) j h _
+
+same-addressed : (v : Verdict) (c : List ℕ) (p : Panel) → addressedBy v (changed c p) ≡ addressedBy v p
+same-addressed Empty c p = refl
+same-addressed (Damaged d) c p = refl
+same-addressed (Intact i g n) c p = same-reached i g (verdictOf c) c p
+
+-- A panel that a packet turned is not turned further by it.
+module _ (i : MonitorId) (g : GroupId) (p : Panel) (good : GoodPanel p) where
+  unmoved : (c : Command) → turned i g c p ≡ p → turned i g c (turned i g c p) ≡ turned i g c p
+  unmoved c e = ap (turned i g c) e
+
+  -- it has the values: it takes them once more, which changes nothing, or it takes them no longer
+  set-again : (row : ℕ) (vs : List ℕ) → reaches i g p ≡ true → takes row vs p ≡ true → turned i g (setOf row vs) (stored row vs p) ≡ stored row vs p
+  unfolding turned judge
+  set-again row vs r a = go (takes row vs (stored row vs p)) refl
+    where
+      there : reaches i g (stored row vs p) ≡ true
+      there = unfold stored reaches in r
+
+      go : (t : Bool) → takes row vs (stored row vs p) ≡ t → turned i g (setOf row vs) (stored row vs p) ≡ stored row vs p
+      go true t = rw (there, t) (stored-twice row vs p (taken-allowed row vs p a) (good .full))
+      go false t = rw (there, t)
+
+  asked-again : (c : Command) → reaches i g p ≡ true → turned i g c (turned i g c p) ≡ turned i g c p
+  unfolding turned judge
+  asked-again (getOf row) r = unmoved (getOf row) (rw r)
+  asked-again unavailable r = unmoved unavailable (rw r)
+  asked-again (setOf row vs) r = go (takes row vs p) refl
+    where
+      go : (t : Bool) → takes row vs p ≡ t → turned i g (setOf row vs) (turned i g (setOf row vs) p) ≡ turned i g (setOf row vs) p
+      go false a = unmoved (setOf row vs) (rw (r, a))
+      go true a =
+          let once : turned i g (setOf row vs) p ≡ stored row vs p = rw (r, a) in
+          ap (turned i g (setOf row vs)) once ∙ set-again row vs r a ∙ sym once
+
+  turned-again : (c : Command) → turned i g c (turned i g c p) ≡ turned i g c p
+  turned-again c = go (reaches i g p) refl
+    where
+      go : (t : Bool) → reaches i g p ≡ t → turned i g c (turned i g c p) ≡ turned i g c p
+      go true r = asked-again c r
+      go false r = unmoved c (stays i g c p r)
+
+changed-again : (v : Verdict) (b : List ℕ) (p : Panel) → GoodPanel p → changedBy v b (changedBy v b p) ≡ changedBy v b p
+changed-again Empty b p good = refl
+changed-again (Damaged d) b p good = refl
+changed-again (Intact i g n) b p good = turned-again i g p good _
+
+-- Nor after a burst that does not address it as well.
+among-others : (b c : List ℕ) (q : Panel) → (addressedBy (verdictOf b) q && addressedBy (verdictOf c) q) ≡ false → changed b q ≡ q
+    → changed b (changed c q) ≡ changed c q
+among-others b c q apart settled = go (addressedBy (verdictOf b) q) refl
+  where
+    go : (t : Bool) → addressedBy (verdictOf b) q ≡ t → changed b (changed c q) ≡ changed c q
+    go true e =
+        let still = not-addressed (verdictOf c) c q (rw e at apart) in
+        ap (changed b) still ∙ settled ∙ sym still
+    go false e = not-addressed (verdictOf b) b (changed c q) (same-addressed (verdictOf b) c q ∙ e)
+
+module _ (w : Wall) (b : List ℕ) (k : ℕ) (inside : k < length w) where
+  abbrev p : Panel
+  p = getD w k blank
+
+  sent-among : {bs others : List (List ℕ)} → Again w b bs others → (q : Panel) → ((v : Verdict) → addressedBy v q ≡ addressedBy v p)
+      → changed b q ≡ q → changedByAll bs q ≡ changedByAll others q
+  sent-among done q alike settled = refl
+  sent-among (again {bs} rest) q alike settled = ap (changedByAll bs) settled ∙ sent-among rest q alike settled
+  sent-among (other c apart rest) q alike settled =
+      sent-among rest (changed c q) (λ v. same-addressed v c q ∙ alike v)
+      (among-others b c q (rw (alike (verdictOf b), alike (verdictOf c)) (apart k inside)) settled)
+
+pub sent-again : SentAgain
+sent-again t f b bs others sent =
+    let w = panelsOf t in
+    session-each w (b ∷ bs)
+    ∙ map-alike _ _ blank w
+    (λ k h.
+    let p = getD w k blank in
+    sent-among w b k h sent (changed b p) (λ v. same-addressed v b p) (changed-again (verdictOf b) b p (good-at w (f .good) k h)))
+    ∙ sym (session-each w (b ∷ others))

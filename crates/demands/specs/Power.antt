@@ -1,0 +1,37 @@
+-- Power off and on, in the paper's numbers: set 0x18, 1 off, 2 on. 02, A5.
+use Prim.Native.Nat.{ℕ}
+use mathlib.Core.Bool.{cond, _&&_, _||_}
+use mathlib.Core.Path.{_≡_}
+use mathlib.Core.List.{List, [], _∷_}
+use lib.Dec.{leb, eqb}
+use lib.ListN.{getD}
+use Rattle.lists.specs.Lists.{same}
+use Rattle.packet.specs.declared.MonitorId.{MonitorId}
+use Rattle.packet.specs.declared.Control.the-variants.{Ack, Nav}
+use Rattle.packet.specs.Packet.{groupId, packetOf}
+use Rattle.panels.specs.declared.Table.{Table}
+use Rattle.panels.specs.declared.Place.the-variants.{At}
+use Rattle.panels.specs.Wall.{blank, placeOf, panelsOf}
+use Rattle.panels.specs.WellFormed.{WellFormed}
+use Rattle.answers.specs.Reply.{wordFrom}
+use Rattle.answers.specs.Played.{played}
+use Rattle.requests.specs.declared.Said.the-variants.{Nav as NavSaid}
+use Rattle.requests.specs.Request.{requestData}
+use Rattle.host.specs.declared.Outcome.the-variants.{Nav as NavHeard, OffOrRefused}
+use Rattle.host.specs.Machine.{State, sendings, over, ending}
+
+-- A panel that is there answers the set of power with ACK: on always, and off while it is on. Every other value, and off while it
+-- is off, is NAV.
+abbrev pub PowerSet : Type 0
+PowerSet =
+    (t : Table) → WellFormed t → (i : MonitorId) (k v : ℕ) → placeOf i (panelsOf t) ≡ At k
+    → let power = getD (getD (panelsOf t) k blank .values) 0 0 in
+    played (panelsOf t) (packetOf i (groupId 0) (0x18 ∷ v ∷ [])) .reply ≡ wordFrom i (cond (eqb v 2 || eqb v 1 && eqb power 2) Ack Nav)
+
+-- NAV ends a request; "off or refused" is for a power off alone, and only where it was sent twice or three times.
+abbrev pub NavEnds : Type 0
+NavEnds =
+    (s : State) (d : List ℕ)
+    → let n = sendings s in
+    ending s d NavSaid
+    ≡ over (cond (same (requestData (s .request)) (0x18 ∷ 1 ∷ []) && leb 2 n) (OffOrRefused n) (NavHeard n)) []
