@@ -31,6 +31,15 @@ pub fn reply_to(burst: &[u8]) -> Reply
     played.reply
 }
 
+// Its reply to the burst the second time.
+pub fn reply_again(burst: &[u8]) -> Reply
+    ensures { λ r. ⌜ r ≡ played (played twoPanels (now (burst .entry)) .wall) (now (burst .entry)) .reply ⌝ }
+{
+    let first = answers::play(two_panels(), burst);
+    let second = answers::play(first.table, burst);
+    second.reply
+}
+
 // Bytes in upper-case hex, or a dash where there are none, at the front of out; answers how many characters.
 pub fn shown(bytes: &[u8], out: &mut [u8]) -> usize
     ensures { λ r. ⌜ r ≡ shownCount (now (bytes .entry)) (now (out .entry)) ⌝ }

@@ -1,4 +1,4 @@
-// Plays each burst of standard input on a fresh sample wall, and prints the burst and its answer.
+// Plays each burst of standard input on a fresh sample wall, and once more, and prints the burst and its two answers.
 use text::LONGEST_STEP;
 use text::Read;
 
@@ -9,6 +9,9 @@ fn answer(burst: &[u8]) {
     io::write_all(1, b" ");
     let answered = sample::shown_answer(sample::reply_to(burst), &mut digits);
     io::write_all(1, text::front(&digits, answered));
+    io::write_all(1, b" ");
+    let again = sample::shown_answer(sample::reply_again(burst), &mut digits);
+    io::write_all(1, text::front(&digits, again));
     io::write_all(1, b"\n");
 }
 
