@@ -70,7 +70,8 @@ struct undivarro_result {
  * none included. The answer packet, ready to be sent, goes to the front of answer, and the image after the burst to the
  * front of out, in form 2; the bytes past them stay as they were. A damaged burst is no refusal: its answer is NACK or
  * silence, and damage says what was wrong with it. Each panel judges a set by its own profile: of a group, one may take
- * it while its neighbour keeps what it had. */
+ * it while its neighbour keeps what it had. Power off to a panel that is off gets NAV and changes nothing; any other set
+ * to the value that is there, power on too, gets ACK. */
 struct undivarro_result undivarro_play(const uint8_t *image, size_t image_len,
                                        const uint8_t *burst, size_t burst_len,
                                        uint8_t *answer, size_t answer_cap,

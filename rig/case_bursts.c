@@ -5,7 +5,7 @@
 #include "checksum.h"
 
 const char *const burst_kind_names[BURST_KINDS] = {
-    "empty", "get", "set", "set with any values", "set of video for one profile", "set with any length",
+    "empty", "get", "set", "set with any values", "set of video for one profile", "power off or on", "set with any length",
     "get with bytes behind it", "any code", "no data", "36 bytes of data", "one byte changed", "one byte lost",
     "one byte added", "two bytes swapped", "1 to 3 bytes", "41 to 300 bytes", "over 65,535 bytes", "3 to 5 or 39 to 41 bytes",
     "random bytes",
@@ -24,7 +24,7 @@ static void close_packet(uint8_t *burst, size_t len)
     set_checksum(burst, len);
 }
 
-/* A set that one profile alone allows goes to all or to a group more often. */
+/* A set that panels may judge each in its own way goes to all or to a group more often. */
 static void address(struct source *s, enum burst_kind kind, const struct draft *d, uint8_t *id, uint8_t *group)
 {
     uint8_t an_id = any_byte(s), a_group = any_byte(s);
@@ -34,7 +34,7 @@ static void address(struct source *s, enum burst_kind kind, const struct draft *
     }
     *id = an_id;
     *group = 0;
-    switch (below(s, kind == BURST_SET_ONE_PROFILE ? 3 : 8)) {
+    switch (below(s, kind == BURST_SET_ONE_PROFILE || kind == BURST_SET_POWER ? 3 : 8)) {
     case 0:
         *id = 0;
         break;
@@ -54,8 +54,6 @@ static void address(struct source *s, enum burst_kind kind, const struct draft *
 static size_t make_set(struct source *s, enum burst_kind kind, unsigned row, uint8_t *data)
 {
     uint8_t profile = any_profile(s);
-    if (kind == BURST_SET_ONE_PROFILE)
-        row = VIDEO;
     size_t len = 1u + rows[row].count;
     data[0] = rows[row].set_code;
     values(s, row, profile, data + 1);
@@ -63,6 +61,8 @@ static size_t make_set(struct source *s, enum burst_kind kind, unsigned row, uin
         spoil_value(s, row, profile, data + 1);
     if (kind == BURST_SET_ONE_PROFILE)
         put_own_value(s, profile, data + 1);
+    if (kind == BURST_SET_POWER)
+        data[1] = one_in(s, 4) ? 2 : 1;         /* off more often than on */
     if (kind == BURST_SET_LENGTH) {
         data[len] = (uint8_t)below(s, 3);
         len = one_in(s, 2) ? len - 1 : one_in(s, 2) ? len + 1 : 1 + below(s, 9);
@@ -73,7 +73,8 @@ static size_t make_set(struct source *s, enum burst_kind kind, unsigned row, uin
 /* The data bytes, which are 0 before; their number. */
 static size_t make_data(struct source *s, enum burst_kind kind, uint8_t *data)
 {
-    unsigned row = one_in(s, 4) ? VIDEO : below(s, ROWS);
+    bool video = kind == BURST_SET_ONE_PROFILE || one_in(s, 4);
+    unsigned row = kind == BURST_SET_POWER ? POWER : video ? VIDEO : below(s, ROWS);
     switch (kind) {
     case BURST_GET:
         data[0] = rows[row].get_code;
@@ -195,7 +196,7 @@ void make_burst(struct source *s, struct test_case *c, const struct draft *d)
 {
     enum burst_kind kind = below(s, BURST_KINDS);
     if (one_in(s, 3))
-        kind = one_in(s, 3) ? BURST_SET_ONE_PROFILE : BURST_SET;
+        kind = one_in(s, 3) ? BURST_SET_ONE_PROFILE : one_in(s, 3) ? BURST_SET_POWER : BURST_SET;
     if (kind == BURST_VERY_LONG && !one_in(s, 8))
         kind = BURST_GET;
     c->burst_kind = kind;

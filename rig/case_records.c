@@ -60,12 +60,28 @@ static void choose_profiles(struct source *s, struct draft *d)
         d->records[one_in(s, 2) ? d->count - 1 : below(s, (unsigned)d->count)].profile = other_profile(most);
 }
 
+/* The place of the setting among the record's fields, or their number. */
+static unsigned field_of(const struct record *r, unsigned row)
+{
+    unsigned f = 0;
+    while (f < r->fields && r->row_of[f] != row)
+        f++;
+    return f;
+}
+
+static void turn_off(struct record *r)
+{
+    unsigned f = field_of(r, POWER);
+    if (f < r->fields)
+        r->bytes[r->at[f] + 2] = 1;
+}
+
 void make_draft(struct source *s, struct draft *d, enum image_kind kind)
 {
     d->form = one_in(s, 3) ? 1 : 2;
     d->count = kind == IMAGE_NO_PANELS ? 0 : kind == IMAGE_33_PANELS ? MAX_RECORDS : panel_count(s);
     choose_profiles(s, d);
-    bool taken[256] = {[0] = true};
+    bool taken[256] = {[0] = true}, all_off = one_in(s, 6);
     uint8_t groups[4] = {(uint8_t)(1 + below(s, 254)), one_in(s, 2) ? 1 : 254, 255, 9};
     for (size_t k = 0; k < d->count; k++) {
         struct record *r = &d->records[k];
@@ -78,22 +94,15 @@ void make_draft(struct source *s, struct draft *d, enum image_kind kind)
         r->bytes[2] = r->profile;       /* in form 1 the first field comes over it */
         r->len = head_len(d);
         add_fields(s, r, kind);
+        if (all_off)
+            turn_off(r);
     }
-}
-
-/* The place of the record's video among its fields, or their number. */
-static unsigned video_at(const struct record *r)
-{
-    unsigned f = 0;
-    while (f < r->fields && r->row_of[f] != VIDEO)
-        f++;
-    return f;
 }
 
 bool video_left_out(const struct draft *d, uint8_t profile)
 {
     for (size_t k = 0; k < d->count; k++)
-        if (d->records[k].profile == profile && video_at(&d->records[k]) == d->records[k].fields)
+        if (d->records[k].profile == profile && field_of(&d->records[k], VIDEO) == d->records[k].fields)
             return true;
     return false;
 }
@@ -101,7 +110,7 @@ bool video_left_out(const struct draft *d, uint8_t profile)
 /* A value of the video that the other profile alone allows. */
 static void spoil_video(struct source *s, struct record *r)
 {
-    unsigned f = video_at(r);
+    unsigned f = field_of(r, VIDEO);
     if (f == r->fields)
         add_field(s, r, VIDEO);
     put_own_value(s, other_profile(r->profile), r->bytes + r->at[f] + 2);

@@ -14,7 +14,7 @@ struct row {
     struct choice allowed, not_allowed;
 };
 
-enum { ROWS = 8, VIDEO = 1 };
+enum { POWER, VIDEO, ROWS = 8 };
 
 extern const struct row rows[ROWS];
 

@@ -81,9 +81,8 @@ static void count_limits(struct damages *d, const struct test_case *c, uint32_t 
 /* A burst of 1 or 2 bytes has no ID and group to be answered by. */
 static void count_answer(unsigned long *met, const struct test_case *c, const struct trial *t)
 {
-    enum { NACK = 0x15 };
     if (t->result.answer_len > 0)
-        met[WAY_NACK] += t->answer[GUARD + 4] == NACK;
+        met[WAY_NACK] += control_of(t) == NACK;
     else if (c->burst_len >= 3)
         met[c->burst[2] != 0 ? WAY_OTHER_GROUP : WAY_NO_PANEL]++;
 }

@@ -62,7 +62,7 @@ static void print_line(FILE *to, const struct played *played)
     fputs(": ", to);
     say_burst(to, played->burst, played->len, played->damage);
     fputs(": ", to);
-    say_answer(to, played->answer, played->answer_len);
+    say_answer(to, played->burst, played->len, played->answer, played->answer_len);
     fputc('\n', to);
 }
 

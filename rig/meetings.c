@@ -2,7 +2,7 @@
 
 #include <string.h>
 
-#include "plain.h"
+#include "walls.h"
 
 const char *const wall_kind_names[WALL_KINDS] = {
     "form 1, no panels", "form 2, no panels", "form 1", "form 2, all general", "form 2, all Phoenix", "form 2, both profiles",
@@ -25,26 +25,11 @@ const char *const meeting_names[MEETINGS] = {
     "set to all, Phoenix panels took it and general ones did not",
 };
 
-/* A wall in form 2, as it is written. */
-enum { RECORD = 34, GROUP_AT = 1, PROFILE_AT = 2, VIDEO_AT = 8, VIDEO_LEN = 7 };
-
-enum { ACK = 0x06, NAV = 0x18 };
-
-struct wall {
-    size_t count;
-    uint8_t records[UNDIVARRO_IMAGE_CAP];
-};
-
-static const uint8_t *record_at(const uint8_t *records, size_t k)
-{
-    return records + RECORD * k;
-}
-
 static size_t phoenix_count(const struct wall *wall)
 {
     size_t count = 0;
     for (size_t k = 0; k < wall->count; k++)
-        count += record_at(wall->records, k)[PROFILE_AT] == UNDIVARRO_PHOENIX;
+        count += record_at(wall->image, k)[PROFILE_AT] == UNDIVARRO_PHOENIX;
     return count;
 }
 
@@ -101,23 +86,23 @@ static void count_room(unsigned long *met, const struct test_case *c, uint32_t r
     else
         met[MET_BACK_ROOM_FOR_1] += refusal == 0 && !for_2;
     if (refusal == 31 && wall->count > 1 && phoenix_count(wall) == 1)
-        met[MET_31_LAST] += record_at(wall->records, wall->count - 1)[PROFILE_AT] == UNDIVARRO_PHOENIX;
+        met[MET_31_LAST] += record_at(wall->image, wall->count - 1)[PROFILE_AT] == UNDIVARRO_PHOENIX;
 }
 
 /* The burst is a set of video that one profile alone allows. */
 static void count_set(unsigned long *met, const struct test_case *c, const struct trial *t, size_t panels)
 {
-    uint8_t id = c->burst[1], group = c->burst[2];
     bool took[2] = {false, false}, kept[2] = {false, false};
     for (size_t k = 0; k < panels; k++) {
         const uint8_t *record = record_at(t->out + GUARD, k);
-        if (group == 0 ? id == 0 || record[0] == id : group != 255 && record[GROUP_AT] == group) {
+        if (is_addressed(c, record)) {
             bool has = memcmp(record + VIDEO_AT, c->burst + 4, VIDEO_LEN) == 0;
             (has ? took : kept)[record[PROFILE_AT]] = true;
         }
     }
+    uint8_t id = c->burst[1], group = c->burst[2];
     if (group == 0 && id != 0) {
-        uint8_t control = t->result.answer_len > 0 ? t->answer[GUARD + 4] : 0;
+        uint8_t control = control_of(t);
         met[MET_GENERAL_ACK] += took[UNDIVARRO_GENERAL] && control == ACK;
         met[MET_GENERAL_NAV] += kept[UNDIVARRO_GENERAL] && control == NAV;
         met[MET_PHOENIX_ACK] += took[UNDIVARRO_PHOENIX] && control == ACK;
@@ -134,9 +119,8 @@ void count_meetings(struct meetings *m, const struct test_case *c, const struct 
     if (c->spoilings == 1)
         count_spoiled(m->met, c, refusal);
     struct wall wall;
-    if (plain_read(c->image, c->image_len, wall.records, sizeof wall.records).refusal)
+    if (!read_wall(c, &wall))
         return;
-    wall.count = c->image[c->image_len - 2];
     count_room(m->met, c, refusal, &wall);
     if (refusal != 0 && refusal != 31)
         return;

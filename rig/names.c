@@ -25,8 +25,8 @@ const struct setting *setting_of(uint8_t code)
 
 const char *value_word(const struct setting *setting, uint8_t value)
 {
-    static const char *const power_words[] = {NULL, "off", "on"};
-    return setting == &settings[POWER] && value <= 2 ? power_words[value] : NULL;
+    static const char *const power_words[] = {[OFF] = "off", [ON] = "on"};
+    return setting == &settings[POWER] && value <= ON ? power_words[value] : NULL;
 }
 
 bool is_tint(const struct setting *setting, unsigned i)

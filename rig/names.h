@@ -7,6 +7,7 @@
 
 enum { POWER, VIDEO, COLOUR_TEMPERATURE, AUDIO, FAN, COLD_START, APM, POWER_SAVING, SETTINGS };
 enum { MAX_VALUES = 7 };
+enum { OFF = 1, ON = 2 };               /* power */
 
 struct setting {
     const char *name;

@@ -61,19 +61,27 @@ static bool is_addressed(const struct panel *panel, uint8_t id, uint8_t group)
     return group != GROUP_OFF && panel->group == group;
 }
 
-/* Stores the set in each addressed panel whose profile allows it; whether the answering panel is one of them. */
+/* Power off to a panel that is off: 02's A5. */
+static bool is_off_already(const struct panel *panel, const struct setting *s, const uint8_t *values)
+{
+    return s->set_code == SET_POWER && values[0] == POWER_OFF && panel->values[s->place] == POWER_OFF;
+}
+
+/* Stores the set in each addressed panel whose profile allows it; whether the answering panel takes it. A panel that is off
+ * already refuses, but in the answer alone: what is stored there is what it has. */
 static bool store(struct wall *wall, uint8_t id, uint8_t group, const struct setting *s, const uint8_t *values,
                   const struct panel *answering)
 {
     bool allowed[PROFILES];
     for (uint8_t profile = 0; profile < PROFILES; profile++)
         allowed[profile] = all_allowed(s, profile, values);
+    bool taken = answering && allowed[answering->profile] && !is_off_already(answering, s, values);
     for (size_t i = 0; i < wall->count; i++) {
         struct panel *panel = &wall->panels[i];
         if (allowed[panel->profile] && is_addressed(panel, id, group))
             memcpy(panel->values + s->place, values, s->count);
     }
-    return answering && allowed[answering->profile];
+    return taken;
 }
 
 /* Answering a burst: the length of the answer. answer has room for 40 bytes. */
@@ -96,10 +104,10 @@ static size_t answer_burst(struct wall *wall, const uint8_t *burst, size_t len, 
     const struct setting *s;
     if (data_len == 1 && (s = setting_by_get_code(data[0])))
         return answering ? write_answer(answer, id, s->get_code, answering->values + s->place, s->count) : 0;
-    bool stored = false;
+    bool taken = false;
     if (data_len > 1 && (s = setting_by_set_code(data[0])) && data_len - 1 == s->count)
-        stored = store(wall, id, group, s, data + 1, answering);
-    return answering ? write_control(answer, id, stored ? ACK : NAV) : 0;
+        taken = store(wall, id, group, s, data + 1, answering);
+    return answering ? write_control(answer, id, taken ? ACK : NAV) : 0;
 }
 
 /* For C */

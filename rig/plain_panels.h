@@ -31,9 +31,11 @@ static const struct range power[] = {{1, 2}}, colour_temperature[] = {{0, 13}}, 
 static const struct range video[] = {{0, 100}, {0, 100}, {0, 100}, {0, 100}, {0, 100}, {0, 100}, {1, 5}};
 static const struct range phoenix_video[] = {{0, 100}, {0, 100}, {0, 100}, {0, 10}, {-50, 50}, {0, 100}, {1, 5}};
 
+enum { SET_POWER = 0x18, POWER_OFF = 1 };
+
 /* By rising set code, as images are written. */
 static const struct setting settings[SETTINGS] = {
-    {0x18, 0x19, 1, 0, 0, {power, power}},
+    {SET_POWER, 0x19, 1, 0, 0, {power, power}},
     {0x32, 0x33, 7, 1, 0, {video, phoenix_video}},
     {0x34, 0x35, 1, 8, 1 << 2 | 1 << 7 | 1 << 8 | 1 << 11 | 1 << 12, {colour_temperature, colour_temperature}},
     {0x42, 0x43, 2, 9, 0, {treble_bass, treble_bass}},

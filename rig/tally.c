@@ -27,6 +27,7 @@ void count_outcome(struct tally *tally, const struct test_case *c, const struct 
         return;
     tally->burst[c->burst_kind]++;
     count_damage(&tally->damages, c, by_plain);
+    count_power(tally->power, c, by_plain);
     if (!by_plain->result.refusal)
         count_answer(tally, by_plain);
 }
@@ -64,9 +65,9 @@ static void each_answer(take_line *take, void *to, const struct tally *tally)
     static const uint8_t get_codes[] = {0x19, 0x33, 0x35, 0x43, 0x62, 0xA4, 0xD1, 0xDE};
     take(to, "answer", NULL, 0);
     take(to, "answer", "silence", tally->silence);
-    take(to, "answer", "ACK", tally->control[0x06]);
-    take(to, "answer", "NACK", tally->control[0x15]);
-    take(to, "answer", "NAV", tally->control[0x18]);
+    take(to, "answer", "ACK", tally->control[ACK]);
+    take(to, "answer", "NACK", tally->control[NACK]);
+    take(to, "answer", "NAV", tally->control[NAV]);
     for (size_t i = 0; i < sizeof get_codes; i++) {
         char what[16];
         snprintf(what, sizeof what, "report 0x%02X", get_codes[i]);
@@ -95,6 +96,9 @@ static void each_line(take_line *take, void *to, const struct tally *tally)
         each_of_call(take, to, tally, call);
     each_answer(take, to, tally);
     each_damage(take, to, &tally->damages);
+    take(to, "power", NULL, 0);
+    for (unsigned i = 0; i < POWER_CASES; i++)
+        take(to, "power", power_case_name(i), tally->power[i]);
     each_name(take, to, "case and outcome", meeting_names, tally->meetings.met, MEETINGS);
 }
 

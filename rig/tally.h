@@ -4,12 +4,14 @@
 
 #include "damages.h"
 #include "meetings.h"
+#include "powers.h"
 
 struct tally {
     unsigned long image[IMAGE_KINDS], burst[BURST_KINDS], room[ROOM_KINDS];
     unsigned long refusal[CALLS][256];  /* 0 is none */
     unsigned long silence, control[256], report[256];
     struct damages damages;
+    unsigned long power[POWER_CASES];
     struct meetings meetings;
 };
 
@@ -18,7 +20,7 @@ void count_outcome(struct tally *tally, const struct test_case *c, const struct 
 void print_tally(const struct tally *tally);
 
 /* Every kind of case, every refusal and every kind of wall for each call, every kind of answer, every damage in all its ways
- * and at all limits, and every meeting; if not, says which was not met. */
+ * and at all limits, every case of power, and every meeting; if not, says which was not met. */
 bool met_everything(const struct tally *tally);
 
 #endif

@@ -75,7 +75,7 @@ image() {
     for byte in $*; do printf "\\x$byte"; done >"$file"
 }
 
-for part in comparison program forms keeping words log; do
+for part in comparison program forms power keeping words log; do
     . "$parts/test_$part.sh" || exit 2
 done
 comparison_tests

@@ -1,5 +1,5 @@
-# The lines of a log by example: bursts and answers in words, with the settings of 01 and the damages of 02's A3. Sourced
-# by test.sh.
+# The lines of a log by example: bursts and answers in words, with the settings of 01, the damages of 02's A3 and the NAV of
+# its A5. Sourced by test.sh.
 
 # Lines of `burst; what it was: answer`, each burst on a fresh wall of both profiles and with a log of its own.
 logged() {
@@ -84,6 +84,30 @@ not_available() {
 END
 }
 
+# A whole log on one wall, with the NAV that power off to a panel that is off gets and those that have other reasons.
+off_already() {
+    cat >wanted <<'END'
+1: 06 01 00 18 01 1E: ID 1, group 0, set power off: ACK from panel 1
+2: 06 01 00 18 01 1E: ID 1, group 0, set power off: NAV from panel 1, which is off already
+3: 05 01 00 19 1D: ID 1, group 0, get power: report from panel 1, power off
+4: 06 00 09 18 01 16: ID 0, group 9, set power off: silence
+5: 06 02 00 18 01 1D: ID 2, group 0, set power off: NAV from panel 2, which is off already
+6: 06 00 00 18 01 1F: ID 0, group 0, set power off: silence
+7: 06 01 00 18 01 1F: checksum wrong, the last byte is 1F and the others give 1E: NACK from panel 1
+8: 06 01 00 18 04 1B: ID 1, group 0, set power 4: NAV from panel 1
+9: 07 01 00 18 01 01 1E: ID 1, group 0, set power with 2 values, and it has 1: NAV from panel 1
+10: 05 01 00 18 1C: ID 1, group 0, set power with 0 values, and it has 1: NAV from panel 1
+11: 06 01 00 19 01 1F: ID 1, group 0, get power with 1 value, and a get has none: NAV from panel 1
+12: 06 01 00 17 01 11: ID 1, group 0, unknown code 17: NAV from panel 1
+13: 04 01 00 05: ID 1, group 0, no data: NAV from panel 1
+14: 06 01 00 18 02 1D: ID 1, group 0, set power on: ACK from panel 1
+15: 06 01 00 18 02 1D: ID 1, group 0, set power on: ACK from panel 1
+16: 06 01 00 18 01 1E: ID 1, group 0, set power off: ACK from panel 1
+END
+    mixed_wall w && rm -f w.log && cut -d: -f 2 wanted | rig play w --log w.log >answers || return
+    cmp w.log wanted || { diff w.log wanted; return 1; }
+}
+
 # Each with NACK, and with the silence of another group and of an ID that no panel has.
 each_damage() {
     logged <<'END' || return
@@ -150,5 +174,6 @@ test_that 'the log of each setting set' each_setting_set
 test_that 'the log of a tint below 0' tint_with_its_byte
 test_that 'the log of bursts that get no answer' no_answer_due
 test_that 'the log of bursts that get NAV' not_available
+test_that 'the log of power off to a panel that is off' off_already
 test_that 'the log of each damage' each_damage
 test_that 'the parts of a log line, for every code and for 100,000 bytes' parts_stay_apart

@@ -98,6 +98,11 @@ bool same_outcome(const struct test_case *c, const struct trial *a, const struct
         && memcmp(a->out, b->out, GUARD + c->out_cap + GUARD) == 0;
 }
 
+uint8_t control_of(const struct trial *t)
+{
+    return t->result.answer_len > 0 ? t->answer[GUARD + 4] : SILENCE;
+}
+
 static uint64_t mix(uint64_t sum, uint64_t word)
 {
     sum = (sum ^ word) * 0x9FB21C651E98DF25u;

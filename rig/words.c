@@ -6,7 +6,7 @@
 
 /* A packet: size, ID, group, data, checksum. */
 enum { SIZE_AT, ID_AT, GROUP_AT, DATA_AT, AROUND_DATA };
-enum { CONTROL = 0x00, ACK = 0x06, NACK = 0x15 };
+enum { CONTROL = 0x00, ACK = 0x06, NACK = 0x15, NAV = 0x18 };
 
 static const char *plural(size_t count)
 {
@@ -93,12 +93,21 @@ static const char *control_name(uint8_t control)
     return control == ACK ? "ACK" : control == NACK ? "NACK" : "NAV";
 }
 
-void say_answer(FILE *to, const uint8_t *answer, size_t len)
+static bool is_power_off(const uint8_t *data, size_t len)
+{
+    return len == 2 && data[0] == settings[POWER].set_code && data[1] == OFF;
+}
+
+void say_answer(FILE *to, const uint8_t *burst, size_t burst_len, const uint8_t *answer, size_t len)
 {
     if (len == 0) {
         fputs("silence", to);
     } else if (answer[DATA_AT] == CONTROL) {
-        fprintf(to, "%s from panel %u", control_name(answer[DATA_AT + 1]), answer[ID_AT]);
+        uint8_t control = answer[DATA_AT + 1];
+        fprintf(to, "%s from panel %u", control_name(control), answer[ID_AT]);
+        /* NAV comes to intact bursts only, and to this one for no other reason. */
+        if (control == NAV && is_power_off(burst + DATA_AT, burst_len - AROUND_DATA))
+            fputs(", which is off already", to);
     } else {
         fprintf(to, "report from panel %u, ", answer[ID_AT]);
         say_setting(to, setting_of(answer[DATA_AT]), answer + DATA_AT + 1);

@@ -9,7 +9,7 @@
 /* What the burst asks for, or what was wrong with it; damage is what the library told of it. */
 void say_burst(FILE *to, const uint8_t *burst, size_t len, uint32_t damage);
 
-/* What the box answered; no bytes are silence. */
-void say_answer(FILE *to, const uint8_t *answer, size_t len);
+/* What the box answered to the burst; no bytes are silence. */
+void say_answer(FILE *to, const uint8_t *burst, size_t burst_len, const uint8_t *answer, size_t len);
 
 #endif
