@@ -1,5 +1,5 @@
 -- What one panel makes of a packet's data. 01, "Answering a burst", steps 4 and 5; "The settings"; 02, A1: by its own profile;
--- A5: amends both steps, and "power set to the value it has is an ACK", for power off.
+-- A5: power off while off.
 use Prim.Native.Nat.{ℕ}
 use mathlib.Core.Bool.{Bool, cond, not, _&&_}
 use mathlib.Core.List.{List, [], _∷_}
@@ -40,11 +40,12 @@ pub data Judged : Type 0 where
 unfoldable pub stored : ℕ → List ℕ → Panel → Panel
 stored row values p = record { id = p .id; group = p .group; profile = p .profile; values = valuesWith row values (p .values) }
 
--- power off to a panel that is off; 001, 3.1.1, the third NAV: "system is already in stand-by mode"
+-- Power off to a panel that is off. 02, A5, amends 01: step 4 has it for one more NAV, step 5 does not store it, and of "power set
+-- to the value it has is an ACK" on is left. 001, 3.1.1, the third NAV: "system is already in stand-by mode".
 unfoldable pub offAlready : ℕ → List ℕ → Panel → Bool
 offAlready row values p = eqb row powerRow && (same values off && same (valuesOf row (p .values)) off)
 
--- all other values are taken that the panel's own profile allows
+-- all else that the panel's own profile allows is taken
 unfoldable pub takes : ℕ → List ℕ → Panel → Bool
 takes row values p = allowedFor (p .profile) row values && not (offAlready row values p)
 

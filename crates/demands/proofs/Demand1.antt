@@ -43,10 +43,11 @@ use Rattle.host.specs.declared.Outcome.{Outcome}
 use Rattle.host.specs.declared.Outcome.the-variants.{Idle, Waiting, Unheard, Ack as Acked, Nav as NotAvailable, OffOrRefused, Report as Reported, GivenUp, Refused}
 use Rattle.requests.specs.declared.Said.{Said}
 use Rattle.requests.specs.declared.Said.the-variants.{Ack, Nack, Nav, Report, Nothing as Silent}
-use Rattle.requests.specs.Request.{isPowerOff, isRequest}
-use Rattle.host.specs.Machine.{Happening, start, burst, mark, State, Move, sendings, waits, quiet, begun, again, navEnds, ending, heard, step}
+use Rattle.requests.specs.Request.{isRequest}
+use Rattle.host.specs.Machine.{Happening, start, burst, mark, State, Move, sendings, waits, quiet, begun, again, ending, heard, step}
 use Rattle.host.specs.Calls.{hostOf, stateOf, stepOf, call}
 use Rattle.host.proofs.Answers.{host-back}
+use Rattle.host.proofs.Lasting.{nav-either}
 use Rattle.demands.specs.Demand1.{AddRefused, RemoveRefused, ReadRefused, CallRefused, Bad, BadBurst, AnswerAlone, ImageAlone}
 
 pub add-refused : AddRefused
@@ -155,19 +156,11 @@ again-stays : (s : State) → Stays s (again s)
 unfolding again
 again-stays s = one-of s (ltb (sendings s) 3) _ _ (taken _ refl) (taken _ refl)
 
-nav-not-refused : (s : State) → isRefused (navEnds s) ≡ false
-unfolding navEnds
-nav-not-refused s = go (isPowerOff (s .request) && ltb 1 (sendings s))
-  where
-    go : (t : Bool) → isRefused (cond t (OffOrRefused (sendings s)) (NotAvailable (sendings s))) ≡ false
-    go true = refl
-    go false = refl
-
 ending-stays : (s : State) (d : List ℕ) (w : Said) → Stays s (ending s d w)
 unfolding ending
 ending-stays s d Ack = taken _ refl
 ending-stays s d Nack = again-stays s
-ending-stays s d Nav = taken _ (nav-not-refused s)
+ending-stays s d Nav = taken _ (nav-either (λ o. isRefused o ≡ false) s refl refl)
 ending-stays s d Report = taken _ refl
 ending-stays s d Silent = taken _ refl
 

@@ -42,8 +42,8 @@ AnyLength =
     → let o = played (panelsOf t) b in
     atMark (fed (receiverOf []) b) t ≡ record { receiver = receiverOf []; table = tableOf (o .wall); reply = o .reply; damage = damageOf b }
 
--- The wall and the answer as they were before this request, by 01: an empty burst does nothing, an intact one is a packet, and any
--- other gets NACK or silence.
+-- The wall and the answer without this request, by 01: an empty burst does nothing, an intact one is a packet, and any other gets
+-- NACK or silence.
 abbrev pub before : Wall → List ℕ → Outcome
 before w b =
     cond (eqb (length b) 0)

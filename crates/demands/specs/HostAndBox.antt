@@ -27,16 +27,16 @@ abbrev pub asking : Request → ℕ → State
 asking r zero = step idle (start r) .next
 asking r (suc n) = step (asking r n) mark .next
 
--- The packet is the nth that was sent. A get ends with the report of the panel's values, a set with ACK; but a power off (02, A5)
--- of a panel that is off with NAV, and where an earlier sending may have done it with "off or refused".
+-- With the nth packet a get ends with the report of the panel's values, and a set with ACK; but the power off of a panel that is
+-- off (02, A5) with NAV and, where an earlier packet may have turned it off, with "off or refused".
 abbrev pub EndsWith : Found → Request → Panel → ℕ → Move → Type 0
 EndsWith (Set row) r p n m =
     m ≡ over (cond (offAlready row (requestValues r) p) (cond (eqb n 1) (Nav n) (OffOrRefused n)) (Ack n)) []
 EndsWith (Get row) r p n m = m ≡ over (Report n) (valuesOf row (p .values))
 EndsWith Nothing r p n m = ⊥
 
--- On a line that loses nothing, a request to a panel that is there, and of the profile that the request says, ends so: with the
--- first packet, and also with a later one, which the host sends where an earlier one or its answer was lost after all.
+-- A request to a panel that is there, and of the profile that the request says, ends so with the first packet that is answered: on
+-- a line that loses nothing that is the first, and on another the one that comes after n marks.
 abbrev pub Lossless : Type 0
 Lossless =
     (t : Table) → WellFormed t → (r : Request) (k n : ℕ) → isRequest r ≡ true → isHeard (r .id) (r .group) ≡ true

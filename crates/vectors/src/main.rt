@@ -1,17 +1,22 @@
 // Plays each burst of standard input on a fresh sample wall, and once more, and prints the burst and its two answers.
+use answers::Reply;
+use packet::LONGEST;
 use text::LONGEST_STEP;
 use text::Read;
+
+fn print_answer(reply: Reply) {
+    let mut digits = [0u8; 2 * LONGEST];
+    let answered = sample::shown_answer(reply, &mut digits);
+    io::write_all(1, b" ");
+    io::write_all(1, text::front(&digits, answered));
+}
 
 fn answer(burst: &[u8]) {
     let mut digits = [0u8; 2 * LONGEST_STEP];
     let shown = sample::shown(burst, &mut digits);
     io::write_all(1, text::front(&digits, shown));
-    io::write_all(1, b" ");
-    let answered = sample::shown_answer(sample::reply_to(burst), &mut digits);
-    io::write_all(1, text::front(&digits, answered));
-    io::write_all(1, b" ");
-    let again = sample::shown_answer(sample::reply_again(burst), &mut digits);
-    io::write_all(1, text::front(&digits, again));
+    print_answer(sample::reply_to(burst));
+    print_answer(sample::reply_again(burst));
     io::write_all(1, b"\n");
 }
 
