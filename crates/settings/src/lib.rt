@@ -21,8 +21,10 @@ pub const VALUE_COUNT: usize = 15;
 // How many one has at most.
 pub const MOST_VALUES: usize = 7;
 
-// The value of power that is off.
+// The values of power.
 pub const OFF: u8 = 1;
+
+const ON: u8 = 2;
 
 // How many ranges there are beyond the first of each value byte.
 const MORE_COUNT: usize = 3;
@@ -85,7 +87,7 @@ const TABLE: Table = Table {
         Values(1, 14), // power saving
     ],
     ranges: [
-        Span(1, 2), // power
+        Span(OFF, ON), // power
         Span(0, 100), // video: six, and gamma
         Span(0, 100),
         Span(0, 100),
@@ -107,7 +109,7 @@ const TABLE: Table = Table {
         More(8, 13, 13),
     ],
     fresh: [
-        2, // power
+        ON, // power
         50, // video: six, and gamma
         50,
         50,
