@@ -1,6 +1,6 @@
 -- What an order says of the data that it was made of. Assumes nothing.
 use mathlib.Core.Path.{_≡_, refl, ap}
-use mathlib.Core.Bool.{true, false, and-true}
+use mathlib.Core.Bool.{true, false}
 use mathlib.Core.List.{List, [], _∷_, flatten}
 use Prim.Native.Nat.{ℕ, _+_, _<_}
 use native.Mathlib.Omega.{arith}
@@ -8,6 +8,7 @@ use lib.Dec.{eqb}
 use lib.ListN.{length, getD, drop, length-drop}
 use Rattle.lists.specs.Lists.{same}
 use Rattle.lists.proofs.Both.{both}
+use Rattle.lists.proofs.Same.{same-first}
 use Rattle.settings.specs.declared.Found.{Found}
 use Rattle.settings.specs.declared.Found.the-variants.{Set, Get, Nothing}
 use Rattle.settings.specs.Settings.{settings, foundBy, getCode, byteCount, place, allowedByRow, allowedFor, rowCount, powerRow, off}
@@ -41,10 +42,9 @@ unfolding judge
 judge-get c row p e = ap (λ (x : Command). judge x p) e
 
 -- a panel is off by one value
-pub is-off : (values : List ℕ) → same (valuesOf powerRow values) off ≡ eqb (getD values (place powerRow) 0) 1
-unfolding settings allowedByRow flatten same
-is-off [] = refl
-is-off (v ∷ values) = and-true (eqb v 1)
+pub is-off : (values : List ℕ) → 0 < length values → same (valuesOf powerRow values) off ≡ eqb (getD values (place powerRow) 0) 1
+unfolding settings allowedByRow flatten
+is-off values h = same-first values 1 h
 
 -- what a panel takes its own profile allows,
 pub taken-allowed : (row : ℕ) (vs : List ℕ) (p : Panel) → takes row vs p ≡ true → allowedFor (p .profile) row vs ≡ true

@@ -1,6 +1,6 @@
 -- A burst sent again: panel by panel, and each panel by itself. Assumes nothing.
 use Prim.Native.Nat.{ℕ, _<_}
-use mathlib.Core.Bool.{Bool, true, false, false≢true, _&&_}
+use mathlib.Core.Bool.{Bool, true, false, _&&_}
 use mathlib.Core.Path.{_≡_, refl, sym, ap, _∙_}
 use mathlib.Core.List.{List, [], _∷_, map, map-map, map-id}
 use lib.ListN.{length, getD}
@@ -21,7 +21,7 @@ use Rattle.answers.proofs.Orders.{taken-allowed}
 use Rattle.answers.proofs.Formed.{stored-twice, turned-keeps}
 use Rattle.answers.proofs.Turns.{stays}
 use Rattle.line.specs.Session.{byBurst, session}
-use Rattle.demands.specs.Again.{addressedBy, Apart, Again, done, again, other, SentAgain}
+use Rattle.demands.specs.Again.{addressedBy, Again, done, again, other, SentAgain}
 
 -- what a burst makes of a panel, and bursts one after the other
 abbrev changedBy : Verdict → List ℕ → Panel → Panel

@@ -21,7 +21,7 @@ use Rattle.panels.specs.WellFormed.{GoodPanel}
 use Rattle.panels.proofs.Laws.{place-there}
 use Rattle.panels.proofs.Formed.{good-at}
 use Rattle.answers.specs.Reply.{wordFrom}
-use Rattle.answers.specs.Judged.{setOf, command, offAlready, takes, judge, stored, taken, notAvailable, replyBy}
+use Rattle.answers.specs.Judged.{command, offAlready, takes, judge, stored, taken, notAvailable, replyBy}
 use Rattle.answers.specs.Played.{played}
 use Rattle.requests.specs.Request.{isPowerOff}
 use Rattle.host.specs.Machine.{navEnds, ending}

@@ -1,12 +1,12 @@
 -- Bytes compared. Assumes nothing.
-use mathlib.Core.Path.{_≡_, refl, sym, ap₂}
-use mathlib.Core.Bool.{true, false, false≢true, and-true, and-false, _&&_}
+use mathlib.Core.Path.{_≡_, refl, ap₂}
+use mathlib.Core.Bool.{true, false, false≢true, and-true, and-false}
 use mathlib.Core.List.{List, [], _∷_}
-use Prim.Native.Nat.{ℕ, suc}
-use native.Mathlib.Omega.{arith}
-use borrow.Author.Tests.{eqb-true, ne-eqb}
+use Prim.Native.Nat.{ℕ, _<_}
+use native.Mathlib.Nat.{not-suc-le-zero}
+use borrow.Author.Tests.{eqb-true}
 use lib.Dec.{eqb}
-use lib.ListN.{length, getD}
+use lib.ListN.{length, getD, take}
 use Rattle.lists.specs.Lists.{same}
 use Rattle.lists.proofs.Both.{both}
 
@@ -17,9 +17,14 @@ same-is [] (y ∷ b) e = absurd (false≢true e)
 same-is (x ∷ a) [] e = absurd (false≢true e)
 same-is (x ∷ a) (y ∷ b) e = let (h, t) = both (eqb x y) _ e in ap₂ (λ (z : ℕ) (l : List ℕ). z ∷ l) (eqb-true x y h) (same-is a b t)
 
--- with one byte
-pub same-one : (l : List ℕ) (v : ℕ) → same l (v ∷ []) ≡ (eqb (length l) 1 && eqb (getD l 0 0) v)
+-- with one byte: the first of them, or another number of bytes
+pub same-first : (l : List ℕ) (v : ℕ) → 0 < length l → same (take 1 l) (v ∷ []) ≡ eqb (getD l 0 0) v
 unfolding same
-same-one [] v = refl
-same-one (x ∷ []) v = and-true (eqb x v)
-same-one (x ∷ y ∷ l) v = rw (ne-eqb (suc (suc (length l))) 1 (λ e. omega arith)) (and-false (eqb x v))
+same-first [] v h = absurd (not-suc-le-zero h)
+same-first (x ∷ l) v h = and-true (eqb x v)
+
+pub same-other : (l : List ℕ) (v : ℕ) → (length l ≡ 1 → ⊥) → same l (v ∷ []) ≡ false
+unfolding same
+same-other [] v n = refl
+same-other (x ∷ []) v n = absurd (n refl)
+same-other (x ∷ y ∷ l) v n = and-false (eqb x v)

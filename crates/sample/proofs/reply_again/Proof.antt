@@ -1,7 +1,6 @@
 -- The wall that the burst left is the second time's. Assumes nothing.
 use mathlib.Core.Path.{_≡_, sym, ap, subst, _∙_}
 use borrow.Author.Needs.{needs}
-use Rattle.panels.specs.declared.Table.{Table}
 use Rattle.panels.specs.Wall.{tableOf, panelsOf}
 use Rattle.panels.specs.WellFormed.{WellFormed}
 use Rattle.panels.proofs.Laws.{panels-of-table}

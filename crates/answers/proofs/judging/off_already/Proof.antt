@@ -1,14 +1,16 @@
 -- Power off is two bytes, and power is a panel's first value. Assumes nothing.
 use mathlib.Core.Path.{_≡_, refl, sym, ap, _∙_}
-use mathlib.Core.Bool.{true, false, _&&_, and-true, and-false}
-use mathlib.Core.List.{List, [], _∷_, flatten}
+use mathlib.Core.Bool.{true, false}
+use mathlib.Core.List.{List, flatten}
 use Prim.Native.Nat.{ℕ, _<_}
 use native.Mathlib.Omega.{arith}
 use borrow.Author.Needs.{needs}
 use borrow.Author.Tests.{eq-eqb, ne-eqb}
 use lib.Dec.{eqb}
-use lib.ListN.{length, getD, drop}
+use lib.ListN.{length, getD, drop, length-drop}
+use lib.Seq.{take-all, getD-drop}
 use Rattle.lists.specs.Lists.{same}
+use Rattle.lists.proofs.Same.{same-first, same-other}
 use Rattle.settings.specs.Settings.{settings, allowedByRow, place, powerRow, off}
 use Rattle.panels.specs.declared.Panel.{Panel}
 use Rattle.answers.specs.Judged.{offAlready}
@@ -18,18 +20,13 @@ use Rattle.answers.proofs.judging.off_already.Tie as tie
 
 -- the values behind the set code
 sets-off : (d : List ℕ) → length d ≡ 2 → same (drop 1 d) off ≡ eqb (getD d 1 0) 1
-unfolding same
-sets-off [] e = absurd (omega arith)
-sets-off (c ∷ []) e = absurd (omega arith)
-sets-off (c ∷ v ∷ []) e = and-true (eqb v 1)
-sets-off (c ∷ v ∷ w ∷ d) e = absurd (omega arith)
+sets-off d e =
+    let one : length (drop 1 d) ≡ 1 = rw length-drop (omega arith) in
+    ap (λ (l : List ℕ). same l off) (sym (take-all 1 (drop 1 d) (omega arith))) ∙ same-first (drop 1 d) 1 (omega arith)
+    ∙ ap (λ (v : ℕ). eqb v 1) (getD-drop 1 d 0 0)
 
 sets-other : (d : List ℕ) → 0 < length d → (length d ≡ 2 → ⊥) → same (drop 1 d) off ≡ false
-unfolding same
-sets-other [] h n = absurd (omega arith)
-sets-other (c ∷ []) h n = refl
-sets-other (c ∷ v ∷ []) h n = absurd (n refl)
-sets-other (c ∷ v ∷ w ∷ d) h n = and-false (eqb v 1)
+sets-other d h n = same-other (drop 1 d) 1 (λ e. n (omega (arith, rw length-drop at e)))
 
 module _ (row : ℕ) (vs : List ℕ) (p : Panel) where
   other-row : (row ≡ 0 → ⊥) → offAlready row vs p ≡ false
@@ -40,9 +37,9 @@ module _ (row : ℕ) (vs : List ℕ) (p : Panel) where
   unfolding offAlready
   other-values e f = rw (e, f)
 
-  power : row ≡ 0 → same vs off ≡ true → offAlready row vs p ≡ eqb (getD (p .values) (place powerRow) 0) 1
+  power : row ≡ 0 → same vs off ≡ true → 0 < length (p .values) → offAlready row vs p ≡ eqb (getD (p .values) (place powerRow) 0) 1
   unfolding offAlready
-  power e f = rw (e, f) (is-off (p .values))
+  power e f h = rw (e, f) (is-off (p .values) h)
 
 first : place powerRow ≡ 0
 unfolding settings allowedByRow flatten
@@ -74,7 +71,7 @@ returns-3 c =
     let start = two .before .before .before in
     let a = start .args in
     let to = sets-off (a .d .now) (two .if2 .left) ∙ eq-eqb _ 1 (c .before .if3 .taken) in
-    ap (λ (n : ℕ). eqb (getD (a .p .values) n 0) 1) (at-first c) ∙ sym (power _ _ _ (two .before .if1 .left) to)
+    ap (λ (n : ℕ). eqb (getD (a .p .values) n 0) 1) (at-first c) ∙ sym (power _ _ _ (two .before .if1 .left) to (search needs))
 
 returns-4 : tie.Need-returns-4
 returns-4 c =

@@ -7,7 +7,7 @@ use borrow.Author.Needs.{needs}
 use borrow.Author.Tests.{not-true, not-false}
 use lib.ListN.{getD, set, drop}
 use lib.Seq.{set-getD}
-use Rattle.settings.specs.Settings.{getCode, allowedFor}
+use Rattle.settings.specs.Settings.{getCode}
 use Rattle.packet.specs.declared.Control.the-variants.{Ack, Nav}
 use Rattle.panels.specs.declared.Panel.{Panel}
 use Rattle.panels.specs.declared.Table.{Table}

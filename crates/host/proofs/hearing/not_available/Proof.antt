@@ -1,6 +1,6 @@
 -- NAV by how often the packet was sent, and whether it turns a panel off. Assumes nothing.
 use mathlib.Core.Path.{_≡_, sym, ap, _∙_}
-use mathlib.Core.Bool.{Bool, true, false, cond, _&&_, and-false}
+use mathlib.Core.Bool.{true, false, and-false}
 use mathlib.Core.Logic.{⊎-elim}
 use mathlib.Core.List.{[]}
 use Prim.Native.Nat.{_≤_, _<_}
