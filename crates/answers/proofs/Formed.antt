@@ -65,7 +65,8 @@ off-same row vs p e =
     let (power, sets) = both (eqb row powerRow) _ e in
     let here = eqb-true row powerRow power in
     let (to, from) = both (same vs off) _ sets in
-    rw (same-is vs off to, here) (ap {B = Panel} (λ (l : List ℕ). record { id = p .id; group = p .group; profile = p .profile; values = l }) (off-values (p .values) (rw here at from)))
+    let held = off-values (p .values) (rw here at from) in
+    rw (same-is vs off to, here) (ap {B = Panel} (λ (l : List ℕ). record { id = p .id; group = p .group; profile = p .profile; values = l }) held)
 
 -- what storing keeps, a panel that is turned keeps: its names
 module _ {A : Type 0} (f : Panel → A) (p : Panel) (kept : (row : ℕ) (vs : List ℕ) → f (stored row vs p) ≡ f p) where
