@@ -38,6 +38,11 @@ apart (p ∷ w) zero (suc k) (g, a, good) h m e = absurd (absent-at (p .id) w k 
 apart (p ∷ w) (suc j) zero (g, a, good) h m e = absurd (absent-at (p .id) w j a (le-of-suc-le-suc h) e)
 apart (p ∷ w) (suc j) (suc k) (g, a, good) h m e = ap suc (apart w j k good (le-of-suc-le-suc h) (le-of-suc-le-suc m) e)
 
+-- a panel that would be turned into itself stays, turned or not
+pub either-way : (t : Bool) {q p : Panel} → q ≡ p → cond t q p ≡ p
+either-way true e = e
+either-way false e = refl
+
 pub stays : (i : MonitorId) (g : GroupId) (c : Command) (p : Panel) → reaches i g p ≡ false → turned i g c p ≡ p
 unfolding turned
 stays i g c p r = rw r
@@ -79,11 +84,7 @@ unheard i g c w u = rw u
 pub unheard-same : (i : MonitorId) (g : GroupId) (c : Command) (w : Wall) → isHeard i g ≡ false
     → ((p : Panel) → panelAfter (judge c p) p ≡ p) → inTable (playedPacket w i g c) ≡ record { table = tableOf w; reply = silence }
 unfolding turned
-unheard-same i g c w u h = unheard i g c w u ∙ rw (map-same (turned i g c) blank w (λ j t. either (reaches i g _) (h (getD w j blank))))
-  where
-    either : (t : Bool) {q p : Panel} → q ≡ p → cond t q p ≡ p
-    either true e = e
-    either false e = refl
+unheard-same i g c w u h = unheard i g c w u ∙ rw (map-same (turned i g c) blank w (λ j t. either-way (reaches i g _) (h (getD w j blank))))
 
 pub heard-means : (i : MonitorId) (g : GroupId) → isHeard i g ≡ true → (g .0 ≡ 0) × (i .0 ≡ 0 → ⊥)
 unfolding isHeard

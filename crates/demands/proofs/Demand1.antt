@@ -27,7 +27,7 @@ use Rattle.answers.specs.Reply.{sentBytes, sentOf, bytesSent, outputOf as answe
 use Rattle.answers.specs.Judged.{command}
 use Rattle.answers.specs.Played.{turned, playedBy, played}
 use Rattle.lists.proofs.Mapped.{map-same}
-use Rattle.answers.proofs.Turns.{stays}
+use Rattle.answers.proofs.Turns.{either-way, stays}
 use Rattle.forms.specs.declared.Form.{Form}
 use Rattle.image_write.specs.declared.Written.the-variants.{Bytes as WrittenBytes, WouldLose, NoRoom as NotWritten}
 use Rattle.image_write.specs.Written.{setupOf, sizeOf, losesNothing, writtenOf, bytesWritten, outputOf as imageOutput}
@@ -77,11 +77,7 @@ bad-burst w b bad = go (verdictOf b) bad
   where
     stay : (i : MonitorId) (g : GroupId) (n : ℕ) (p : Panel) → Bad (Intact i g n) b p → turned i g (command (dataOf b (Intact i g n))) p ≡ p
     stay i g n p (inl r) = stays i g _ p r
-    stay i g n p (inr e) = rw e (either (reaches i g p))
-      where
-        either : (t : Bool) → cond t p p ≡ p
-        either true = refl
-        either false = refl
+    stay i g n p (inr e) = rw e (either-way (reaches i g p) refl)
 
     go : (v : Verdict) → ((k : ℕ) → k < length w → Bad v b (getD w k blank)) → playedBy v w b .wall ≡ w
     go Empty h = refl

@@ -17,15 +17,19 @@ use Rattle.packet.specs.Answered.{isHeard}
 use Rattle.packet.proofs.Packets.{packet-verdict, packet-data}
 use Rattle.panels.specs.declared.Panel.{Panel}
 use Rattle.panels.specs.Wall.{blank, valuesOf, panelsOf}
+use Rattle.panels.specs.Addressed.{reaches}
 use Rattle.panels.specs.WellFormed.{GoodPanel}
 use Rattle.panels.proofs.Laws.{place-there}
 use Rattle.panels.proofs.Formed.{good-at}
 use Rattle.answers.specs.Reply.{wordFrom}
-use Rattle.answers.specs.Judged.{command, offAlready, takes, judge, stored, taken, notAvailable, replyBy}
+use Rattle.answers.specs.Judged.{setOf, command, offAlready, takes, judge, stored, taken, notAvailable, replyBy}
 use Rattle.answers.specs.Played.{played}
 use Rattle.requests.specs.Request.{isPowerOff}
 use Rattle.host.specs.Machine.{navEnds, ending}
-use Rattle.demands.specs.Power.{PowerSet, NavEnds}
+use Rattle.answers.proofs.Turns.{either-way}
+use Rattle.answers.proofs.Formed.{off-same}
+use Rattle.demands.proofs.Profiles.{own-profile}
+use Rattle.demands.specs.Power.{PowerSet, OffStays, NavEnds}
 
 -- above 2 nothing is allowed
 above : (v : ℕ) → within (1 to 2) (suc (suc (suc v))) ≡ false
@@ -76,6 +80,25 @@ power-set t f i k v there =
     let verdict = packet-verdict i (groupId 0) d (omega arith) in
     let part = ap (dataOf (packetOf i (groupId 0) d)) (sym verdict) ∙ packet-data i (groupId 0) d (omega arith) in
     rw (verdict, part, named, there) (answers-power (getD w k blank) good i v)
+
+-- a panel whose power is 1 is off
+off-by-value : (p : Panel) → getD (p .values) 0 0 ≡ 1 → offAlready powerRow off p ≡ true
+unfolding settings allowedByRow flatten offAlready same
+off-by-value p e = go (p .values) e
+  where
+    go : (values : List ℕ) → getD values 0 0 ≡ 1 → same (valuesOf powerRow values) off ≡ true
+    go [] e = absurd (omega arith)
+    go (v ∷ values) e = rw e
+
+set-off : command (0x18 ∷ 1 ∷ []) ≡ setOf powerRow off
+unfolding settings foundFrom command
+set-off = refl
+
+pub off-stays : OffStays
+off-stays w b i g n intact sets k h power =
+    let p = getD w k blank in
+    own-profile w b i g n powerRow off intact (ap command sets ∙ set-off) k h
+    ∙ either-way (reaches i g p && allowedFor (p .profile) powerRow off) (off-same powerRow off p (off-by-value p power))
 
 pub nav-ends : NavEnds
 unfolding settings isPowerOff navEnds ending

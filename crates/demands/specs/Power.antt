@@ -1,17 +1,19 @@
 -- Power off and on, in the paper's numbers: set 0x18, 1 off, 2 on. 02, A5.
-use Prim.Native.Nat.{ℕ}
+use Prim.Native.Nat.{ℕ, _<_}
 use mathlib.Core.Bool.{cond, _&&_, _||_}
 use mathlib.Core.Path.{_≡_}
 use mathlib.Core.List.{List, [], _∷_}
 use lib.Dec.{leb, eqb}
-use lib.ListN.{getD}
+use lib.ListN.{length, getD}
 use Rattle.lists.specs.Lists.{same}
 use Rattle.packet.specs.declared.MonitorId.{MonitorId}
+use Rattle.packet.specs.declared.GroupId.{GroupId}
 use Rattle.packet.specs.declared.Control.the-variants.{Ack, Nav}
-use Rattle.packet.specs.Packet.{groupId, packetOf}
+use Rattle.packet.specs.declared.Verdict.the-variants.{Intact}
+use Rattle.packet.specs.Packet.{groupId, packetOf, verdictOf, dataOf}
 use Rattle.panels.specs.declared.Table.{Table}
 use Rattle.panels.specs.declared.Place.the-variants.{At}
-use Rattle.panels.specs.Wall.{blank, placeOf, panelsOf}
+use Rattle.panels.specs.Wall.{Wall, blank, placeOf, panelsOf}
 use Rattle.panels.specs.WellFormed.{WellFormed}
 use Rattle.answers.specs.Reply.{wordFrom}
 use Rattle.answers.specs.Played.{played}
@@ -27,6 +29,13 @@ PowerSet =
     (t : Table) → WellFormed t → (i : MonitorId) (k v : ℕ) → placeOf i (panelsOf t) ≡ At k
     → let power = getD (getD (panelsOf t) k blank .values) 0 0 in
     played (panelsOf t) (packetOf i (groupId 0) (0x18 ∷ v ∷ [])) .reply ≡ wordFrom i (cond (eqb v 2 || eqb v 1 && eqb power 2) Ack Nav)
+
+-- Power off, to one panel, a group or all, leaves each panel that is off as it is.
+abbrev pub OffStays : Type 0
+OffStays =
+    (w : Wall) (b : List ℕ) (i : MonitorId) (g : GroupId) (n : ℕ)
+    → verdictOf b ≡ Intact i g n → dataOf b (Intact i g n) ≡ 0x18 ∷ 1 ∷ []
+    → (k : ℕ) → k < length w → getD (getD w k blank .values) 0 0 ≡ 1 → getD (played w b .wall) k blank ≡ getD w k blank
 
 -- NAV ends a request; "off or refused" is for a power off alone, and only where it was sent twice or three times.
 abbrev pub NavEnds : Type 0
