@@ -62,7 +62,7 @@ static size_t make_set(struct source *s, enum burst_kind kind, unsigned row, uin
     if (kind == BURST_SET_ONE_PROFILE)
         put_own_value(s, profile, data + 1);
     if (kind == BURST_SET_POWER)
-        data[1] = one_in(s, 4) ? 2 : 1;         /* off more often than on */
+        data[1] = one_in(s, 4) ? ON : OFF;
     if (kind == BURST_SET_LENGTH) {
         data[len] = (uint8_t)below(s, 3);
         len = one_in(s, 2) ? len - 1 : one_in(s, 2) ? len + 1 : 1 + below(s, 9);

@@ -73,7 +73,7 @@ static void turn_off(struct record *r)
 {
     unsigned f = field_of(r, POWER);
     if (f < r->fields)
-        r->bytes[r->at[f] + 2] = 1;
+        r->bytes[r->at[f] + 2] = OFF;
 }
 
 void make_draft(struct source *s, struct draft *d, enum image_kind kind)

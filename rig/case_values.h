@@ -2,6 +2,7 @@
 #ifndef CASE_VALUES_H
 #define CASE_VALUES_H
 
+#include "names.h"
 #include "random.h"
 
 struct choice {
@@ -14,7 +15,7 @@ struct row {
     struct choice allowed, not_allowed;
 };
 
-enum { POWER, VIDEO, ROWS = 8 };
+enum { ROWS = SETTINGS };
 
 extern const struct row rows[ROWS];
 

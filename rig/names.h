@@ -1,4 +1,4 @@
-/* The papers' words for the settings, the profiles, the damages of a burst and the refusals. */
+/* The papers' words for the settings, the profiles, the answers, the damages of a burst and the refusals. */
 #ifndef NAMES_H
 #define NAMES_H
 
@@ -8,6 +8,7 @@
 enum { POWER, VIDEO, COLOUR_TEMPERATURE, AUDIO, FAN, COLD_START, APM, POWER_SAVING, SETTINGS };
 enum { MAX_VALUES = 7 };
 enum { OFF = 1, ON = 2 };               /* power */
+enum { ACK = 0x06, NACK = 0x15, NAV = 0x18 };
 
 struct setting {
     const char *name;

@@ -2,7 +2,6 @@
 
 #include <string.h>
 
-#include "names.h"
 #include "walls.h"
 
 /* A group or all are two panels or more. */

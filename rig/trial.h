@@ -3,6 +3,7 @@
 #define TRIAL_H
 
 #include "cases.h"
+#include "names.h"
 #include "undivarro.h"
 
 enum { GUARD = 32, AREA = GUARD + MAX_ROOM + GUARD };
@@ -26,8 +27,8 @@ void run_trial(const struct box *box, const struct test_case *c, struct trial *t
 /* Refusal, lengths, damage and every byte of both areas the same. */
 bool same_outcome(const struct test_case *c, const struct trial *a, const struct trial *b);
 
-/* What the answer says where it is no report. */
-enum { SILENCE = 0, ACK = 0x06, NACK = 0x15, NAV = 0x18 };
+/* The answer's control word, or SILENCE. */
+enum { SILENCE = 0 };
 uint8_t control_of(const struct trial *t);
 
 /* The outcome mixed into a sum over all cases so far; runs with equal sums met equal outcomes. */

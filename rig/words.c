@@ -6,7 +6,7 @@
 
 /* A packet: size, ID, group, data, checksum. */
 enum { SIZE_AT, ID_AT, GROUP_AT, DATA_AT, AROUND_DATA };
-enum { CONTROL = 0x00, ACK = 0x06, NACK = 0x15, NAV = 0x18 };
+enum { CONTROL = 0x00 };
 
 static const char *plural(size_t count)
 {

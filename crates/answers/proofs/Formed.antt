@@ -1,16 +1,15 @@
 -- A burst keeps a wall good: every setting stays in its range. Assumes nothing.
-use mathlib.Core.Path.{_≡_, refl, sym, ap}
-use mathlib.Core.Bool.{Bool, true, false, cond, false≢true}
-use mathlib.Core.List.{List, [], _∷_, flatten}
+use mathlib.Core.Path.{_≡_, refl, sym, ap, _∙_}
+use mathlib.Core.Bool.{Bool, true, false, cond}
+use mathlib.Core.List.{List}
 use Prim.Native.Nat.{ℕ}
 use native.Mathlib.Omega.{arith}
-use borrow.Author.Tests.{eqb-true}
 use lib.Dec.{eqb}
 use lib.ListN.{length, length-map}
-use Rattle.lists.specs.Lists.{laidAt, same}
+use Rattle.lists.specs.Lists.{same}
 use Rattle.lists.proofs.Both.{both}
 use Rattle.lists.proofs.Same.{same-is}
-use Rattle.settings.specs.Settings.{settings, allowedByRow, byteCount, allowedFor, valuesWith, valueCount, powerRow, off}
+use Rattle.settings.specs.Settings.{byteCount, allowedFor, valuesWith, valueCount, powerRow, off}
 use Rattle.settings.proofs.Laws.{allowed-many}
 use Rattle.packet.specs.declared.MonitorId.{MonitorId}
 use Rattle.packet.specs.declared.GroupId.{GroupId}
@@ -22,11 +21,18 @@ use Rattle.panels.specs.declared.Table.{Table}
 use Rattle.panels.specs.Wall.{Wall, valuesOf, tableOf, panelsOf}
 use Rattle.panels.specs.Addressed.{reaches}
 use Rattle.panels.specs.WellFormed.{GoodPanel, GoodWall, WellFormed}
-use Rattle.panels.proofs.Values.{set-row, other-row, with-twice, with-in-range}
+use Rattle.panels.proofs.Values.{with-own, set-row, other-row, with-in-range}
 use Rattle.panels.proofs.Formed.{formed, good-map}
 use Rattle.answers.specs.Judged.{Command, getOf, setOf, unavailable, command, notAvailable, taken, offAlready, takes, judge, stored, panelAfter}
 use Rattle.answers.specs.Played.{turned, playedBy, played}
 use Rattle.answers.proofs.Orders.{taken-allowed}
+
+-- storing what a row has changes nothing
+stored-held : (row : ℕ) (vs : List ℕ) (p : Panel) → valuesOf row (p .values) ≡ vs → stored row vs p ≡ p
+unfolding stored
+stored-held row vs p e =
+    ap {B = Panel} (λ (l : List ℕ). record { id = p .id; group = p .group; profile = p .profile; values = l })
+    (ap (λ (u : List ℕ). valuesWith row u (p .values)) (sym e) ∙ with-own row (p .values))
 
 -- A row that was stored to has the values, and every other row has what it had.
 module _ (row : ℕ) (vs : List ℕ) (p : Panel) (ok : allowedFor (p .profile) row vs ≡ true) (full : length (p .values) ≡ valueCount) where
@@ -43,8 +49,7 @@ module _ (row : ℕ) (vs : List ℕ) (p : Panel) (ok : allowedFor (p .profile) r
 
   -- storing the same once more changes nothing
   pub stored-twice : stored row vs (stored row vs p) ≡ stored row vs p
-  unfolding stored
-  stored-twice = rw (with-twice row vs (p .values) n full)
+  stored-twice = stored-held row vs (stored row vs p) stored-own
 
 -- a good panel with allowed values stored in a row is good
 stored-good : (row : ℕ) (vs : List ℕ) (p : Panel) → allowedFor (p .profile) row vs ≡ true → GoodPanel p → GoodPanel (stored row vs p)
@@ -54,19 +59,11 @@ stored-good row vs p ok g =
     record { named = g .named; grouped = g .grouped; full = i .full; inRange = i .rows }
 
 -- power off leaves a panel that is off as it is
-off-values : (values : List ℕ) → same (valuesOf powerRow values) off ≡ true → valuesWith powerRow off values ≡ values
-unfolding settings allowedByRow flatten laidAt same
-off-values [] e = absurd (false≢true e)
-off-values (v ∷ values) e = ap (λ (x : ℕ). x ∷ values) (sym (eqb-true v 1 (both (eqb v 1) _ e .0)))
-
 pub off-same : (row : ℕ) (vs : List ℕ) (p : Panel) → offAlready row vs p ≡ true → stored row vs p ≡ p
-unfolding offAlready stored
+unfolding offAlready
 off-same row vs p e =
-    let (power, sets) = both (eqb row powerRow) _ e in
-    let here = eqb-true row powerRow power in
-    let (to, from) = both (same vs off) _ sets in
-    let held = off-values (p .values) (rw here at from) in
-    rw (same-is vs off to, here) (ap {B = Panel} (λ (l : List ℕ). record { id = p .id; group = p .group; profile = p .profile; values = l }) held)
+    let (to, from) = both (same vs off) _ (both (eqb row powerRow) _ e .1) in
+    stored-held row vs p (same-is (valuesOf row (p .values)) off from ∙ sym (same-is vs off to))
 
 -- what storing keeps, a panel that is turned keeps: its names
 module _ {A : Type 0} (f : Panel → A) (p : Panel) (kept : (row : ℕ) (vs : List ℕ) → f (stored row vs p) ≡ f p) where

@@ -42,9 +42,10 @@ unfolding judge
 judge-get c row p e = ap (λ (x : Command). judge x p) e
 
 -- a panel is off by one value
-pub is-off : (values : List ℕ) → 0 < length values → same (valuesOf powerRow values) off ≡ eqb (getD values (place powerRow) 0) 1
-unfolding settings allowedByRow flatten
-is-off values h = same-first values 1 h
+pub is-off : (values : List ℕ) → same (valuesOf powerRow values) off ≡ eqb (getD values (place powerRow) 0) 1
+unfolding settings allowedByRow flatten same
+is-off [] = refl
+is-off (v ∷ values) = same-first (v ∷ values) 1 (omega arith)
 
 -- what a panel takes its own profile allows,
 pub taken-allowed : (row : ℕ) (vs : List ℕ) (p : Panel) → takes row vs p ≡ true → allowedFor (p .profile) row vs ≡ true

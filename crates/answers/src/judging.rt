@@ -53,7 +53,6 @@ pub fn allowed_by(row: usize, d: &[u8]) -> [bool; PROFILE_COUNT]
 
 // Whether they turn off a panel that is off.
 fn off_already(p: Panel, row: usize, d: &[u8]) -> bool
-    requires { ⌜ 0 < length (now d) ⌝ }
     ensures { λ r. ⌜ r ≡ offAlready row (drop 1 (now (d .entry))) p ⌝ }
 {
     if row != POWER_ROW {
@@ -68,7 +67,7 @@ fn off_already(p: Panel, row: usize, d: &[u8]) -> bool
 
 // Whether a panel takes them: its own profile allows them, and they do not turn it off while it is off.
 pub fn takes(p: Panel, row: usize, allowed: [bool; PROFILE_COUNT], d: &[u8]) -> bool
-    requires { ⌜ (0 < length (now d)) × (allowed ≡ allowedBy row (drop 1 (now d))) ⌝ }
+    requires { ⌜ allowed ≡ allowedBy row (drop 1 (now d)) ⌝ }
     ensures { λ r. ⌜ r ≡ takes row (drop 1 (now (d .entry))) p ⌝ }
 {
     let profile = p.profile;

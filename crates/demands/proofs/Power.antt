@@ -4,7 +4,7 @@ use mathlib.Core.Bool.{Bool, true, false, cond, not, false≢true, _&&_, _||_, a
 use mathlib.Core.Path.{_≡_, refl, sym, ap, _∙_}
 use mathlib.Core.List.{List, [], _∷_, flatten}
 use native.Mathlib.Omega.{arith}
-use borrow.Author.Tests.{ne-eqb, lt-leb}
+use borrow.Author.Tests.{eq-eqb, ne-eqb, lt-leb}
 use lib.Dec.{leb, eqb}
 use lib.ListN.{getD}
 use Rattle.lists.specs.Lists.{same}
@@ -26,6 +26,7 @@ use Rattle.answers.specs.Judged.{setOf, command, offAlready, takes, judge, stor
 use Rattle.answers.specs.Played.{played}
 use Rattle.requests.specs.Request.{isPowerOff}
 use Rattle.host.specs.Machine.{navEnds, ending}
+use Rattle.answers.proofs.Orders.{is-off}
 use Rattle.answers.proofs.Turns.{either-way}
 use Rattle.answers.proofs.Formed.{off-same}
 use Rattle.demands.proofs.Profiles.{own-profile}
@@ -46,9 +47,9 @@ on (suc (suc (suc v))) e = absurd (false≢true (sym (above v) ∙ e))
 
 is-on : (profile : Profile) (values : List ℕ) → allowedFor profile powerRow (valuesOf powerRow values) ≡ true
     → eqb (getD values 0 0) 2 ≡ not (same (valuesOf powerRow values) off)
-unfolding settings allowedByRow flatten allAllowed same
+unfolding settings allowedByRow flatten allAllowed
 is-on profile [] e = absurd (false≢true e)
-is-on profile (v ∷ values) e = on v (sym (and-true (within (1 to 2) v)) ∙ e) ∙ ap not (sym (and-true (eqb v 1)))
+is-on profile (v ∷ values) e = on v (sym (and-true (within (1 to 2) v)) ∙ e) ∙ ap not (sym (is-off (v ∷ values)))
 
 -- what a panel takes of power
 module _ (p : Panel) (good : GoodPanel p) where
@@ -84,11 +85,7 @@ power-set t f i k v there =
 -- a panel whose power is 1 is off
 off-by-value : (p : Panel) → getD (p .values) 0 0 ≡ 1 → offAlready powerRow off p ≡ true
 unfolding settings allowedByRow flatten offAlready same
-off-by-value p e = go (p .values) e
-  where
-    go : (values : List ℕ) → getD values 0 0 ≡ 1 → same (valuesOf powerRow values) off ≡ true
-    go [] e = absurd (omega arith)
-    go (v ∷ values) e = rw e
+off-by-value p e = is-off (p .values) ∙ eq-eqb _ 1 e
 
 set-off : command (0x18 ∷ 1 ∷ []) ≡ setOf powerRow off
 unfolding settings foundFrom command

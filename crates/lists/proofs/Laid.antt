@@ -2,7 +2,7 @@
 -- Assumes nothing.
 use mathlib.Core.Path.{_≡_, refl, sym, ap, _∙_}
 use mathlib.Core.List.{List, [], _∷_, _++_, append-assoc, append-nil, flatten}
-use Prim.Native.Nat.{ℕ, _+_, _-_, _≤_, _<_}
+use Prim.Native.Nat.{ℕ, zero, suc, _+_, _-_, _≤_, _<_}
 use native.Mathlib.Nat.{add-assoc, zero-add, add-zero}
 use native.Mathlib.Numerals.{add-one}
 use native.Mathlib.Omega.{arith}
@@ -40,6 +40,20 @@ module _ (at : ℕ) (b l : List ℕ) (h : at + length b ≤ length l) where
       let past : drop (at + length b) (laidAt at b l) ≡ drop (at + length b) l = sym (drop-drop (length b) at _) ∙ rw from-laid (drop-at b _ (length b) refl) in
       ap (λ (k : ℕ). drop k (laidAt at b l)) (sym e) ∙ sym (drop-drop d (at + length b) (laidAt at b l)) ∙ ap (drop d) past
       ∙ drop-drop d (at + length b) l ∙ ap (λ (k : ℕ). drop k l) e
+
+-- what stands there, laid there again
+front-and-rest : (n : ℕ) (l : List ℕ) → take n l ++ drop (length (take n l)) l ≡ l
+front-and-rest zero l = refl
+front-and-rest (suc n) [] = refl
+front-and-rest (suc n) (x ∷ l) = ap (λ (m : List ℕ). x ∷ m) (front-and-rest n l)
+
+pub laid-own : (at n : ℕ) (l : List ℕ) → laidAt at (take n (drop at l)) l ≡ l
+unfolding laidAt
+laid-own at n l =
+    let b = take n (drop at l) in
+    append-assoc (take at l) b (drop (at + length b) l)
+    ∙ ap (λ (m : List ℕ). take at l ++ (b ++ m)) (sym (drop-drop (length b) at l))
+    ∙ ap (λ (m : List ℕ). take at l ++ m) (front-and-rest n (drop at l)) ∙ take-append-drop at l
 
 -- a part that ends before them
 part-is : (a n : ℕ) (l : List ℕ) → a ≤ length l → take n (drop a l) ≡ drop a (take (a + n) l)

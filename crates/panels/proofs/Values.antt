@@ -14,8 +14,7 @@ use Rattle.settings.specs.declared.Profile.{Profile}
 use Rattle.settings.specs.Settings.{settings, allowedByRow, byteCount, place, allowedFor, freshValues, valuesWith, valueCount, rowCount}
 use Rattle.settings.proofs.Laws.{place-fits, places-apart, allowed-many, fresh-allowed, fresh-count}
 use Rattle.lists.proofs.Each.{alike}
-use Rattle.lists.specs.Lists.{laidAt}
-use Rattle.lists.proofs.Laid.{length-laid, before-laid, laid-itself, behind-laid, ahead-of-laid}
+use Rattle.lists.proofs.Laid.{length-laid, laid-itself, behind-laid, laid-own, ahead-of-laid}
 use Rattle.panels.specs.Wall.{valuesOf}
 
 -- the values of a row are as many as it has
@@ -24,6 +23,10 @@ length-values row values e = let f = place-fits row in simp (length-take, length
 
 pub length-with : (row : ℕ) (vs values : List ℕ) → length vs ≡ byteCount row → length values ≡ valueCount → length (valuesWith row vs values) ≡ valueCount
 length-with row vs values n full = length-laid (place row) vs values (omega (arith, place-fits row)) ∙ full
+
+-- storing what a row has changes nothing
+pub with-own : (row : ℕ) (values : List ℕ) → valuesWith row (valuesOf row values) values ≡ values
+with-own row values = laid-own (place row) (byteCount row) values
 
 -- a row that was stored to has the values, and every other row has what it had
 module _ (row : ℕ) (vs values : List ℕ) (n : length vs ≡ byteCount row) (full : length values ≡ valueCount) where
@@ -45,11 +48,6 @@ module _ (row : ℕ) (vs values : List ℕ) (n : length vs ≡ byteCount row) (f
       go : (t : Bool) → ltb r row ≡ t → valuesOf r (valuesWith row vs values) ≡ valuesOf r values
       go true e = below (ltb-true r row e)
       go false e = ⊎-elim (λ same. absurd (ne (sym same))) above (eq-or-lt-of-le (ltb-false r row e))
-
-  -- storing the same once more changes nothing
-  pub with-twice : valuesWith row vs (valuesWith row vs values) ≡ valuesWith row vs values
-  unfolding laidAt
-  with-twice = rw (before-laid (place row) vs values room, behind-laid (place row) vs values room (place row + length vs) (omega arith))
 
 -- 15 values are known by their rows
 next-place : {row : ℕ} → row < rowCount → place (suc row) ≡ place row + byteCount row

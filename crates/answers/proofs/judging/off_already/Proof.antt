@@ -2,7 +2,7 @@
 use mathlib.Core.Path.{_≡_, refl, sym, ap, _∙_}
 use mathlib.Core.Bool.{true, false}
 use mathlib.Core.List.{List, flatten}
-use Prim.Native.Nat.{ℕ, _<_}
+use Prim.Native.Nat.{ℕ}
 use native.Mathlib.Omega.{arith}
 use borrow.Author.Needs.{needs}
 use borrow.Author.Tests.{eq-eqb, ne-eqb}
@@ -25,8 +25,8 @@ sets-off d e =
     ap (λ (l : List ℕ). same l off) (sym (take-all 1 (drop 1 d) (omega arith))) ∙ same-first (drop 1 d) 1 (omega arith)
     ∙ ap (λ (v : ℕ). eqb v 1) (getD-drop 1 d 0 0)
 
-sets-other : (d : List ℕ) → 0 < length d → (length d ≡ 2 → ⊥) → same (drop 1 d) off ≡ false
-sets-other d h n = same-other (drop 1 d) 1 (λ e. n (omega (arith, rw length-drop at e)))
+sets-other : (d : List ℕ) → (length d ≡ 2 → ⊥) → same (drop 1 d) off ≡ false
+sets-other d n = same-other (drop 1 d) 1 (λ e. n (omega (arith, rw length-drop at e)))
 
 module _ (row : ℕ) (vs : List ℕ) (p : Panel) where
   other-row : (row ≡ 0 → ⊥) → offAlready row vs p ≡ false
@@ -37,9 +37,9 @@ module _ (row : ℕ) (vs : List ℕ) (p : Panel) where
   unfolding offAlready
   other-values e f = rw (e, f)
 
-  power : row ≡ 0 → same vs off ≡ true → 0 < length (p .values) → offAlready row vs p ≡ eqb (getD (p .values) (place powerRow) 0) 1
+  power : row ≡ 0 → same vs off ≡ true → offAlready row vs p ≡ eqb (getD (p .values) (place powerRow) 0) 1
   unfolding offAlready
-  power e f h = rw (e, f) (is-off (p .values) h)
+  power e f = rw (e, f) (is-off (p .values))
 
 first : place powerRow ≡ 0
 unfolding settings allowedByRow flatten
@@ -51,7 +51,7 @@ returns c = sym (other-row _ _ _ (c .if1 .taken))
 returns-2 : tie.Need-returns-2
 returns-2 c =
     let a = c .before .before .before .args in
-    sym (other-values _ _ _ (c .before .if1 .left) (sets-other (a .d .now) (c .before .before .before .pre) (c .if2 .taken)))
+    sym (other-values _ _ _ (c .before .if1 .left) (sets-other (a .d .now) (c .if2 .taken)))
 
 shared-slice-read-if3 : tie.Need-shared-slice-read-if3
 shared-slice-read-if3 c = search needs
@@ -71,7 +71,7 @@ returns-3 c =
     let start = two .before .before .before in
     let a = start .args in
     let to = sets-off (a .d .now) (two .if2 .left) ∙ eq-eqb _ 1 (c .before .if3 .taken) in
-    ap (λ (n : ℕ). eqb (getD (a .p .values) n 0) 1) (at-first c) ∙ sym (power _ _ _ (two .before .if1 .left) to (search needs))
+    ap (λ (n : ℕ). eqb (getD (a .p .values) n 0) 1) (at-first c) ∙ sym (power _ _ _ (two .before .if1 .left) to)
 
 returns-4 : tie.Need-returns-4
 returns-4 c =

@@ -42,7 +42,7 @@ here c =
     let start = c .before .before in
     let a = start .args in
     sym (own (a .p .profile) (a .row) (drop 1 (a .d .now)))
-    ∙ ap₂ (λ (l : List Bool) (n : ℕ). getD l n false) (sym (start .pre .1)) (sym (c .number-of .ensures))
+    ∙ ap₂ (λ (l : List Bool) (n : ℕ). getD l n false) (sym (start .pre)) (sym (c .number-of .ensures))
 
 returns : tie.Need-returns
 unfolding takes

@@ -65,7 +65,7 @@ allowed-by-requires c κs =
     (o .0, o .1)
 
 takes-requires : tie.Need-takes-requires
-takes-requires c κs = (told (c .before .before .before .before) _ (c .before .before .order2 .given .1) .1, c .allowed-by .ensures)
+takes-requires c κs = c .allowed-by .ensures
 
 -- the panel's judgement is the wall's panel's
 own : (c : tie.After-takes)
