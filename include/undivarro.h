@@ -4,8 +4,10 @@
  * caller hands in the image, gets the image after the burst, and hands that in with the next burst.
  *
  * An image has one of two forms, told apart by its last byte, 1 or 2. In form 2 each panel has a profile, general or
- * Phoenix, which says what its video may be; in form 1 every panel is general. Every function reads both forms.
- * undivarro_play and undivarro_read write form 2; undivarro_back writes form 1, for boxes that know no other.
+ * Phoenix, which says what its video may be, a kind, 5 by 5 or 15 by 10, which says how large its wall may be, and a
+ * tiling, which says where in its wall it sits; in form 1 every panel is general and 5 by 5, and its tiling is fresh.
+ * Every function reads both forms. undivarro_play and undivarro_read write form 2; undivarro_back writes form 1, for
+ * boxes that know no other.
  *
  * Every byte string is lent for the call as a pointer and a length. Any bytes and any lengths may be given; nothing
  * outside the lent lengths is read or written. The buffers that are written, answer and out, overlap neither each other
@@ -23,7 +25,7 @@ extern "C" {
 enum {
     UNDIVARRO_MAX_PANELS = 32,
     UNDIVARRO_ANSWER_CAP = 40,          /* what answer must have room for */
-    UNDIVARRO_IMAGE_CAP = 36 * 32 + 2   /* room for every image that is written: for n panels form 2 has 36n + 2 bytes,
+    UNDIVARRO_IMAGE_CAP = 45 * 32 + 2   /* room for every image that is written: for n panels form 2 has 45n + 2 bytes,
                                            form 1 35n + 2 */
 };
 
@@ -32,6 +34,19 @@ enum {
     UNDIVARRO_GENERAL = 0,
     UNDIVARRO_PHOENIX = 1               /* sharpness 0 to 10, tint -50 to +50 in two's complement, the rest as general */
 };
+
+/* The kind of a panel in form 2: the one value of its field with this code, which no burst has. A field that is left out
+ * means 5 by 5. */
+enum { UNDIVARRO_KIND_CODE = 0x01 };
+enum {
+    UNDIVARRO_5_BY_5 = 0,
+    UNDIVARRO_15_BY_10 = 1              /* 15 wide, 10 high */
+};
+
+/* Tiling, set 0x22 and get 0x23: enable and frame compensation, 0 or 1; position, counted from left to right and then
+ * down, from 1; and a byte for the wall of V rows and H columns, (V - 1) * 5 + H for a 5 by 5 panel and (V - 1) * 15 + H
+ * for a 15 by 10 one. The position is at most H * V. In a set the byte 0 keeps the panel's wall, whose byte is stored and
+ * reported; in an image it is not allowed. Fresh: 0, 0, 1, 1. */
 
 /* What was wrong with a burst: the first that holds, in this order. It is a fact about the burst alone, told also where
  * the box stays silent. */
@@ -51,10 +66,12 @@ enum {
  *   14  image: shorter than 2n + 2 bytes
  *   15  image: starts don't fit
  *   16  record: under 2 bytes, in form 2 under 3, ID 0, group 0, ID seen before, or in form 2 an unknown profile
- *   17  field: not a set code, seen before in this record, length wrong, or cut off
- *   18  field: value not allowed for the panel's profile
- *   31  undivarro_back only: a panel is Phoenix, which form 1 cannot say
- *   19  answer_cap under 40, or out_cap under the size of the form written, 36n + 2, or 35n + 2 for undivarro_back; n
+ *   17  field: a code that its form does not have (form 2 has the set codes and the kind's, form 1 all but tiling and
+ *       kind), seen before in this record, a kind behind the tiling, length wrong, or cut off
+ *   18  field: value not allowed for the panel's profile and kind; a tiling is judged by the kind that stands before it in
+ *       its record, or as 5 by 5 where none does
+ *   31  undivarro_back only: a panel is Phoenix or 15 by 10, or its tiling is not fresh, which form 1 cannot say
+ *   19  answer_cap under 40, or out_cap under the size of the form written, 45n + 2, or 35n + 2 for undivarro_back; n
  *       is the image's panel count
  *
  * 11 to 15 are tested on the whole image; then record after record, each its 16 and then field after field its 17 and
@@ -62,28 +79,29 @@ enum {
 struct undivarro_result {
     uint32_t refusal;
     uint32_t answer_len;                /* bytes written to answer; 0 is silence */
-    uint32_t image_len;                 /* bytes written to out: 36n + 2, or 35n + 2 by undivarro_back */
+    uint32_t image_len;                 /* bytes written to out: 45n + 2, or 35n + 2 by undivarro_back */
     uint32_t damage;                    /* of the burst; 0 from undivarro_read and undivarro_back */
 };
 
 /* Plays one burst on the wall of the image. A burst is all the bytes between two quiet marks of the line, of any number,
  * none included. The answer packet, ready to be sent, goes to the front of answer, and the image after the burst to the
  * front of out, in form 2; the bytes past them stay as they were. A damaged burst is no refusal: its answer is NACK or
- * silence, and damage says what was wrong with it. Each panel judges a set by its own profile: of a group, one may take
- * it while its neighbour keeps what it had. Power off to a panel that is off gets NAV and changes nothing; any other set
- * to the value that is there, power on too, gets ACK. */
+ * silence, and damage says what was wrong with it. Each panel judges a set by its own profile and kind, and a tiling whose
+ * byte is 0 by the wall that it has: of a group, one may take it while its neighbour keeps what it had. Power off to a
+ * panel that is off gets NAV and changes nothing; any other set to the value that is there, power on too, gets ACK. */
 struct undivarro_result undivarro_play(const uint8_t *image, size_t image_len,
                                        const uint8_t *burst, size_t burst_len,
                                        uint8_t *answer, size_t answer_cap,
                                        uint8_t *out, size_t out_cap);
 
-/* Reads an image and writes its wall to the front of out in form 2, with all eight fields of each panel, by rising code:
- * fields may come in any order, and one that is left out has the fresh value of the panel's profile. answer_len is 0. 19
- * speaks of out_cap only. */
+/* Reads an image and writes its wall to the front of out in form 2, with all ten fields of each panel, by rising code:
+ * fields may come in any order, but for a kind behind the tiling, and one that is left out has the fresh value of the
+ * panel's profile. answer_len is 0. 19 speaks of out_cap only. */
 struct undivarro_result undivarro_read(const uint8_t *image, size_t image_len,
                                        uint8_t *out, size_t out_cap);
 
-/* As undivarro_read, but writes form 1. It loses nothing: a wall with a Phoenix panel is refused by 31. */
+/* As undivarro_read, but writes form 1, which has eight fields. It loses nothing: what form 1 cannot say is refused by
+ * 31. */
 struct undivarro_result undivarro_back(const uint8_t *image, size_t image_len,
                                        uint8_t *out, size_t out_cap);
 

@@ -2,24 +2,49 @@
 #include <stdio.h>
 
 #include "commands.h"
+#include "names.h"
 #include "setup.h"
 #include "status.h"
 
-/* 31 came: names the panels that form 1 cannot hold. */
-static int refused_phoenix(const char *path, const struct setup *setup)
+static void name_panel(const uint8_t *record, unsigned lost)
 {
-    unsigned found = 0;
-    uint8_t ids[UNDIVARRO_MAX_PANELS];
-    for (size_t k = 0; k < panel_count(setup); k++)
-        if (record_of(setup, k)[PROFILE_AT] == UNDIVARRO_PHOENIX)
-            ids[found++] = record_of(setup, k)[ID_AT];
-    if (found == 0)
+    const char *words[3];
+    unsigned count = 0;
+    if (lost & LOST_PROFILE)
+        words[count++] = profile_name(record[PROFILE_AT]);
+    if (lost & LOST_KIND)
+        words[count++] = kind_name(record[KIND_AT]);
+    if (lost & LOST_TILING)
+        words[count++] = "tiling not fresh";
+    fprintf(stderr, "panel %u (", record[ID_AT]);
+    for (unsigned i = 0; i < count; i++)
+        fprintf(stderr, "%s%s", i > 0 ? ", " : "", words[i]);
+    fputc(')', stderr);
+}
+
+/* 31 came: names the panels that form 1 cannot hold, each with the reasons, and what can be done. */
+static int refused_form_1(const char *path, const struct setup *setup)
+{
+    unsigned all_lost = 0;
+    for (size_t k = 0; k < panel_count(setup); k++) {
+        const uint8_t *record = record_of(setup, k);
+        unsigned lost = lost_in_form_1(record);
+        if (!lost)
+            continue;
+        if (all_lost)
+            fputs(", ", stderr);
+        else
+            fprintf(stderr, "rig: %s: refusal 31: form 1 cannot hold ", path);
+        name_panel(record, lost);
+        all_lost |= lost;
+    }
+    if (!all_lost)
         return refused(path, 31);
-    fprintf(stderr, "rig: %s: refusal 31: panel%s", path, found == 1 ? "" : "s");
-    for (unsigned i = 0; i < found; i++)
-        fprintf(stderr, "%s %u", i > 0 ? "," : "", ids[i]);
-    fprintf(stderr, " %s Phoenix, and form 1 has no profiles; give an older box a setup without %s, made with rig new, and "
-            "keep this one for boxes that read form 2\n", found == 1 ? "is" : "are", found == 1 ? "it" : "them");
+    if (all_lost & (LOST_PROFILE | LOST_KIND))
+        fputs("; give an older box a setup without Phoenix and 15x10 panels, made with rig new", stderr);
+    if (all_lost & LOST_TILING)
+        fputs("; a tiling is fresh again after the set 22 00 00 01 01", stderr);
+    fputs("; keep this setup for boxes that know tiling\n", stderr);
     return REFUSED;
 }
 
@@ -31,7 +56,7 @@ int back(const char *path, const char *new_path)
         return status;
     struct undivarro_result r = undivarro_back(setup.bytes, setup.len, form_1.bytes, sizeof form_1.bytes);
     if (r.refusal == 31)
-        return refused_phoenix(path, &setup);
+        return refused_form_1(path, &setup);
     if (r.refusal)
         return refused(path, r.refusal);
     form_1.len = r.image_len;

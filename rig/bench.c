@@ -51,7 +51,7 @@ struct outcome {
     uint8_t answer[UNDIVARRO_ANSWER_CAP], out[UNDIVARRO_IMAGE_CAP];
 };
 
-/* 32 fresh general panels, all in group 9, as each form is written. */
+/* 32 fresh general 5 by 5 panels, all in group 9, as each form is written. */
 struct image {
     size_t len;
     uint8_t bytes[UNDIVARRO_IMAGE_CAP];
@@ -107,11 +107,13 @@ struct trial {
 static const uint8_t get_power[] = {0, 0, 0, 0x19, 0};
 static const uint8_t set_video[] = {0, 0, 0, 0x32, 10, 20, 30, 40, 60, 70, 2, 0};
 static const uint8_t set_fan[] = {0, 0, 0, 0x61, 4, 0};
+static const uint8_t set_tiling[] = {0, 0, 0, 0x22, 1, 0, 2, 8, 0};
 static const struct trial trials[] = {
     {"get of power, 5 bytes, to one of 32, form 2", get_power, sizeof get_power, false, 0},
     {"set of video, 12 bytes, to one of 32, form 2", set_video, sizeof set_video, false, 0},
     {"set of fan, 6 bytes, to all 32, form 2", set_fan, sizeof set_fan, true, 0},
     {"set of video, 12 bytes, to all 32, form 2", set_video, sizeof set_video, true, 0},
+    {"set of tiling, 9 bytes, to all 32, form 2", set_tiling, sizeof set_tiling, true, 0},
     {"damaged burst, 5 bytes, for one of 32 (NACK), form 2", get_power, sizeof get_power, false, 1},
 };
 enum { TRIALS = sizeof trials / sizeof trials[0] };

@@ -2,16 +2,15 @@
 
 #include <string.h>
 
+#include "case_data.h"
 #include "checksum.h"
 
 const char *const burst_kind_names[BURST_KINDS] = {
-    "empty", "get", "set", "set with any values", "set of video for one profile", "power off or on", "set with any length",
-    "get with bytes behind it", "any code", "no data", "36 bytes of data", "one byte changed", "one byte lost",
-    "one byte added", "two bytes swapped", "1 to 3 bytes", "41 to 300 bytes", "over 65,535 bytes", "3 to 5 or 39 to 41 bytes",
-    "random bytes",
+    "empty", "get", "set", "set with any values", "set of video for one profile", "power off or on", "tiling",
+    "set with any length", "get with bytes behind it", "any code", "code of the kind, or 0", "no data", "36 bytes of data",
+    "one byte changed", "one byte lost", "one byte added", "two bytes swapped", "1 to 3 bytes", "41 to 300 bytes",
+    "over 65,535 bytes", "3 to 5 or 39 to 41 bytes", "random bytes",
 };
-
-enum { AROUND_DATA = 4, MAX_PACKET = 40, MAX_DATA = MAX_PACKET - AROUND_DATA };
 
 static void set_checksum(uint8_t *burst, size_t len)
 {
@@ -24,17 +23,15 @@ static void close_packet(uint8_t *burst, size_t len)
     set_checksum(burst, len);
 }
 
-/* A set that panels may judge each in its own way goes to all or to a group more often. */
-static void address(struct source *s, enum burst_kind kind, const struct draft *d, uint8_t *id, uint8_t *group)
+/* To the panel, if there is one, its group, or all. A set that panels may judge each in its own way goes to all or to a
+ * group more often. */
+static void address(struct source *s, enum burst_kind kind, const struct record *panel, uint8_t *id, uint8_t *group)
 {
-    uint8_t an_id = any_byte(s), a_group = any_byte(s);
-    if (d->count > 0) {
-        an_id = d->records[below(s, (unsigned)d->count)].bytes[0];
-        a_group = d->records[below(s, (unsigned)d->count)].bytes[1];
-    }
+    uint8_t an_id = panel ? panel->bytes[0] : any_byte(s), a_group = panel ? panel->bytes[1] : any_byte(s);
+    bool judged = kind == BURST_SET_ONE_PROFILE || kind == BURST_SET_POWER || kind == BURST_SET_TILING;
     *id = an_id;
     *group = 0;
-    switch (below(s, kind == BURST_SET_ONE_PROFILE || kind == BURST_SET_POWER ? 3 : 8)) {
+    switch (below(s, judged ? 3 : 8)) {
     case 0:
         *id = 0;
         break;
@@ -48,53 +45,6 @@ static void address(struct source *s, enum burst_kind kind, const struct draft *
     case 4:
         *group = one_in(s, 2) ? 255 : any_byte(s);
         break;
-    }
-}
-
-static size_t make_set(struct source *s, enum burst_kind kind, unsigned row, uint8_t *data)
-{
-    uint8_t profile = any_profile(s);
-    size_t len = 1u + rows[row].count;
-    data[0] = rows[row].set_code;
-    values(s, row, profile, data + 1);
-    if (kind == BURST_SET_ANY_VALUE)
-        spoil_value(s, row, profile, data + 1);
-    if (kind == BURST_SET_ONE_PROFILE)
-        put_own_value(s, profile, data + 1);
-    if (kind == BURST_SET_POWER)
-        data[1] = one_in(s, 4) ? ON : OFF;
-    if (kind == BURST_SET_LENGTH) {
-        data[len] = (uint8_t)below(s, 3);
-        len = one_in(s, 2) ? len - 1 : one_in(s, 2) ? len + 1 : 1 + below(s, 9);
-    }
-    return len;
-}
-
-/* The data bytes, which are 0 before; their number. */
-static size_t make_data(struct source *s, enum burst_kind kind, uint8_t *data)
-{
-    bool video = kind == BURST_SET_ONE_PROFILE || one_in(s, 4);
-    unsigned row = kind == BURST_SET_POWER ? POWER : video ? VIDEO : below(s, ROWS);
-    switch (kind) {
-    case BURST_GET:
-        data[0] = rows[row].get_code;
-        return 1;
-    case BURST_GET_LENGTH:
-        fill_any(s, data, MAX_DATA);
-        data[0] = rows[row].get_code;
-        return one_in(s, 2) ? 1u + rows[row].count : 2 + below(s, MAX_DATA - 1);
-    case BURST_UNKNOWN:
-        fill_any(s, data, MAX_DATA);
-        data[0] = any_code(s);
-        return 1 + below(s, 9);
-    case BURST_NO_DATA:
-        return 0;
-    case BURST_FULL:
-        memset(data, (int)below(s, 3), MAX_DATA);
-        data[0] = one_in(s, 2) ? rows[row].set_code : any_code(s);
-        return MAX_DATA;
-    default:
-        return make_set(s, kind, row, data);
     }
 }
 
@@ -192,21 +142,38 @@ static size_t spoil_burst(struct source *s, enum burst_kind kind, uint8_t *burst
     }
 }
 
+/* One of the draft, for a tiling often one that is 15 by 10 or has a wall; NULL where there is none. */
+static const struct record *choose_panel(struct source *s, enum burst_kind kind, const struct draft *d)
+{
+    const struct record *panel = NULL;
+    for (int tries = kind == BURST_SET_TILING ? 3 : 1; d->count > 0 && tries > 0; tries--) {
+        panel = &d->records[below(s, (unsigned)d->count)];
+        if (panel->kind == UNDIVARRO_15_BY_10 || panel->tiling[WALL_BYTE] > 1)
+            break;
+    }
+    return panel;
+}
+
 void make_burst(struct source *s, struct test_case *c, const struct draft *d)
 {
-    enum burst_kind kind = below(s, BURST_KINDS);
-    if (one_in(s, 3))
-        kind = one_in(s, 3) ? BURST_SET_ONE_PROFILE : one_in(s, 3) ? BURST_SET_POWER : BURST_SET;
-    if (kind == BURST_VERY_LONG && !one_in(s, 8))
+    static const enum burst_kind often[] = {
+        BURST_SET_ONE_PROFILE, BURST_SET_ONE_PROFILE, BURST_SET_ONE_PROFILE, BURST_SET_POWER, BURST_SET_POWER,
+        BURST_SET_TILING, BURST_SET_TILING, BURST_SET_TILING, BURST_SET_TILING, BURST_SET_TILING, BURST_SET_TILING,
+        BURST_SET_TILING, BURST_SET_TILING, BURST_SET_TILING, BURST_SET_TILING, BURST_SET, BURST_GET, BURST_LIMIT,
+        BURST_LONG,
+    };
+    enum burst_kind kind = one_in(s, 2) ? often[below(s, sizeof often / sizeof often[0])] : below(s, BURST_KINDS);
+    if (kind == BURST_VERY_LONG && !one_in(s, 5))
         kind = BURST_GET;
     c->burst_kind = kind;
 
+    const struct record *panel = choose_panel(s, kind, d);
     uint8_t *burst = c->burst, data[64] = {0};
-    address(s, kind, d, &burst[1], &burst[2]);
+    address(s, kind, panel, &burst[1], &burst[2]);
     enum burst_kind data_kind = kind;
     if (kind >= BURST_CHANGED && one_in(s, 2))
         data_kind = BURST_GET;
-    size_t data_len = make_data(s, data_kind, data);
+    size_t data_len = make_data(s, data_kind, panel, data);
     memcpy(burst + 3, data, data_len);
     close_packet(burst, data_len + AROUND_DATA);
     c->burst_len = spoil_burst(s, kind, burst, data_len + AROUND_DATA);

@@ -2,6 +2,8 @@
 
 #include <string.h>
 
+#include "case_spoilings.h"
+
 const char *const image_kind_names[IMAGE_KINDS] = {
     "as written", "fields in any order", "fields left out", "no panels", "33 panels",
     "record of 1 byte", "record of 2 bytes", "record with ID 0", "record with group 0", "record with an ID seen before",
@@ -9,6 +11,8 @@ const char *const image_kind_names[IMAGE_KINDS] = {
     "field with a get code", "field with any code", "field twice", "field with any length", "field cut off",
     "field of a code alone", "field with any value",
     "Phoenix panel, video for general alone", "general panel, video for Phoenix alone",
+    "form 1 with a kind or a tiling", "unknown kind", "kind twice, no tiling", "kind behind the tiling",
+    "tiling with a value not allowed", "tiling for the other kind alone",
     "any form byte", "any panel count", "shorter than its trailer", "starts that don't fit", "bytes before the trailer",
     "one to three bytes of noise", "0 to 3 bytes", "random bytes", "over 65,535 bytes",
 };
@@ -187,7 +191,11 @@ void make_image(struct source *s, struct test_case *c, struct draft *d)
     c->form = d->form;
     c->no_video[UNDIVARRO_GENERAL] = video_left_out(d, UNDIVARRO_GENERAL);
     c->no_video[UNDIVARRO_PHOENIX] = video_left_out(d, UNDIVARRO_PHOENIX);
+    memset(c->places, 0, sizeof c->places);
+    for (size_t k = 0; k < d->count; k++)
+        c->places[place_kind_of(&d->records[k])] = true;
 
+    c->spoiled = (struct spoiled){0};
     c->spoilings = below(s, 2) ? 0 : below(s, 3) ? 1 : 2 + below(s, 2);
     enum image_kind whole[3];
     unsigned wholes = 0;
@@ -198,7 +206,7 @@ void make_image(struct source *s, struct test_case *c, struct draft *d)
         if (kind >= WHOLE_FORM)
             whole[wholes++] = kind;
         else
-            spoil_draft(s, d, kind);
+            spoil_draft(s, d, kind, &c->spoiled);
         c->image_kind = kind;
     }
     c->image_len = put_together(d, c->image);

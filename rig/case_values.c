@@ -1,18 +1,27 @@
 #include "case_values.h"
 
+#include "case_tilings.h"
 #include "undivarro.h"
 
 enum { SHARPNESS_AT = 3, TINT_AT, GAMMA_AT = 6 };
 
-const struct row rows[ROWS] = {
-    {0x18, 0x19, 1, {2, {1, 2}}, {3, {0, 3, 255}}},
-    {0x32, 0x33, 7, {5, {0, 1, 50, 99, 100}}, {5, {101, 128, 206, 230, 255}}},
-    {0x34, 0x35, 1, {9, {0, 1, 3, 4, 5, 6, 9, 10, 13}}, {7, {2, 7, 8, 11, 12, 14, 255}}},
-    {0x42, 0x43, 2, {5, {0, 1, 50, 99, 100}}, {5, {101, 128, 206, 230, 255}}},
-    {0x61, 0x62, 1, {5, {0, 1, 2, 3, 4}}, {2, {5, 255}}},
-    {0xA3, 0xA4, 1, {3, {0, 1, 2}}, {2, {3, 255}}},
-    {0xD0, 0xD1, 1, {4, {0, 1, 2, 3}}, {2, {4, 255}}},
-    {0xDD, 0xDE, 1, {4, {0, 1, 2, 3}}, {2, {4, 255}}},
+struct choice {
+    uint8_t count;
+    uint8_t bytes[9];
+};
+
+static const struct {
+    struct choice allowed, not_allowed;
+} choices[SETTINGS] = {
+    [POWER] = {{2, {1, 2}}, {3, {0, 3, 255}}},
+    [TILING] = {{0}, {3, {151, 152, 255}}},             /* what is allowed is one whole: case_tilings.c */
+    [VIDEO] = {{5, {0, 1, 50, 99, 100}}, {5, {101, 128, 206, 230, 255}}},
+    [COLOUR_TEMPERATURE] = {{9, {0, 1, 3, 4, 5, 6, 9, 10, 13}}, {7, {2, 7, 8, 11, 12, 14, 255}}},
+    [AUDIO] = {{5, {0, 1, 50, 99, 100}}, {5, {101, 128, 206, 230, 255}}},
+    [FAN] = {{5, {0, 1, 2, 3, 4}}, {2, {5, 255}}},
+    [COLD_START] = {{3, {0, 1, 2}}, {2, {3, 255}}},
+    [APM] = {{4, {0, 1, 2, 3}}, {2, {4, 255}}},
+    [POWER_SAVING] = {{4, {0, 1, 2, 3}}, {2, {4, 255}}},
 };
 
 /* The video bytes that have ranges of their own. */
@@ -30,28 +39,31 @@ static uint8_t one_of(struct source *s, const struct choice *from)
     return from->bytes[below(s, from->count)];
 }
 
-static uint8_t value(struct source *s, unsigned row, uint8_t profile, unsigned at, bool allowed)
+static uint8_t value(struct source *s, unsigned setting, uint8_t profile, unsigned at, bool allowed)
 {
-    bool own = row == VIDEO && profile == UNDIVARRO_PHOENIX;
-    if (row == VIDEO && at == GAMMA_AT)
+    bool own = setting == VIDEO && profile == UNDIVARRO_PHOENIX;
+    if (setting == VIDEO && at == GAMMA_AT)
         return one_of(s, allowed ? &gamma_allowed : &gamma_not_allowed);
     if (own && at == SHARPNESS_AT)
         return one_of(s, allowed ? &phoenix_sharpness : &not_phoenix_sharpness);
     if (own && at == TINT_AT)
         return one_of(s, allowed ? &phoenix_tint : &not_phoenix_tint);
-    return one_of(s, allowed ? &rows[row].allowed : &rows[row].not_allowed);
+    return one_of(s, allowed ? &choices[setting].allowed : &choices[setting].not_allowed);
 }
 
-void values(struct source *s, unsigned row, uint8_t profile, uint8_t *to)
+void values(struct source *s, unsigned setting, uint8_t profile, uint8_t kind, uint8_t *to)
 {
-    for (unsigned i = 0; i < rows[row].count; i++)
-        to[i] = value(s, row, profile, i, true);
+    if (setting == TILING)
+        make_tiling(s, kind, to);
+    else
+        for (unsigned i = 0; i < settings[setting].count; i++)
+            to[i] = value(s, setting, profile, i, true);
 }
 
-void spoil_value(struct source *s, unsigned row, uint8_t profile, uint8_t *to)
+void spoil_value(struct source *s, unsigned setting, uint8_t profile, uint8_t *to)
 {
-    unsigned at = row == VIDEO && one_in(s, 2) ? SHARPNESS_AT + below(s, 2) : below(s, rows[row].count);
-    to[at] = one_in(s, 4) ? any_byte(s) : value(s, row, profile, at, false);
+    unsigned at = setting == VIDEO && one_in(s, 2) ? SHARPNESS_AT + below(s, 2) : below(s, settings[setting].count);
+    to[at] = one_in(s, 4) ? any_byte(s) : value(s, setting, profile, at, false);
 }
 
 void put_own_value(struct source *s, uint8_t profile, uint8_t *video)
@@ -77,7 +89,7 @@ uint8_t other_profile(uint8_t profile)
 uint8_t any_code(struct source *s)
 {
     static const uint8_t near[] = {
-        0x00, 0x01, 0x17, 0x1A, 0x31, 0x36, 0x41, 0x44, 0x60, 0x63, 0xA2, 0xA5, 0xCF, 0xDC, 0xFF,
+        0x00, 0x01, 0x02, 0x17, 0x1A, 0x21, 0x24, 0x31, 0x36, 0x41, 0x44, 0x60, 0x63, 0xA2, 0xA5, 0xCF, 0xDC, 0xFF,
     };
     return one_in(s, 2) ? near[below(s, sizeof near)] : any_byte(s);
 }

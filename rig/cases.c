@@ -20,9 +20,9 @@ static size_t edge(struct source *s, size_t needed)
     }
 }
 
-static size_t image_size(unsigned form, size_t n)
+size_t image_size(unsigned form, size_t panels)
 {
-    return (form == 1 ? 35 : 36) * n + 2;
+    return (form == 1 ? 35 : 45) * panels + 2;
 }
 
 /* How much is lent, for an image of n panels. */

@@ -7,7 +7,7 @@
 #include <stddef.h>
 #include <stdint.h>
 
-enum { MAX_IMAGE_BYTES = 70000, MAX_BURST_BYTES = 70000, MAX_ROOM = 1300 };
+enum { MAX_IMAGE_BYTES = 70000, MAX_BURST_BYTES = 70000, MAX_ROOM = 1600 };
 
 enum call { CALL_PLAY, CALL_READ, CALL_BACK, CALLS };
 
@@ -17,19 +17,31 @@ enum image_kind {
     RECORD_1_BYTE, RECORD_2_BYTES, RECORD_ID_0, RECORD_GROUP_0, RECORD_ID_TWICE, RECORD_PROFILE,
     FIELD_GET_CODE, FIELD_UNKNOWN, FIELD_TWICE, FIELD_LENGTH, FIELD_CUT, FIELD_CODE_ALONE, FIELD_VALUE,
     FIELD_GENERAL_ALONE, FIELD_PHOENIX_ALONE,
+    FIELD_LATER, FIELD_KIND, FIELD_KIND_TWICE, FIELD_KIND_BEHIND, FIELD_TILING, FIELD_OTHER_KIND,
     WHOLE_FORM, WHOLE_COUNT, WHOLE_CUT, WHOLE_STARTS, WHOLE_EXTRA, WHOLE_NOISE, WHOLE_SHORT, WHOLE_RANDOM, WHOLE_LONG,
     IMAGE_KINDS
 };
 
 enum burst_kind {
-    BURST_EMPTY, BURST_GET, BURST_SET, BURST_SET_ANY_VALUE, BURST_SET_ONE_PROFILE, BURST_SET_POWER, BURST_SET_LENGTH,
-    BURST_GET_LENGTH, BURST_UNKNOWN,
+    BURST_EMPTY, BURST_GET, BURST_SET, BURST_SET_ANY_VALUE, BURST_SET_ONE_PROFILE, BURST_SET_POWER, BURST_SET_TILING,
+    BURST_SET_LENGTH, BURST_GET_LENGTH, BURST_UNKNOWN, BURST_KIND,
     BURST_NO_DATA, BURST_FULL, BURST_CHANGED, BURST_LOST, BURST_ADDED, BURST_SWAPPED, BURST_SHORT, BURST_LONG,
     BURST_VERY_LONG, BURST_LIMIT, BURST_RANDOM,
     BURST_KINDS
 };
 
 enum room_kind { ROOM_EXACT, ROOM_AMPLE, ROOM_EDGE, ROOM_OTHER_FORM, ROOM_ANY, ROOM_KINDS };
+
+/* Which fields of kind and tiling a record has, and where. */
+enum place_kind { NEITHER, KIND_ALONE, TILING_ALONE, KIND_FIRST, KIND_LATER, PLACE_KINDS };
+
+/* The field that was spoiled: of a kind or a tiling which value, what it was made, and the panel's kind. */
+struct spoiled {
+    uint8_t code;
+    uint8_t at, value;
+    uint8_t kind;
+    bool kind_said;                     /* by a field */
+};
 
 extern const char *const call_names[CALLS];
 extern const char *const image_kind_names[IMAGE_KINDS];
@@ -40,8 +52,10 @@ struct test_case {
     enum call call;
     enum image_kind image_kind;
     unsigned spoilings;                 /* of the image */
+    struct spoiled spoiled;
     uint8_t form;                       /* in which it was drafted */
     bool no_video[2];                   /* by profile: a panel of the draft has its video left out */
+    bool places[PLACE_KINDS];           /* a panel of the draft has its kind and tiling so */
     enum burst_kind burst_kind;
     enum room_kind room_kind;
     size_t image_len, burst_len, answer_cap, out_cap;
@@ -51,5 +65,8 @@ struct test_case {
 };
 
 void make_case(uint64_t seed, uint64_t number, struct test_case *c);
+
+/* Of a written image. */
+size_t image_size(unsigned form, size_t panels);
 
 #endif

@@ -15,7 +15,7 @@ const char *const meeting_names[MEETINGS] = {
     "18 for a Phoenix panel's video that general alone allows",
     "18 for a video that Phoenix alone allows, form 1", "18 for a general panel's video that Phoenix alone allows, form 2",
     "form 2, a general panel's video left out", "form 2, a Phoenix panel's video left out",
-    "31 with room for form 1", "31 without room for form 1", "31 for the last of some panels alone",
+    "31 with room for form 1", "31 without room for form 1",
     "19 from play with room for form 1", "19 from read with room for form 1", "back done without room for form 2",
     "ACK from a general panel to what general alone allows", "NAV from a general panel to what Phoenix alone allows",
     "ACK from a Phoenix panel to what Phoenix alone allows", "NAV from a Phoenix panel to what general alone allows",
@@ -76,7 +76,7 @@ static void count_spoiled(unsigned long *met, const struct test_case *c, uint32_
 
 static void count_room(unsigned long *met, const struct test_case *c, uint32_t refusal, const struct wall *wall)
 {
-    bool for_1 = c->out_cap >= 35 * wall->count + 2, for_2 = c->out_cap >= 36 * wall->count + 2;
+    bool for_1 = c->out_cap >= image_size(1, wall->count), for_2 = c->out_cap >= image_size(2, wall->count);
     if (c->call == CALL_PLAY)
         met[MET_PLAY_ROOM_FOR_1] += refusal == 19 && for_1 && c->answer_cap >= UNDIVARRO_ANSWER_CAP;
     else if (c->call == CALL_READ)
@@ -85,8 +85,6 @@ static void count_room(unsigned long *met, const struct test_case *c, uint32_t r
         met[for_1 ? MET_31_WITH_ROOM : MET_31_WITHOUT_ROOM]++;
     else
         met[MET_BACK_ROOM_FOR_1] += refusal == 0 && !for_2;
-    if (refusal == 31 && wall->count > 1 && phoenix_count(wall) == 1)
-        met[MET_31_LAST] += record_at(wall->image, wall->count - 1)[PROFILE_AT] == UNDIVARRO_PHOENIX;
 }
 
 /* The burst is a set of video that one profile alone allows. */
@@ -96,7 +94,7 @@ static void count_set(unsigned long *met, const struct test_case *c, const struc
     for (size_t k = 0; k < panels; k++) {
         const uint8_t *record = record_at(t->out + GUARD, k);
         if (is_addressed(c, record)) {
-            bool has = memcmp(record + VIDEO_AT, c->burst + 4, VIDEO_LEN) == 0;
+            bool has = memcmp(record + VIDEO_AT, c->burst + 4, settings[VIDEO].count) == 0;
             (has ? took : kept)[record[PROFILE_AT]] = true;
         }
     }

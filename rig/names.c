@@ -2,10 +2,13 @@
 
 #include <stddef.h>
 
+#include "tiling.h"
 #include "undivarro.h"
 
 const struct setting settings[SETTINGS] = {
     [POWER] = {"power", 0x18, 0x19, 1, {0}},
+    [TILING] = {"tiling", 0x22, 0x23, TILING_LEN,
+                {[FRAME_COMPENSATION] = "frame compensation", [POSITION] = "position", [WALL_BYTE] = "wall"}},
     [VIDEO] = {"video", 0x32, 0x33, 7, {"brightness", "colour", "contrast", "sharpness", "tint", "black level", "gamma"}},
     [COLOUR_TEMPERATURE] = {"colour temperature", 0x34, 0x35, 1, {0}},
     [AUDIO] = {"audio", 0x42, 0x43, 2, {"treble", "bass"}},
@@ -23,10 +26,12 @@ const struct setting *setting_of(uint8_t code)
     return NULL;
 }
 
-const char *value_word(const struct setting *setting, uint8_t value)
+const char *value_word(const struct setting *setting, unsigned i, uint8_t value)
 {
-    static const char *const power_words[] = {[OFF] = "off", [ON] = "on"};
-    return setting == &settings[POWER] && value <= ON ? power_words[value] : NULL;
+    static const char *const power_words[] = {[OFF] = "off", [ON] = "on"}, *const tiling_words[] = {"off", "on"};
+    if (setting == &settings[POWER] && value <= ON)
+        return power_words[value];
+    return setting == &settings[TILING] && i <= FRAME_COMPENSATION && value <= 1 ? tiling_words[value] : NULL;
 }
 
 bool is_tint(const struct setting *setting, unsigned i)
@@ -34,9 +39,19 @@ bool is_tint(const struct setting *setting, unsigned i)
     return setting == &settings[VIDEO] && i == 4;
 }
 
+bool is_wall(const struct setting *setting, unsigned i)
+{
+    return setting == &settings[TILING] && i == WALL_BYTE;
+}
+
 const char *profile_name(uint8_t profile)
 {
     return profile == UNDIVARRO_PHOENIX ? "Phoenix" : "general";
+}
+
+const char *kind_name(uint8_t kind)
+{
+    return kind == UNDIVARRO_15_BY_10 ? "15x10" : "5x5";
 }
 
 const char *damage_name(uint32_t damage)
@@ -73,14 +88,14 @@ const char *refusal_words(uint32_t refusal)
     case 16:
         return "record: under 2 bytes, in form 2 under 3, ID 0, group 0, ID seen before, or an unknown profile";
     case 17:
-        return "field: not a set code of the table (a get code isn't one), or seen before in this record, length wrong, "
-               "or cut off";
+        return "field: not a set code of its form (a get code isn't one), or seen before in this record, a kind behind the "
+               "tiling, length wrong, or cut off";
     case 18:
         return "field: value not allowed";
     case 19:
-        return "lent output too short: image under 36n + 2 bytes, in form 1 under 35n + 2, answer or packet under 40";
+        return "lent output too short: image under 45n + 2 bytes, in form 1 under 35n + 2, answer or packet under 40";
     case 31:
-        return "writing form 1 while a panel is Phoenix";
+        return "writing form 1 while a panel is Phoenix or 15x10, or has a tiling that is not fresh";
     default:
         return "not a number of the table";
     }

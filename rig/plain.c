@@ -62,24 +62,39 @@ static bool is_addressed(const struct panel *panel, uint8_t id, uint8_t group)
 }
 
 /* Power off to a panel that is off: 02's A5. */
-static bool is_off_already(const struct panel *panel, const struct setting *s, const uint8_t *values)
+static bool is_off_already(const struct panel *panel, const struct field *f, const uint8_t *values)
 {
-    return s->set_code == SET_POWER && values[0] == POWER_OFF && panel->values[s->place] == POWER_OFF;
+    return f == &fields[POWER] && values[0] == POWER_OFF && panel->values[f->place] == POWER_OFF;
 }
 
 /* Stores the set in each addressed panel whose profile allows it; whether the answering panel takes it. A panel that is off
  * already refuses, but in the answer alone: what is stored there is what it has. */
-static bool store(struct wall *wall, uint8_t id, uint8_t group, const struct setting *s, const uint8_t *values,
+static bool store(struct wall *wall, uint8_t id, uint8_t group, const struct field *f, const uint8_t *values,
                   const struct panel *answering)
 {
     bool allowed[PROFILES];
     for (uint8_t profile = 0; profile < PROFILES; profile++)
-        allowed[profile] = all_allowed(s, profile, values);
-    bool taken = answering && allowed[answering->profile] && !is_off_already(answering, s, values);
+        allowed[profile] = all_allowed(f, profile, values);
+    bool taken = answering && allowed[answering->profile] && !is_off_already(answering, f, values);
     for (size_t i = 0; i < wall->count; i++) {
         struct panel *panel = &wall->panels[i];
         if (allowed[panel->profile] && is_addressed(panel, id, group))
-            memcpy(panel->values + s->place, values, s->count);
+            take(panel, f, values);
+    }
+    return taken;
+}
+
+/* The same of a tiling, which each panel judges by its kind and by the wall that it has; whether one takes it, as the
+ * answering panel is addressed alone. */
+static bool store_tiling(struct wall *wall, uint8_t id, uint8_t group, const uint8_t *values)
+{
+    bool taken = false;
+    for (size_t i = 0; i < wall->count; i++) {
+        struct panel *panel = &wall->panels[i];
+        if (!is_addressed(panel, id, group) || !tiling_allowed(panel, values))
+            continue;
+        take_tiling(panel, values);
+        taken = true;
     }
     return taken;
 }
@@ -101,12 +116,13 @@ static size_t answer_burst(struct wall *wall, const uint8_t *burst, size_t len, 
 
     const uint8_t *data = burst + 3;
     size_t data_len = len - 4;
-    const struct setting *s;
-    if (data_len == 1 && (s = setting_by_get_code(data[0])))
-        return answering ? write_answer(answer, id, s->get_code, answering->values + s->place, s->count) : 0;
+    const struct field *f;
+    if (data_len == 1 && (f = setting_by_get_code(data[0])))
+        return answering ? write_answer(answer, id, f->get_code, answering->values + f->place, f->count) : 0;
     bool taken = false;
-    if (data_len > 1 && (s = setting_by_set_code(data[0])) && data_len - 1 == s->count)
-        taken = store(wall, id, group, s, data + 1, answering);
+    if (data_len > 1 && (f = setting_by_set_code(data[0])) && data_len - 1 == f->count)
+        taken = f == &fields[TILING] ? store_tiling(wall, id, group, data + 1)
+                                     : store(wall, id, group, f, data + 1, answering);
     return answering ? write_control(answer, id, taken ? ACK : NAV) : 0;
 }
 
@@ -165,7 +181,7 @@ struct undivarro_result plain_back(const uint8_t *image, size_t image_len,
     if (refusal)
         return refused(refusal);
     for (size_t i = 0; i < wall.count; i++)
-        if (wall.panels[i].profile != UNDIVARRO_GENERAL)
+        if (!fits_form_1(&wall.panels[i]))
             return refused(31);
     return written(&wall, FORM_1, out, out_cap);
 }

@@ -6,13 +6,26 @@
 
 #include "plain_panels.h"
 
-enum { FORM_1 = 1, FORM_2 = 2 };
-enum { FIELDS = 31, START = 2, TRAILER = 2 };           /* bytes of all written fields, a start, n and the form byte */
+enum { START = 2, TRAILER = 2 };        /* bytes of a start, and of n and the form byte */
 
 /* ID and group, in form 2 the profile too. */
 static size_t head_len(uint8_t form)
 {
     return form == FORM_1 ? 2 : 3;
+}
+
+/* As it is written. */
+static size_t record_len(uint8_t form)
+{
+    return form == FORM_1 ? 33 : 43;
+}
+
+/* In an image the byte of a tiling is never 0. */
+static bool allowed_in_image(const struct panel *panel, const struct field *f, const uint8_t *values)
+{
+    if (f == &fields[TILING])
+        return values[BYTE] != 0 && tiling_allowed(panel, values);
+    return all_allowed(f, panel->profile, values);
 }
 
 /* One record, put at the end of the wall; its refusal or 0. */
@@ -29,19 +42,21 @@ static uint32_t read_record(const uint8_t *record, size_t len, uint8_t form, str
     panel->profile = profile;
     memcpy(panel->values, fresh_values[profile], VALUE_BYTES);
 
-    unsigned seen = 0;                  /* bit k: settings[k] */
+    unsigned seen = 0;                  /* bit k: fields[k] */
     for (size_t at = head_len(form); at < len;) {
-        const struct setting *s = setting_by_set_code(record[at]);
-        if (!s || (seen >> (s - settings) & 1))
+        const struct field *f = field_by_code(record[at]);
+        if (!f || f->form > form || (seen >> (f - fields) & 1))
             return 17;
-        if (len - at < 2 || record[at + 1] != s->count || len - at - 2 < s->count)
+        if (f == &fields[KIND] && (seen >> TILING & 1))
+            return 17;
+        if (len - at < 2 || record[at + 1] != f->count || len - at - 2 < f->count)
             return 17;
         const uint8_t *values = record + at + 2;
-        if (!all_allowed(s, profile, values))
+        if (!allowed_in_image(panel, f, values))
             return 18;
-        memcpy(panel->values + s->place, values, s->count);
-        seen |= 1u << (s - settings);
-        at += 2 + s->count;
+        take(panel, f, values);
+        seen |= 1u << (f - fields);
+        at += 2 + f->count;
     }
     wall->count++;
     return 0;
@@ -91,14 +106,25 @@ static uint32_t read_image(const uint8_t *image, size_t len, struct wall *wall)
 
 static size_t image_len_of(const struct wall *wall, uint8_t form)
 {
-    return (head_len(form) + FIELDS + START) * wall->count + TRAILER;
+    return (record_len(form) + START) * wall->count + TRAILER;
 }
 
-/* out has room for image_len_of(wall, form) bytes. In form 1 the profiles are not written. */
+/* Form 1 has all that the panel holds. */
+static bool fits_form_1(const struct panel *panel)
+{
+    if (panel->profile != UNDIVARRO_GENERAL)
+        return false;
+    for (const struct field *f = fields; f < fields + FIELDS; f++)
+        if (f->form > FORM_1 && memcmp(panel->values + f->place, fresh_values[UNDIVARRO_GENERAL] + f->place, f->count) != 0)
+            return false;
+    return true;
+}
+
+/* out has room for image_len_of(wall, form) bytes. What form 1 does not have is not written there. */
 static void write_image(const struct wall *wall, uint8_t form, uint8_t *out)
 {
     uint8_t *to = out;
-    uint8_t *start = out + (head_len(form) + FIELDS) * wall->count;
+    uint8_t *start = out + record_len(form) * wall->count;
     for (size_t k = 0; k < wall->count; k++) {
         const struct panel *panel = &wall->panels[k];
         *start++ = (uint8_t)((to - out) >> 8);
@@ -107,11 +133,13 @@ static void write_image(const struct wall *wall, uint8_t form, uint8_t *out)
         *to++ = panel->group;
         if (form == FORM_2)
             *to++ = panel->profile;
-        for (const struct setting *s = settings; s < settings + SETTINGS; s++) {
-            *to++ = s->set_code;
-            *to++ = s->count;
-            memcpy(to, panel->values + s->place, s->count);
-            to += s->count;
+        for (const struct field *f = fields; f < fields + FIELDS; f++) {
+            if (f->form > form)
+                continue;
+            *to++ = f->code;
+            *to++ = f->count;
+            memcpy(to, panel->values + f->place, f->count);
+            to += f->count;
         }
     }
     *start++ = (uint8_t)wall->count;

@@ -1,15 +1,10 @@
 #include "powers.h"
 
-#include <string.h>
-
 #include "walls.h"
-
-/* A group or all are two panels or more. */
-enum whom { ONE, GROUP, ALL };
 
 struct power_case {
     const char *name;
-    enum whom to;
+    enum whom to;                       /* a group or all are two panels or more */
     uint8_t value;
     uint8_t before;                     /* OFF | ON where some are off and some on */
     uint8_t control;
@@ -55,11 +50,11 @@ void count_power(unsigned long met[POWER_CASES], const struct test_case *c, cons
     struct wall wall;
     if (c->burst_kind != BURST_SET_POWER || by_plain->result.refusal || !read_wall(c, &wall))
         return;
-    uint8_t id = c->burst[1], group = c->burst[2], value = c->burst[4];
+    uint8_t value = c->burst[4];
     size_t panels = 0;
     uint8_t before = set_power(c, &wall, value, &panels);
-    enum whom to = group != 0 ? GROUP : id == 0 ? ALL : ONE;
-    if (memcmp(by_plain->out + GUARD, wall.image, by_plain->result.image_len) != 0 || (panels == 1) != (to == ONE))
+    enum whom to = whom_of(c);
+    if (!is_after(&wall, by_plain) || (panels == 1) != (to == ONE))
         return;
     for (unsigned i = 0; i < POWER_CASES; i++) {
         const struct power_case *p = &power_cases[i];

@@ -6,17 +6,18 @@
 #include "status.h"
 
 static const char usage[] =
-    "usage: rig play IMAGE [--log FILE]              plays bursts from standard input, one in hex on each line\n"
-    "       rig new IMAGE [ID:GROUP[:phoenix] ...]   a new setup of up to 32 fresh panels, in this order\n"
-    "       rig show IMAGE                           the panels of a setup\n"
-    "       rig back IMAGE NEW                       the setup in form 1, for an older box, in a new file NEW\n"
+    "usage: rig play IMAGE [--log FILE]   plays bursts from standard input, one in hex on each line\n"
+    "       rig new IMAGE [PANEL ...]     a new setup of up to 32 fresh panels, in this order\n"
+    "       rig show IMAGE                the panels of a setup\n"
+    "       rig back IMAGE NEW            the setup in form 1, for an older box, in a new file NEW\n"
     "\n"
     "A burst's bytes have two hex digits each, with or without spaces between bytes; an empty line is an empty burst. The\n"
     "answer is printed in hex, or - for silence. IMAGE is written at each burst that changes a setting, before its answer\n"
     "is printed, and at no other time. With --log a line for each burst is put at the end of FILE, before its answer is\n"
-    "printed: the burst in hex, what it asks for or what was wrong with it, and the answer in words. IDs are 1 to 255,\n"
-    "groups 1 to 255; group 255 is group off. A panel is general unless :phoenix is given. Setups of form 1 and form 2 are\n"
-    "read, and form 2 is written; form 1 has no Phoenix panels.\n"
+    "printed: the burst in hex, what it asks for or what was wrong with it, and the answer in words. A PANEL is\n"
+    "ID:GROUP[:phoenix][:15x10]: IDs are 1 to 255, groups 1 to 255, and group 255 is group off; a panel is general unless\n"
+    ":phoenix is given, and of the 5 by 5 kind unless :15x10 is given, which is 15 wide and 10 high. Setups of form 1 and\n"
+    "form 2 are read, and form 2 is written; form 1 has no Phoenix and no 15x10 panels, and no tiling.\n"
     "Exit status: 0 done, 1 the setup image was refused, 2 bad arguments, input or files.\n";
 
 /* The arguments of a command in words, or NULL if there is no such command. */

@@ -3,6 +3,7 @@
 #ifndef SETUP_H
 #define SETUP_H
 
+#include "record.h"
 #include "undivarro.h"
 
 struct setup {
@@ -19,9 +20,7 @@ int keep(const char *path, const struct setup *setup);
 /* In a new file; one that is there is left alone. */
 int keep_new(const char *path, const struct setup *setup);
 
-/* A loaded setup's records, which are all of one length. */
-enum { ID_AT = 0, GROUP_AT = 1, PROFILE_AT = 2, FIELDS_AT = 3, RECORD_LEN = 34 };
-
+/* A loaded setup's records. */
 size_t panel_count(const struct setup *setup);
 const uint8_t *record_of(const struct setup *setup, size_t k);
 

@@ -6,20 +6,27 @@
 #include "names.h"
 #include "setup.h"
 #include "status.h"
+#include "tiling.h"
 
-enum { WIDEST = 24 };
+enum { TEXT = 64 };                     /* room for what stands in one column */
 
 /* Some of a setting's values. */
 struct column {
     unsigned setting;
     unsigned first, count;
+    int width;                          /* of the longest text; 0 where the name is longer */
 };
 
+/* Six numbers of up to three characters are 23 wide with the spaces between. */
 static const struct column columns[] = {
-    {POWER, 0, 1}, {VIDEO, 0, 6}, {VIDEO, 6, 1}, {COLOUR_TEMPERATURE, 0, 1}, {AUDIO, 0, 1}, {AUDIO, 1, 1}, {FAN, 0, 1},
-    {COLD_START, 0, 1}, {APM, 0, 1}, {POWER_SAVING, 0, 1},
+    {POWER, 0, 1, 0}, {VIDEO, 0, 6, 23}, {VIDEO, 6, 1, 0}, {COLOUR_TEMPERATURE, 0, 1, 0}, {AUDIO, 0, 1, 0},
+    {AUDIO, 1, 1, 0}, {FAN, 0, 1, 0}, {COLD_START, 0, 1, 0}, {APM, 0, 1, 0}, {POWER_SAVING, 0, 1, 0},
 };
-enum { COLUMNS = sizeof columns / sizeof columns[0] };
+/* "15 wide, 10 high", "150 (column 15, row 10)" */
+static const struct column tiling_columns[] = {
+    {TILING, ENABLE, 1, 0}, {TILING, FRAME_COMPENSATION, 1, 0}, {TILING, WALL_BYTE, 1, 16}, {TILING, POSITION, 1, 23},
+};
+enum { COLUMNS = sizeof columns / sizeof columns[0], TILING_COLUMNS = sizeof tiling_columns / sizeof tiling_columns[0] };
 
 /* A field's values in a record, found by its code. */
 static const uint8_t *values_of(const uint8_t *record, uint8_t set_code)
@@ -30,55 +37,78 @@ static const uint8_t *values_of(const uint8_t *record, uint8_t set_code)
     return NULL;
 }
 
-/* The text of the column's value i, put behind what is there. */
-static void add_value(char text[WIDEST], const struct column *column, unsigned i, uint8_t value, uint8_t profile)
+/* The position as a column and a row of the wall: it is counted from left to right, then down. */
+static int print_position(char *to, size_t room, struct size wall, uint8_t position)
 {
-    char *to = text + strlen(text);
-    size_t room = WIDEST - strlen(text);
-    const char *gap = i > 0 ? " " : "";
-    const struct setting *setting = &settings[column->setting];
-    const char *word = value_word(setting, value);
-    if (word)
-        snprintf(to, room, "%s%s", gap, word);
-    else if (profile == UNDIVARRO_PHOENIX && is_tint(setting, column->first + i))
-        snprintf(to, room, value > 0 ? "%s%+d" : "%s%d", gap, (int8_t)value);
-    else
-        snprintf(to, room, "%s%u", gap, value);
+    unsigned before = position - 1u;
+    return snprintf(to, room, "%u (column %u, row %u)", position, before % wall.width + 1, before / wall.width + 1);
 }
 
-/* The setting's name, or the value's where the column has one of several. */
+/* The text of the setting's value i on the panel; its length. */
+static int print_value(char *to, size_t room, const struct setting *setting, unsigned i, const uint8_t *values,
+                       const uint8_t *record)
+{
+    uint8_t value = values[i];
+    const char *word = value_word(setting, i, value);
+    if (word)
+        return snprintf(to, room, "%s", word);
+    if (record[PROFILE_AT] == UNDIVARRO_PHOENIX && is_tint(setting, i))
+        return snprintf(to, room, value > 0 ? "%+d" : "%d", (int8_t)value);
+    if (setting != &settings[TILING])
+        return snprintf(to, room, "%u", value);
+    struct size wall = wall_of(record[KIND_AT], values[WALL_BYTE]);
+    return is_wall(setting, i) ? snprintf(to, room, "%u wide, %u high", wall.width, wall.height)
+                               : print_position(to, room, wall, value);
+}
+
+/* The setting's name, or the value's own where the column has one alone. */
 static const char *name_of(const struct column *column)
 {
     const struct setting *setting = &settings[column->setting];
-    return column->count == 1 && setting->count > 1 ? setting->value_names[column->first] : setting->name;
+    const char *own = column->count == 1 ? setting->value_names[column->first] : NULL;
+    return own ? own : setting->name;
 }
 
-/* Six numbers of up to three characters and the spaces between, or as wide as the name. */
 static int width_of(const struct column *column)
 {
-    return column->count > 1 ? WIDEST - 1 : (int)strlen(name_of(column));
+    return column->width ? column->width : (int)strlen(name_of(column));
 }
 
-static void print_values(const struct column *column, const uint8_t *record)
+static void print_column(const struct column *column, const uint8_t *record)
 {
-    char text[WIDEST] = "";
-    const uint8_t *values = values_of(record, settings[column->setting].set_code);
-    for (unsigned i = 0; values && i < column->count; i++)
-        add_value(text, column, i, values[column->first + i], record[PROFILE_AT]);
-    printf("  %*s", width_of(column), values ? text : "?");
+    char text[TEXT] = "?";
+    const struct setting *setting = &settings[column->setting];
+    const uint8_t *values = values_of(record, setting->set_code);
+    for (unsigned i = 0, at = 0; values && i < column->count; i++) {
+        if (i > 0)
+            text[at++] = ' ';
+        at += (unsigned)print_value(text + at, sizeof text - at, setting, column->first + i, values, record);
+    }
+    printf("  %*s", width_of(column), text);
 }
 
-static void print_panel(const uint8_t *record)
+static void print_names(const struct column *from, size_t count)
+{
+    for (const struct column *c = from; c < from + count; c++)
+        printf("  %*s", width_of(c), name_of(c));
+    putchar('\n');
+}
+
+static void print_columns(const struct column *from, size_t count, const uint8_t *record)
+{
+    for (const struct column *c = from; c < from + count; c++)
+        print_column(c, record);
+    putchar('\n');
+}
+
+static void print_head(const uint8_t *record)
 {
     printf("%3u  ", record[ID_AT]);
     if (record[GROUP_AT] == 255)
         printf("  off");
     else
         printf("%5u", record[GROUP_AT]);
-    printf("  %s", profile_name(record[PROFILE_AT]));
-    for (const struct column *c = columns; c < columns + COLUMNS; c++)
-        print_values(c, record);
-    putchar('\n');
+    printf("  %s  %5s", profile_name(record[PROFILE_AT]), kind_name(record[KIND_AT]));
 }
 
 int show(const char *path)
@@ -89,12 +119,18 @@ int show(const char *path)
     if (status != DONE)
         return status;
     size_t count = panel_count(&setup);
-    printf(" ID  group  profile");
-    for (const struct column *c = columns; c < columns + COLUMNS; c++)
-        printf("  %*s", width_of(c), name_of(c));
-    putchar('\n');
-    for (size_t k = 0; k < count; k++)
-        print_panel(record_of(&setup, k));
+    printf(" ID  group  profile   kind");
+    print_names(columns, COLUMNS);
+    for (size_t k = 0; k < count; k++) {
+        print_head(record_of(&setup, k));
+        print_columns(columns, COLUMNS, record_of(&setup, k));
+    }
+    printf("\n ID");
+    print_names(tiling_columns, TILING_COLUMNS);
+    for (size_t k = 0; k < count; k++) {
+        printf("%3u", record_of(&setup, k)[ID_AT]);
+        print_columns(tiling_columns, TILING_COLUMNS, record_of(&setup, k));
+    }
     printf("%zu panel%s, form %u\n", count, count == 1 ? "" : "s", form);
     return printed();
 }

@@ -23,11 +23,13 @@ void count_outcome(struct tally *tally, const struct test_case *c, const struct 
     tally->room[c->room_kind]++;
     tally->refusal[c->call][by_plain->result.refusal & 0xFF]++;
     count_meetings(&tally->meetings, c, by_plain);
+    count_kinds(&tally->kinds, c, by_plain);
     if (c->call != CALL_PLAY)
         return;
     tally->burst[c->burst_kind]++;
     count_damage(&tally->damages, c, by_plain);
     count_power(tally->power, c, by_plain);
+    count_tiling(&tally->tilings, c, by_plain);
     if (!by_plain->result.refusal)
         count_answer(tally, by_plain);
 }
@@ -58,20 +60,21 @@ static void each_of_call(take_line *take, void *to, const struct tally *tally, e
         take(to, section, "refusal 31", refusal[31]);
     for (int i = 0; i < WALL_KINDS; i++)
         take(to, section, wall_kind_names[i], tally->meetings.wall[call][i]);
+    for (int i = 0; i < KIND_WALLS; i++)
+        take(to, section, kind_wall_names[i], tally->kinds.wall[call][i]);
 }
 
 static void each_answer(take_line *take, void *to, const struct tally *tally)
 {
-    static const uint8_t get_codes[] = {0x19, 0x33, 0x35, 0x43, 0x62, 0xA4, 0xD1, 0xDE};
     take(to, "answer", NULL, 0);
     take(to, "answer", "silence", tally->silence);
     take(to, "answer", "ACK", tally->control[ACK]);
     take(to, "answer", "NACK", tally->control[NACK]);
     take(to, "answer", "NAV", tally->control[NAV]);
-    for (size_t i = 0; i < sizeof get_codes; i++) {
+    for (const struct setting *s = settings; s < settings + SETTINGS; s++) {
         char what[16];
-        snprintf(what, sizeof what, "report 0x%02X", get_codes[i]);
-        take(to, "answer", what, tally->report[get_codes[i]]);
+        snprintf(what, sizeof what, "report 0x%02X", s->get_code);
+        take(to, "answer", what, tally->report[s->get_code]);
     }
 }
 
@@ -87,6 +90,16 @@ static void each_damage(take_line *take, void *to, const struct damages *d)
         take(to, "burst and damage", limit_name(i), d->at_limit[i]);
 }
 
+static void each_tiling(take_line *take, void *to, const struct tilings *t)
+{
+    take(to, "tiling, set to a panel", NULL, 0);
+    for (unsigned i = 0; i < SET_CASES; i++)
+        take(to, "tiling, set to a panel", set_case_name(i), t->set[i]);
+    each_name(take, to, "tiling, set to a group", shared_set_names, t->to_group, SHARED_SETS);
+    each_name(take, to, "tiling, set to all", shared_set_names, t->to_all, SHARED_SETS);
+    each_name(take, to, "tiling, other bursts", other_tiling_names, t->other, OTHER_TILINGS);
+}
+
 static void each_line(take_line *take, void *to, const struct tally *tally)
 {
     each_name(take, to, "image, by its last spoiling", image_kind_names, tally->image, IMAGE_KINDS);
@@ -99,6 +112,9 @@ static void each_line(take_line *take, void *to, const struct tally *tally)
     take(to, "power", NULL, 0);
     for (unsigned i = 0; i < POWER_CASES; i++)
         take(to, "power", power_case_name(i), tally->power[i]);
+    each_tiling(take, to, &tally->tilings);
+    each_name(take, to, "kind and tiling in a form 2 record", place_kind_names, tally->kinds.place, PLACE_KINDS);
+    each_name(take, to, "kind and tiling in images", kind_case_names, tally->kinds.met, KIND_CASES);
     each_name(take, to, "case and outcome", meeting_names, tally->meetings.met, MEETINGS);
 }
 

@@ -3,8 +3,10 @@
 #define TALLY_H
 
 #include "damages.h"
+#include "kinds.h"
 #include "meetings.h"
 #include "powers.h"
+#include "tilings.h"
 
 struct tally {
     unsigned long image[IMAGE_KINDS], burst[BURST_KINDS], room[ROOM_KINDS];
@@ -12,6 +14,8 @@ struct tally {
     unsigned long silence, control[256], report[256];
     struct damages damages;
     unsigned long power[POWER_CASES];
+    struct tilings tilings;
+    struct kinds kinds;
     struct meetings meetings;
 };
 
@@ -20,7 +24,7 @@ void count_outcome(struct tally *tally, const struct test_case *c, const struct 
 void print_tally(const struct tally *tally);
 
 /* Every kind of case, every refusal and every kind of wall for each call, every kind of answer, every damage in all its ways
- * and at all limits, every case of power, and every meeting; if not, says which was not met. */
+ * and at all limits, every case of power, of tiling and of kinds, and every meeting; if not, says which was not met. */
 bool met_everything(const struct tally *tally);
 
 #endif

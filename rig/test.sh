@@ -52,10 +52,12 @@ ends() {
     grep -qF -- "$words" message || { echo "message of $*: no '$words' in"; cat message; return 1; }
 }
 
+# new_wall FILE PANEL...: made anew
+new_wall() { rm -f "$1" && rig new "$@"; }
 # a wall of 01's two panels, both in group 9
-wall() { rm -f "$1" && rig new "$1" 1:9 2:9; }
+wall() { new_wall "$1" 1:9 2:9; }
 # the same, the second Phoenix
-mixed_wall() { rm -f "$1" && rig new "$1" 1:9 2:9:phoenix; }
+mixed_wall() { new_wall "$1" 1:9 2:9:phoenix; }
 # packet ID GROUP DATA...: the burst of these bytes, with its size and checksum
 packet() {
     local size=$(($# + 2)) sum byte
@@ -74,8 +76,46 @@ image() {
     shift
     for byte in $*; do printf "\\x$byte"; done >"$file"
 }
+# image_of FILE HEX: a file of these bytes, in one run of digits
+image_of() { image "$1" "$(echo "$2" | sed 's/../& /g')"; }
+# in_one_run: lines of a burst and its answer, played on w one behind the other
+in_one_run() { cat >lines && same answers "$(cut -d' ' -f 1 lines | rig play w)" "$(cut -d' ' -f 2 lines)"; }
+# stays BURST ANSWER: and w is not written
+stays() {
+    bytes w >before && touch -d 2001-01-01 w || return
+    same "the answer to $1" "$(echo "$1" | rig play w)" "$2" && same 'the setup' "$(bytes w)" "$(cat before)" &&
+        same 'its time' "$(stat -c %Y w)" "$(date -d 2001-01-01 +%s)"
+}
+# refusal_words NUMBER: of an image
+refusal_words() {
+    case $1 in
+    11) echo 'image: fewer than 2 bytes' ;;
+    12) echo 'image: last byte is neither 1 nor 2' ;;
+    13) echo 'image: panel count above 32' ;;
+    14) echo 'image: shorter than 2n + 2 bytes' ;;
+    15) echo "image: starts don't fit" ;;
+    16) echo 'record: under 2 bytes, in form 2 under 3, ID 0, group 0, ID seen before, or an unknown profile' ;;
+    17) echo "field: not a set code of its form (a get code isn't one), or seen before in this record, a kind behind the" \
+        'tiling, length wrong, or cut off' ;;
+    18) echo 'field: value not allowed' ;;
+    esac
+}
+# refused_images: lines of a refusal and the bytes of an image that gets it, from each command
+refused_images() {
+    local number words hex command
+    rm -f n
+    while read -r number hex; do
+        image w "$hex"
+        words="rig: w: refusal $number: $(refusal_words "$number")"
+        for command in 'show w' 'play w' 'back w n'; do
+            ends 1 "$words" rig $command || return
+        done
+        same "the image refused by $number" "$(bytes w)" "$(echo "$hex" | tr -d ' ')" || return
+        [ ! -e n ] || { echo "$hex made a file"; return 1; }
+    done
+}
 
-for part in comparison program forms power keeping words log; do
+for part in comparison program forms power tiling keeping words log; do
     . "$parts/test_$part.sh" || exit 2
 done
 comparison_tests

@@ -16,7 +16,7 @@ written_only_when_changed() {
     same 'bytes after a get, silence, a set to what it was, NACK and NAV' "$(bytes w)" "$before" || return
     same 'time of the file' "$(stat -c %Y w)" "$(date -d 2001-01-01 +%s)" || return
     echo 060100610365 | rig play w >/dev/null || return
-    same 'length after a set' "$(wc -c <w)" 38
+    same 'length after a set' "$(wc -c <w)" 47
 }
 
 a_link_is_followed() {
@@ -61,7 +61,7 @@ killed_in_write() { stop killed-in-write 137 && old_setup_whole && sets_as_befor
 killed_before_sync() { stop killed-before-sync 137 && old_setup_whole && sets_as_before; }
 killed_before_rename() {
     stop killed-before-rename 137 && old_setup_whole || return
-    same 'the new setup beside it' "$(cat stopped/w.*.new | wc -c)" 74 && sets_as_before
+    same 'the new setup beside it' "$(cat stopped/w.*.new | wc -c)" 92 && sets_as_before
 }
 killed_after_rename() { stop killed-after-rename 137 && new_setup_whole && nothing_beside && sets_as_before; }
 no_space() { stop no-space 2 && grep -q 'No space left' message && old_setup_whole && nothing_beside; }

@@ -1,15 +1,6 @@
 # Power off to a panel that is off, by example: 02's A5, and 001's section 3.1.1 in packets with a group byte. Sourced by
 # test.sh.
 
-# in_one_run: lines of a burst and its answer, played on w one behind the other
-in_one_run() { cat >lines && same answers "$(cut -d' ' -f 1 lines | rig play w)" "$(cut -d' ' -f 2 lines)"; }
-# stays BURST ANSWER: and w is not written
-stays() {
-    bytes w >before && touch -d 2001-01-01 w || return
-    same "the answer to $1" "$(echo "$1" | rig play w)" "$2" && same 'the setup' "$(bytes w)" "$(cat before)" &&
-        same 'its time' "$(stat -c %Y w)" "$(date -d 2001-01-01 +%s)"
-}
-
 off_twice() { wall w && in_one_run <<<'06010018011E 060100000601' && stays '06 01 00 18 01 1E' 06010000181F; }
 on_twice() { wall w && stays '06 01 00 18 02 1D' 060100000601 && stays '06 01 00 18 02 1D' 060100000601; }
 
@@ -31,7 +22,7 @@ END
 
 # panel 1 off, panel 2 on, both in group 9; panel 3 is in another
 off_to_a_group() {
-    rm -f w && rig new w 1:9 2:9:phoenix 3:8 && in_one_run <<'END' || return
+    new_wall w 1:9 2:9:phoenix 3:8 && in_one_run <<'END' || return
 06010018011E 060100000601
 060009180116 -
 050100191D 06010019011F
@@ -42,7 +33,7 @@ END
 }
 
 off_to_all() {
-    rm -f w && rig new w 1:9 2:255:phoenix && in_one_run <<'END' || return
+    new_wall w 1:9 2:255:phoenix && in_one_run <<'END' || return
 06000018011F -
 050100191D 06010019011F
 050200191E 06020019011C

@@ -26,20 +26,24 @@ one_session() {
 }
 
 show_names_the_settings() {
-    rm -f w && rig new w 1:9 200:255 && printf '06010018011E\n0C010032643264000164036B\n' | rig play w >answers || return
+    new_wall w 1:9 200:255 && printf '06010018011E\n0C010032643264000164036B\n' | rig play w >answers || return
     same answers "$(cat answers)" "$(printf '060100000601\n060100000601')" || return
     same show "$(rig show w)" "\
- ID  group  profile  power                    video  gamma  colour temperature  treble  bass  fan  cold start  APM  power saving
-  1      9  general    off       100 50 100 0 1 100      3                   1      50    50    1           2    0             0
-200    off  general     on        50 50 50 50 50 50      3                   1      50    50    1           2    0             0
+ ID  group  profile   kind  power                    video  gamma  colour temperature  treble  bass  fan  cold start  APM  power saving
+  1      9  general    5x5    off       100 50 100 0 1 100      3                   1      50    50    1           2    0             0
+200    off  general    5x5     on        50 50 50 50 50 50      3                   1      50    50    1           2    0             0
+
+ ID  tiling  frame compensation              wall                 position
+  1     off                 off    1 wide, 1 high      1 (column 1, row 1)
+200     off                 off    1 wide, 1 high      1 (column 1, row 1)
 2 panels, form 2"
 }
 
 new_is_written_whole() {
-    rm -f w && rig new w 7:255 || return
-    same bytes "$(bytes w)" 07ff0018010232073232323232320334010142023232610101a30102d00100dd010000000102 || return
-    rm -f w && rig new w && same 'no panels' "$(bytes w)" 0002 || return
-    rm -f w && rig new w $(seq -f '%g:9' 1 32) && same 'length of 32' "$(wc -c <w)" 1154
+    new_wall w 7:255 || return
+    same bytes "$(bytes w)" 07ff0001010018010222040000010132073232323232320334010142023232610101a30102d00100dd010000000102 || return
+    new_wall w && same 'no panels' "$(bytes w)" 0002 || return
+    new_wall w $(seq -f '%g:9' 1 32) && same 'length of 32' "$(wc -c <w)" 1442
 }
 
 input_forms() {
@@ -77,8 +81,10 @@ bad_arguments() {
         ends 2 'a NEW file' rig back w && ends 2 'a NEW file' rig back w n n && [ ! -e n ] || return
     local panel
     for panel in 1 1: :1 1:256 256:1 a:1 1:a 1:1: -1:1 99999999999999999999:1 '' 1:9:general 1:9:Phoenix 1:9:phoenix: \
-        1:9:phoenixes 1:9:phoeni 1:9phoenix 1:phoenix :phoenix 1:9:1; do
-        ends 2 "rig: $panel is not ID:GROUP or ID:GROUP:phoenix" rig new n "$panel" && [ ! -e n ] || return
+        1:9:phoenixes 1:9:phoeni 1:9phoenix 1:phoenix :phoenix 1:9:1 1:9:5x5 1:9:15x1 1:9:15x100 1:9:15X10 1:9:10x15 \
+        1:9:15x10: 1:9:15x10:phoenix 1:9:15x10:15x10 1:9:phoenix15x10 1:9:phoenix:5x5 1:9:phoenix:phoenix 1:9::15x10; do
+        ends 2 "rig: $panel is not ID:GROUP[:phoenix][:15x10]; ID and GROUP are decimal" rig new n "$panel" && [ ! -e n ] ||
+            return
     done
     ends 2 'at most 32' rig new n $(seq -f '%g:9' 1 33) && [ ! -e n ] || return
     ends 2 'there already' rig new w 1:9
@@ -91,32 +97,8 @@ unreadable_files() {
         ends 2 'Is a directory' rig play folder && ends 2 'No such file' rig new missing/w 1:9
 }
 
-refusal_words() {
-    case $1 in
-    11) echo 'image: fewer than 2 bytes' ;;
-    12) echo 'image: last byte is neither 1 nor 2' ;;
-    13) echo 'image: panel count above 32' ;;
-    14) echo 'image: shorter than 2n + 2 bytes' ;;
-    15) echo "image: starts don't fit" ;;
-    16) echo 'record: under 2 bytes, in form 2 under 3, ID 0, group 0, ID seen before, or an unknown profile' ;;
-    17) echo "field: not a set code of the table (a get code isn't one), or seen before in this record, length wrong, or" \
-        'cut off' ;;
-    18) echo 'field: value not allowed' ;;
-    esac
-}
-
 refusals_by_number() {
-    local number words hex command
-    rm -f n
-    while read -r number hex; do
-        image w "$hex"
-        words="rig: w: refusal $number: $(refusal_words "$number")"
-        for command in 'show w' 'play w' 'back w n'; do
-            ends 1 "$words" rig $command || return
-        done
-        same "the image refused by $number" "$(bytes w)" "$(echo "$hex" | tr -d ' ')" || return
-        [ ! -e n ] || { echo "$hex made a file"; return 1; }
-    done <<'END'
+    refused_images <<'END'
 11
 11 01
 12 00 00
@@ -166,12 +148,14 @@ new_names_the_bad_panel() {
 1:9 0:9:phoenix;0:9:phoenix has ID 0
 1:9:phoenix 2:0:phoenix;2:0:phoenix has group 0
 1:9 1:9:phoenix;1:9:phoenix has the ID of 1:9
+1:9:15x10 1:8;1:8 has the ID of 1:9:15x10
+1:9 2:0:phoenix:15x10;2:0:phoenix:15x10 has group 0
 END
 }
 
 # In a shell of its own with a bound on memory, so that a program that reads on fails at once.
 files_that_are_too_big() (
-    local command words='over 65536 bytes; a setup image has at most 1154'
+    local command words='over 65536 bytes; a setup image has at most 1442'
     head -c 65537 /dev/zero >over
     head -c 65536 /dev/zero >within
     ulimit -v 1000000

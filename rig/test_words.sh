@@ -13,6 +13,7 @@ logged() {
 each_setting_got() {
     logged <<'END'
 05 01 00 19 1D; ID 1, group 0, get power: report from panel 1, power on
+05 01 00 23 27; ID 1, group 0, get tiling: report from panel 1, tiling off, frame compensation off, position 1, wall 1 wide 1 high (byte 01)
 05 01 00 33 37; ID 1, group 0, get video: report from panel 1, video brightness 50, colour 50, contrast 50, sharpness 50, tint 50, black level 50, gamma 3
 05 02 00 33 34; ID 2, group 0, get video: report from panel 2, video brightness 50, colour 50, contrast 50, sharpness 5, tint 0, black level 50, gamma 3
 05 01 00 35 31; ID 1, group 0, get colour temperature: report from panel 1, colour temperature 1
@@ -28,6 +29,7 @@ each_setting_set() {
     logged <<'END'
 06 01 00 18 01 1E; ID 1, group 0, set power off: ACK from panel 1
 06 01 00 18 02 1D; ID 1, group 0, set power on: ACK from panel 1
+09 01 00 22 01 01 02 03 2B; ID 1, group 0, set tiling on, frame compensation on, position 2, wall 3 wide 1 high (byte 03): ACK from panel 1
 0C 01 00 32 01 02 03 04 05 06 05 3D; ID 1, group 0, set video brightness 1, colour 2, contrast 3, sharpness 4, tint 5, black level 6, gamma 5: ACK from panel 1
 06 01 00 34 0D 3E; ID 1, group 0, set colour temperature 13: ACK from panel 1
 07 01 00 42 4D 50 59; ID 1, group 0, set audio treble 77, bass 80: ACK from panel 1
@@ -53,6 +55,22 @@ END
     same 'the report' "$(tail -n 1 w.log)" '2: 05 02 00 33 34: ID 2, group 0, get video: report from panel 2, video brightness 50, colour 50, contrast 50, sharpness 5, tint -50 (byte CE), black level 50, gamma 3'
 }
 
+# Each kind's wall where they differ.
+walls_by_kind() {
+    logged <<'END'
+09 01 00 22 01 00 02 08 21; ID 1, group 0, set tiling on, frame compensation off, position 2, wall 3 wide 2 high on 5x5 or 8 wide 1 high on 15x10 (byte 08): ACK from panel 1
+09 00 09 22 01 00 02 12 33; ID 0, group 9, set tiling on, frame compensation off, position 2, wall 3 wide 4 high on 5x5 or 3 wide 2 high on 15x10 (byte 12): silence
+09 01 00 22 01 00 01 05 2F; ID 1, group 0, set tiling on, frame compensation off, position 1, wall 5 wide 1 high (byte 05): ACK from panel 1
+09 01 00 22 01 00 06 06 2B; ID 1, group 0, set tiling on, frame compensation off, position 6, wall 1 wide 2 high on 5x5 or 6 wide 1 high on 15x10 (byte 06): NAV from panel 1
+09 01 00 22 00 00 19 19 2A; ID 1, group 0, set tiling off, frame compensation off, position 25, wall 5 wide 5 high on 5x5 or 10 wide 2 high on 15x10 (byte 19): ACK from panel 1
+09 01 00 22 00 00 01 1A 31; ID 1, group 0, set tiling off, frame compensation off, position 1, wall 11 wide 2 high on 15x10 (byte 1A): NAV from panel 1
+09 01 00 22 00 00 96 96 2A; ID 1, group 0, set tiling off, frame compensation off, position 150, wall 15 wide 10 high on 15x10 (byte 96): NAV from panel 1
+09 01 00 22 00 00 01 97 BC; ID 1, group 0, set tiling off, frame compensation off, position 1, wall of no panel (byte 97): NAV from panel 1
+09 01 00 22 02 03 00 FF D4; ID 1, group 0, set tiling 2, frame compensation 3, position 0, wall of no panel (byte FF): NAV from panel 1
+09 01 00 22 01 00 01 00 2A; ID 1, group 0, set tiling on, frame compensation off, position 1, wall as it is (byte 00): ACK from panel 1
+END
+}
+
 no_answer_due() {
     logged <<'END'
 06 00 09 61 02 6C; ID 0, group 9, set fan 2: silence
@@ -73,6 +91,10 @@ not_available() {
 06 01 00 18 03 1C; ID 1, group 0, set power 3: NAV from panel 1
 04 01 00 05; ID 1, group 0, no data: NAV from panel 1
 05 01 00 00 04; ID 1, group 0, unknown code 00: NAV from panel 1
+05 01 00 01 05; ID 1, group 0, unknown code 01: NAV from panel 1
+06 01 00 01 01 07; ID 1, group 0, unknown code 01: NAV from panel 1
+08 01 00 22 00 00 01 2A; ID 1, group 0, set tiling with 3 values, and it has 4: NAV from panel 1
+09 01 00 23 00 00 01 01 2B; ID 1, group 0, get tiling with 4 values, and a get has none: NAV from panel 1
 05 02 00 0A 0D; ID 2, group 0, unknown code 0A: NAV from panel 2
 08 01 00 5B 01 02 03 52; ID 1, group 0, unknown code 5B: NAV from panel 1
 06 01 00 62 01 64; ID 1, group 0, get fan with 1 value, and a get has none: NAV from panel 1
@@ -172,6 +194,7 @@ parts_stay_apart() {
 test_that 'the log of each setting got' each_setting_got
 test_that 'the log of each setting set' each_setting_set
 test_that 'the log of a tint below 0' tint_with_its_byte
+test_that 'the log of walls, by kind' walls_by_kind
 test_that 'the log of bursts that get no answer' no_answer_due
 test_that 'the log of bursts that get NAV' not_available
 test_that 'the log of power off to a panel that is off' off_already

@@ -2,11 +2,8 @@
 #ifndef WALLS_H
 #define WALLS_H
 
-#include "cases.h"
-#include "undivarro.h"
-
-/* A record: what stands where. */
-enum { RECORD_LEN = 34, GROUP_AT = 1, PROFILE_AT = 2, POWER_AT = 5, VIDEO_AT = 8, VIDEO_LEN = 7 };
+#include "record.h"
+#include "trial.h"
 
 struct wall {
     size_t count;
@@ -18,7 +15,12 @@ bool read_wall(const struct test_case *c, struct wall *wall);
 
 const uint8_t *record_at(const uint8_t *image, size_t k);
 
-/* The case's burst, which is intact, addresses the panel. */
+/* The wall is the one that a call without a refusal has written. */
+bool is_after(const struct wall *wall, const struct trial *t);
+
+/* Of the case's burst, which is intact. */
+enum whom { ONE, GROUP, ALL };
+enum whom whom_of(const struct test_case *c);
 bool is_addressed(const struct test_case *c, const uint8_t *record);
 
 #endif

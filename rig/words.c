@@ -2,6 +2,7 @@
 
 #include "checksum.h"
 #include "names.h"
+#include "tiling.h"
 #include "undivarro.h"
 
 /* A packet: size, ID, group, data, checksum. */
@@ -13,15 +14,35 @@ static const char *plural(size_t count)
     return count == 1 ? "" : "s";
 }
 
+/* A burst does not say of which kind a panel is, so each kind's reading is told where they differ. */
+static void say_wall(FILE *to, uint8_t byte)
+{
+    struct size small = wall_of(UNDIVARRO_5_BY_5, byte), large = wall_of(UNDIVARRO_15_BY_10, byte);
+    if (byte == 0)
+        fputs("as it is", to);
+    else if (large.width == 0)
+        fputs("of no panel", to);
+    else if (small.width == large.width && small.height == large.height)
+        fprintf(to, "%u wide %u high", large.width, large.height);
+    else if (small.width == 0)
+        fprintf(to, "%u wide %u high on 15x10", large.width, large.height);
+    else
+        fprintf(to, "%u wide %u high on 5x5 or %u wide %u high on 15x10", small.width, small.height, large.width,
+                large.height);
+    fprintf(to, " (byte %02X)", byte);
+}
+
 static void say_value(FILE *to, const struct setting *setting, unsigned i, uint8_t value)
 {
-    const char *word = value_word(setting, value);
-    if (setting->count > 1)
+    const char *word = value_word(setting, i, value);
+    if (setting->value_names[i])
         fprintf(to, "%s ", setting->value_names[i]);
     if (word)
         fputs(word, to);
     else if (is_tint(setting, i) && value > 127)
         fprintf(to, "%d (byte %02X)", (int8_t)value, value);
+    else if (is_wall(setting, i))
+        say_wall(to, value);
     else
         fprintf(to, "%u", value);
 }

@@ -2,15 +2,17 @@
 use mathlib.Core.Path.{_≡_, refl, sym, ap, _∙_}
 use mathlib.Core.Bool.{Bool, true, false, cond}
 use mathlib.Core.List.{List}
-use Prim.Native.Nat.{ℕ}
+use Prim.Native.Nat.{ℕ, _<_}
 use native.Mathlib.Omega.{arith}
+use borrow.Author.Tests.{eqb-true}
 use lib.Dec.{eqb}
-use lib.ListN.{length, length-map}
+use lib.ListN.{length, getD, length-map}
 use Rattle.lists.specs.Lists.{same}
 use Rattle.lists.proofs.Both.{both}
 use Rattle.lists.proofs.Same.{same-is}
-use Rattle.settings.specs.Settings.{byteCount, allowedFor, valuesWith, valueCount, powerRow, off}
+use Rattle.settings.specs.Settings.{byteCount, allowedFor, valuesOf, valuesWith, valueCount, kindRow, powerRow, off}
 use Rattle.settings.proofs.Laws.{allowed-many}
+use Rattle.settings.proofs.Filled.{filled-other}
 use Rattle.packet.specs.declared.MonitorId.{MonitorId}
 use Rattle.packet.specs.declared.GroupId.{GroupId}
 use Rattle.packet.specs.declared.Verdict.{Verdict}
@@ -18,14 +20,14 @@ use Rattle.packet.specs.declared.Verdict.the-variants.{Empty, Damaged, Intact}
 use Rattle.packet.specs.Packet.{verdictOf, dataOf}
 use Rattle.panels.specs.declared.Panel.{Panel}
 use Rattle.panels.specs.declared.Table.{Table}
-use Rattle.panels.specs.Wall.{Wall, valuesOf, tableOf, panelsOf}
+use Rattle.panels.specs.Wall.{Wall, modelOf, tableOf, panelsOf}
 use Rattle.panels.specs.Addressed.{reaches}
 use Rattle.panels.specs.WellFormed.{GoodPanel, GoodWall, WellFormed}
 use Rattle.panels.proofs.Values.{with-own, set-row, other-row, with-in-range}
 use Rattle.panels.proofs.Formed.{formed, good-map}
-use Rattle.answers.specs.Judged.{Command, getOf, setOf, unavailable, command, notAvailable, taken, offAlready, takes, judge, stored, panelAfter}
+use Rattle.answers.specs.Judged.{Command, getOf, setOf, unavailable, command, notAvailable, taken, offAlready, heldThen, takes, judge, stored, panelAfter}
 use Rattle.answers.specs.Played.{turned, playedBy, played}
-use Rattle.answers.proofs.Orders.{taken-allowed}
+use Rattle.answers.proofs.Orders.{OnLine, on-line, taken-allowed}
 
 -- storing what a row has changes nothing
 stored-held : (row : ℕ) (vs : List ℕ) (p : Panel) → valuesOf row (p .values) ≡ vs → stored row vs p ≡ p
@@ -35,9 +37,9 @@ stored-held row vs p e =
     (ap (λ (u : List ℕ). valuesWith row u (p .values)) (sym e) ∙ with-own row (p .values))
 
 -- A row that was stored to has the values, and every other row has what it had.
-module _ (row : ℕ) (vs : List ℕ) (p : Panel) (ok : allowedFor (p .profile) row vs ≡ true) (full : length (p .values) ≡ valueCount) where
+module _ (row : ℕ) (vs : List ℕ) (p : Panel) (ok : allowedFor (modelOf p) row vs ≡ true) (full : length (p .values) ≡ valueCount) where
   n : length vs ≡ byteCount row
-  n = allowed-many (p .profile) row vs ok
+  n = allowed-many (modelOf p) row vs ok
 
   pub stored-own : valuesOf row (stored row vs p .values) ≡ vs
   unfolding stored
@@ -51,19 +53,21 @@ module _ (row : ℕ) (vs : List ℕ) (p : Panel) (ok : allowedFor (p .profile) r
   pub stored-twice : stored row vs (stored row vs p) ≡ stored row vs p
   stored-twice = stored-held row vs (stored row vs p) stored-own
 
--- a good panel with allowed values stored in a row is good
-stored-good : (row : ℕ) (vs : List ℕ) (p : Panel) → allowedFor (p .profile) row vs ≡ true → GoodPanel p → GoodPanel (stored row vs p)
+-- a good panel with allowed values stored in the row of a setting is good
+stored-good : (row : ℕ) (vs : List ℕ) (p : Panel) → kindRow < row → allowedFor (modelOf p) row vs ≡ true → GoodPanel p → GoodPanel (stored row vs p)
 unfolding stored
-stored-good row vs p ok g =
-    let i = with-in-range (record { full = g .full; rows = g .inRange }) row vs ok in
+stored-good row vs p s ok g =
+    let i = with-in-range (record { full = g .full; rows = g .inRange }) row vs ok (λ e. absurd (omega arith)) in
     record { named = g .named; grouped = g .grouped; full = i .full; inRange = i .rows }
 
 -- power off leaves a panel that is off as it is
-pub off-same : (row : ℕ) (vs : List ℕ) (p : Panel) → offAlready row vs p ≡ true → stored row vs p ≡ p
+pub off-same : (row : ℕ) (vs : List ℕ) (p : Panel) → offAlready row vs p ≡ true → stored row (heldThen row vs p) p ≡ p
 unfolding offAlready
 off-same row vs p e =
-    let (to, from) = both (same vs off) _ (both (eqb row powerRow) _ e .1) in
-    stored-held row vs p (same-is (valuesOf row (p .values)) off from ∙ sym (same-is vs off to))
+    let (power, values) = both (eqb row powerRow) _ e in
+    let (to, from) = both (same vs off) _ values in
+    let as-sent = filled-other row (getD (valuesOf row (p .values)) 3 0) vs (λ t. omega (arith, eqb-true row powerRow power)) in
+    stored-held row _ p (same-is (valuesOf row (p .values)) off from ∙ sym (as-sent ∙ same-is vs off to))
 
 -- what storing keeps, a panel that is turned keeps: its names
 module _ {A : Type 0} (f : Panel → A) (p : Panel) (kept : (row : ℕ) (vs : List ℕ) → f (stored row vs p) ≡ f p) where
@@ -72,8 +76,8 @@ module _ {A : Type 0} (f : Panel → A) (p : Panel) (kept : (row : ℕ) (vs : Li
   judged-keeps (getOf row) = refl
   judged-keeps (setOf row vs) = go (takes row vs p)
     where
-      go : (t : Bool) → f (panelAfter (cond t (taken (stored row vs p)) notAvailable) p) ≡ f p
-      go true = kept row vs
+      go : (t : Bool) → f (panelAfter (cond t (taken (stored row (heldThen row vs p) p)) notAvailable) p) ≡ f p
+      go true = kept row (heldThen row vs p)
       go false = refl
   judged-keeps unavailable = refl
 
@@ -85,26 +89,26 @@ module _ {A : Type 0} (f : Panel → A) (p : Panel) (kept : (row : ℕ) (vs : Li
       go true = judged-keeps c
       go false = refl
 
-judged-good : (c : Command) (p : Panel) → GoodPanel p → GoodPanel (panelAfter (judge c p) p)
+judged-good : (c : Command) → OnLine c → (p : Panel) → GoodPanel p → GoodPanel (panelAfter (judge c p) p)
 unfolding judge
-judged-good (getOf row) p g = g
-judged-good (setOf row vs) p g = go (takes row vs p) refl
+judged-good (getOf row) s p g = g
+judged-good (setOf row vs) s p g = go (takes row vs p) refl
   where
-    go : (t : Bool) → takes row vs p ≡ t → GoodPanel (panelAfter (cond t (taken (stored row vs p)) notAvailable) p)
-    go true e = stored-good row vs p (taken-allowed row vs p e) g
+    go : (t : Bool) → takes row vs p ≡ t → GoodPanel (panelAfter (cond t (taken (stored row (heldThen row vs p) p)) notAvailable) p)
+    go true e = stored-good row (heldThen row vs p) p (s .0) (taken-allowed row vs p e) g
     go false e = g
-judged-good unavailable p g = g
+judged-good unavailable s p g = g
 
 turned-id : (i : MonitorId) (g : GroupId) (c : Command) (p : Panel) → turned i g c p .id ≡ p .id
 unfolding stored
 turned-id i g c p = turned-keeps (λ (q : Panel). q .id) p (λ row vs. refl) i g c
 
-turned-good : (i : MonitorId) (g : GroupId) (c : Command) (p : Panel) → GoodPanel p → GoodPanel (turned i g c p)
+turned-good : (i : MonitorId) (g : GroupId) (c : Command) → OnLine c → (p : Panel) → GoodPanel p → GoodPanel (turned i g c p)
 unfolding turned
-turned-good i g c p ok = go (reaches i g p)
+turned-good i g c s p ok = go (reaches i g p)
   where
     go : (t : Bool) → GoodPanel (cond t (panelAfter (judge c p) p) p)
-    go true = judged-good c p ok
+    go true = judged-good c s p ok
     go false = ok
 
 by-verdict-good : (v : Verdict) (w : Wall) (b : List ℕ) → GoodWall w → (GoodWall (playedBy v w b .wall)) × (length (playedBy v w b .wall) ≡ length w)
@@ -112,7 +116,7 @@ by-verdict-good Empty w b good = (good, refl)
 by-verdict-good (Damaged d) w b good = (good, refl)
 by-verdict-good (Intact i g n) w b good =
     let c = command (dataOf b (Intact i g n)) in
-    (good-map (turned i g c) (turned-id i g c) (turned-good i g c) w good, length-map w (turned i g c))
+    (good-map (turned i g c) (turned-id i g c) (turned-good i g c (on-line (dataOf b (Intact i g n)))) w good, length-map w (turned i g c))
 
 pub played-good : (w : Wall) (b : List ℕ) → GoodWall w → GoodWall (played w b .wall)
 unfolding played

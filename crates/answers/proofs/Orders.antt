@@ -11,13 +11,14 @@ use Rattle.lists.proofs.Both.{both}
 use Rattle.lists.proofs.Same.{same-first}
 use Rattle.settings.specs.declared.Found.{Found}
 use Rattle.settings.specs.declared.Found.the-variants.{Set, Get, Nothing}
-use Rattle.settings.specs.Settings.{settings, foundBy, getCode, byteCount, place, allowedByRow, allowedFor, rowCount, powerRow, off}
+use Rattle.settings.specs.Settings.{settings, foundBy, getCode, byteCount, place, allowedByRow, allowedFor, valuesOf, rowCount, kindRow, powerRow, off}
 use Rattle.settings.proofs.Laws.{IsFound, found-right, allowed-many}
+use Rattle.settings.proofs.Filled.{length-filled}
 use Rattle.panels.specs.declared.Panel.{Panel}
-use Rattle.panels.specs.Wall.{valuesOf}
+use Rattle.panels.specs.Wall.{modelOf}
 use Rattle.answers.specs.declared.Order.{Order}
 use Rattle.answers.specs.declared.Order.the-variants.{Report, Store, NotAvailable}
-use Rattle.answers.specs.Judged.{Command, getOf, setOf, command, commandBy, notAvailable, reported, taken, stored, takes, judge}
+use Rattle.answers.specs.Judged.{Command, getOf, setOf, unavailable, command, commandBy, notAvailable, reported, taken, stored, heldThen, takes, judge}
 use Rattle.answers.specs.Private.Orders.{orderOf}
 
 abbrev pub OrderIs : List ℕ → Order → Type 0
@@ -27,9 +28,9 @@ OrderIs d NotAvailable = (p : Panel) → judge (command d) p ≡ notAvailable
 
 order-found : (code : ℕ) (vs : List ℕ) (f : Found) → IsFound code f → command (code ∷ vs) ≡ commandBy f vs
     → OrderIs (code ∷ vs) (orderOf (commandBy f vs))
-order-found code vs (Set row) (h, _) e = (h, omega arith, e)
-order-found code [] (Get row) (h, _) e = (h, e)
-order-found code (v ∷ vs) (Get row) (h, _) e = λ p. unfold judge in rw e
+order-found code vs (Set row) (h, _, _) e = (h, omega arith, e)
+order-found code [] (Get row) (h, _, _) e = (h, e)
+order-found code (v ∷ vs) (Get row) h e = λ p. unfold judge in rw e
 order-found code vs Nothing h e = λ p. unfold judge in rw e
 
 pub order-right : (d : List ℕ) → OrderIs d (orderOf (command d))
@@ -45,20 +46,40 @@ judge-get c row p e = ap (λ (x : Command). judge x p) e
 pub is-off : (values : List ℕ) → same (valuesOf powerRow values) off ≡ eqb (getD values (place powerRow) 0) 1
 unfolding settings allowedByRow flatten same
 is-off [] = refl
-is-off (v ∷ values) = same-first (v ∷ values) 1 (omega arith)
+is-off (k ∷ []) = refl
+is-off (k ∷ v ∷ values) = same-first (v ∷ values) 1 (omega arith)
 
--- what a panel takes its own profile allows,
-pub taken-allowed : (row : ℕ) (vs : List ℕ) (p : Panel) → takes row vs p ≡ true → allowedFor (p .profile) row vs ≡ true
+-- a get or a set on the line is of a setting, and not of the kind
+abbrev pub OnLine : Command → Type 0
+OnLine (getOf row) = (kindRow < row) × (row < rowCount)
+OnLine (setOf row vs) = (kindRow < row) × (row < rowCount)
+OnLine unavailable = Unit {0}
+
+pub on-line : (d : List ℕ) → OnLine (command d)
+unfolding command
+on-line [] = tt
+on-line (code ∷ vs) = go (foundBy code) vs (found-right code)
+  where
+    go : (f : Found) (vs : List ℕ) → IsFound code f → OnLine (commandBy f vs)
+    go (Set row) vs (h, _, s) = (s, h)
+    go (Get row) [] (h, _, s) = (s, h)
+    go (Get row) (v ∷ vs) f = tt
+    go Nothing vs f = tt
+
+-- what a panel takes its own profile and kind allow it to hold,
+pub taken-allowed : (row : ℕ) (vs : List ℕ) (p : Panel) → takes row vs p ≡ true → allowedFor (modelOf p) row (heldThen row vs p) ≡ true
 unfolding takes
-taken-allowed row vs p t = both (allowedFor (p .profile) row vs) _ t .0
+taken-allowed row vs p t = both (allowedFor (modelOf p) row (heldThen row vs p)) _ t .0
 
 -- and it is as many values as the row has
 pub taken-many : (row : ℕ) (d : List ℕ) (p : Panel) → 0 < length d → takes row (drop 1 d) p ≡ true → length d ≡ byteCount row + 1
-taken-many row d p h t = omega (arith, rw length-drop at (allowed-many (p .profile) row (drop 1 d) (taken-allowed row (drop 1 d) p t)))
+taken-many row d p h t =
+    let n = allowed-many (modelOf p) row (heldThen row (drop 1 d) p) (taken-allowed row (drop 1 d) p t) in
+    omega (arith, rw (length-filled, length-drop) at n)
 
 -- a set that the panel takes, and one that it does not
 module _ (c : Command) (row : ℕ) (vs : List ℕ) (p : Panel) (e : c ≡ setOf row vs) where
-  pub judge-set : takes row vs p ≡ true → judge c p ≡ taken (stored row vs p)
+  pub judge-set : takes row vs p ≡ true → judge c p ≡ taken (stored row (heldThen row vs p) p)
   unfolding judge
   judge-set t = rw (e, t)
 

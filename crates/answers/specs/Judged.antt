@@ -1,17 +1,18 @@
 -- What one panel makes of a packet's data. 01, "Answering a burst", steps 4 and 5; "The settings"; 02, A1: by its own profile;
--- A5: power off while off.
+-- A5: power off while off; A6: by its own kind, and by the wall that it has.
 use Prim.Native.Nat.{ℕ}
 use mathlib.Core.Bool.{Bool, cond, not, _&&_}
 use mathlib.Core.List.{List, [], _∷_}
 use lib.Dec.{eqb}
+use lib.ListN.{getD}
 use Rattle.lists.specs.Lists.{same}
 use Rattle.settings.specs.declared.Found.{Found}
 use Rattle.settings.specs.declared.Found.the-variants.{Set, Get, Nothing}
-use Rattle.settings.specs.Settings.{foundBy, getCode, allowedFor, valuesWith, powerRow, off}
+use Rattle.settings.specs.Settings.{foundBy, getCode, allowedFor, valuesOf, valuesWith, filled, powerRow, off}
 use Rattle.packet.specs.declared.MonitorId.{MonitorId}
 use Rattle.packet.specs.declared.Control.the-variants.{Ack, Nav}
 use Rattle.panels.specs.declared.Panel.{Panel}
-use Rattle.panels.specs.Wall.{valuesOf}
+use Rattle.panels.specs.Wall.{modelOf}
 use Rattle.answers.specs.declared.Reply.{Reply}
 use Rattle.answers.specs.Reply.{wordFrom, reportFrom}
 
@@ -45,14 +46,18 @@ stored row values p = record { id = p .id; group = p .group; profile = p .profil
 unfoldable pub offAlready : ℕ → List ℕ → Panel → Bool
 offAlready row values p = eqb row powerRow && (same values off && same (valuesOf row (p .values)) off)
 
--- all else that the panel's own profile allows is taken
+-- the values that a panel would then hold: those of the set, but a tiling's byte 0 leaves it the wall that it has
+abbrev pub heldThen : ℕ → List ℕ → Panel → List ℕ
+heldThen row values p = filled row (getD (valuesOf row (p .values)) 3 0) values
+
+-- all else that the panel's own profile and kind allow it to hold is taken
 unfoldable pub takes : ℕ → List ℕ → Panel → Bool
-takes row values p = allowedFor (p .profile) row values && not (offAlready row values p)
+takes row values p = allowedFor (modelOf p) row (heldThen row values p) && not (offAlready row values p)
 
 -- one panel decides for itself
 unfoldable pub judge : Command → Panel → Judged
 judge (getOf row) p = reported (getCode row ∷ valuesOf row (p .values))
-judge (setOf row values) p = cond (takes row values p) (taken (stored row values p)) notAvailable
+judge (setOf row values) p = cond (takes row values p) (taken (stored row (heldThen row values p) p)) notAvailable
 judge unavailable p = notAvailable
 
 abbrev pub panelAfter : Judged → Panel → Panel

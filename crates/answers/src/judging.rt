@@ -3,21 +3,22 @@ ghost use mathlib.Core.Path.{_≡_};
 ghost use mathlib.Core.List.{_∷_};
 ghost use Prim.Native.Nat.{_+_, _<_};
 ghost use lib.ListN.{length, drop};
-ghost use Rattle.settings.specs.Settings.{getCode, byteCount, rowCount};
-ghost use Rattle.panels.specs.Wall.{valuesOf};
+ghost use Rattle.settings.specs.Settings.{getCode, byteCount, valuesOf, rowCount, tilingRow};
 ghost use Rattle.answers.specs.Reply.{reportFrom};
-ghost use Rattle.answers.specs.Judged.{command, stored, offAlready, takes};
+ghost use Rattle.answers.specs.Judged.{command, stored, offAlready, heldThen, takes};
 ghost use Rattle.answers.specs.Private.Orders.{orderOf, allowedBy};
 use crate::Answer;
 use crate::MOST_REPORTED;
 use crate::Order;
 use crate::PROFILE_COUNT;
 use crate::Reply;
+use crate::TILING_COUNT;
 use panels::Panel;
 use settings::Found;
 use settings::OFF;
 use settings::POWER_ROW;
 use settings::Profile;
+use settings::TILING_ROW;
 
 // What these data bytes ask.
 pub fn order_of(d: &[u8]) -> Order
@@ -41,13 +42,13 @@ pub fn order_of(d: &[u8]) -> Order
     }
 }
 
-// For each profile, by its number, whether it allows the values behind the set code.
+// For each profile, by its number, whether its ranges allow the values behind the set code.
 pub fn allowed_by(row: usize, d: &[u8]) -> [bool; PROFILE_COUNT]
     requires { ⌜ (row < rowCount) × (0 < length (now d)) ⌝ }
     ensures { λ r. ⌜ r ≡ allowedBy row (drop 1 (now (d .entry))) ⌝ }
 {
-    let general = settings::allowed(Profile::General, row, &d[1..]);
-    let phoenix = settings::allowed(Profile::Phoenix, row, &d[1..]);
+    let general = settings::in_ranges(Profile::General, row, &d[1..]);
+    let phoenix = settings::in_ranges(Profile::Phoenix, row, &d[1..]);
     [general, phoenix]
 }
 
@@ -65,11 +66,38 @@ fn off_already(p: Panel, row: usize, d: &[u8]) -> bool
     d[1] == OFF && values[settings::place_of(POWER_ROW)] == OFF
 }
 
-// Whether a panel takes them: its own profile allows them, and they do not turn it off while it is off.
+// The tiling that a panel would then hold: byte 0 leaves it the wall that it has.
+fn tiling_then(p: Panel, d: &[u8]) -> [u8; TILING_COUNT]
+    requires { ⌜ length (now d) ≡ byteCount tilingRow + 1 ⌝ }
+    ensures { λ r. ⌜ r ≡ heldThen tilingRow (drop 1 (now (d .entry))) p ⌝ }
+{
+    let values = p.values;
+    let wall = values[settings::place_of(TILING_ROW) + 3];
+    let mut held = [d[1], d[2], d[3], d[4]];
+    settings::fill(TILING_ROW, wall, &mut held);
+    held
+}
+
+// Whether a panel takes a tiling: its kind has the wall, and the wall the position.
+fn takes_tiling(p: Panel, d: &[u8]) -> bool
+    ensures { λ r. ⌜ r ≡ takes tilingRow (drop 1 (now (d .entry))) p ⌝ }
+{
+    if d.len() != TILING_COUNT + 1 {
+        return false;
+    }
+    let held = tiling_then(p, d);
+    let model = panels::model_of(p);
+    settings::allowed(model, TILING_ROW, &held)
+}
+
+// Whether a panel takes them: its own profile and kind allow them, and they do not turn it off while it is off.
 pub fn takes(p: Panel, row: usize, allowed: [bool; PROFILE_COUNT], d: &[u8]) -> bool
     requires { ⌜ allowed ≡ allowedBy row (drop 1 (now d)) ⌝ }
     ensures { λ r. ⌜ r ≡ takes row (drop 1 (now (d .entry))) p ⌝ }
 {
+    if row == TILING_ROW {
+        return takes_tiling(p, d);
+    }
     let profile = p.profile;
     let number = profiles::number_of(profile) as usize;
     allowed[number] && !off_already(p, row, d)
@@ -78,13 +106,18 @@ pub fn takes(p: Panel, row: usize, allowed: [bool; PROFILE_COUNT], d: &[u8]) -> 
 // The panel with the values behind the set code stored in a row.
 pub fn with_values(p: Panel, row: usize, d: &[u8]) -> Panel
     requires { ⌜ (row < rowCount) × (length (now d) ≡ byteCount row + 1) ⌝ }
-    ensures { λ r. ⌜ r ≡ stored row (drop 1 (now (d .entry))) p ⌝ }
+    ensures { λ r. ⌜ r ≡ stored row (heldThen row (drop 1 (now (d .entry))) p) p ⌝ }
 {
     let id = p.id;
     let group = p.group;
     let profile = p.profile;
     let mut values = p.values;
-    settings::store(row, &d[1..], &mut values);
+    if row == TILING_ROW {
+        let held = tiling_then(p, d);
+        settings::store(row, &held, &mut values);
+    } else {
+        settings::store(row, &d[1..], &mut values);
+    }
     Panel {
         id,
         group,

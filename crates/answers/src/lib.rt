@@ -18,6 +18,9 @@ pub const MOST_REPORTED: usize = MOST_VALUES + 1;
 // How many profiles there are, so that each has a place by its number.
 const PROFILE_COUNT: usize = 2;
 
+// How many values a tiling has.
+const TILING_COUNT: usize = 4;
+
 // Silence, a control word, or a report, whose bytes stand beside it.
 pub enum Answer {
     Silence,

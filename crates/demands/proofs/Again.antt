@@ -5,6 +5,8 @@ use mathlib.Core.Path.{_≡_, refl, sym, ap, _∙_}
 use mathlib.Core.List.{List, [], _∷_, map, map-map, map-id}
 use lib.ListN.{length, getD}
 use Rattle.lists.proofs.Mapped.{map-alike}
+use Rattle.settings.specs.Settings.{valuesOf, filled}
+use Rattle.settings.proofs.Filled.{filled-again}
 use Rattle.packet.specs.declared.MonitorId.{MonitorId}
 use Rattle.packet.specs.declared.GroupId.{GroupId}
 use Rattle.packet.specs.declared.Verdict.{Verdict}
@@ -15,10 +17,10 @@ use Rattle.panels.specs.Wall.{Wall, blank, panelsOf}
 use Rattle.panels.specs.Addressed.{reaches}
 use Rattle.panels.specs.WellFormed.{GoodPanel}
 use Rattle.panels.proofs.Formed.{good-at}
-use Rattle.answers.specs.Judged.{Command, getOf, setOf, unavailable, command, takes, judge, stored}
+use Rattle.answers.specs.Judged.{Command, getOf, setOf, unavailable, command, heldThen, takes, judge, stored}
 use Rattle.answers.specs.Played.{turned, playedBy, played}
 use Rattle.answers.proofs.Orders.{taken-allowed}
-use Rattle.answers.proofs.Formed.{stored-twice, turned-keeps}
+use Rattle.answers.proofs.Formed.{stored-own, stored-twice, turned-keeps}
 use Rattle.answers.proofs.Turns.{stays}
 use Rattle.line.specs.Session.{byBurst, session}
 use Rattle.demands.specs.Again.{addressedBy, Again, done, again, other, SentAgain}
@@ -73,15 +75,28 @@ module _ (i : MonitorId) (g : GroupId) (p : Panel) (good : GoodPanel p) where
   unmoved c e = ap (turned i g c) e
 
   -- it has the values: it takes them once more, which changes nothing, or it takes them no longer
-  set-again : (row : ℕ) (vs : List ℕ) → reaches i g p ≡ true → takes row vs p ≡ true → turned i g (setOf row vs) (stored row vs p) ≡ stored row vs p
+  set-again : (row : ℕ) (vs : List ℕ) → reaches i g p ≡ true → takes row vs p ≡ true
+      → let q = stored row (heldThen row vs p) p in turned i g (setOf row vs) q ≡ q
   unfolding turned judge
-  set-again row vs r a = go (takes row vs (stored row vs p)) refl
+  set-again row vs r a = go (takes row vs q) refl
     where
-      there : reaches i g (stored row vs p) ≡ true
+      held : List ℕ
+      held = heldThen row vs p
+
+      q : Panel
+      q = stored row held p
+
+      there : reaches i g q ≡ true
       there = unfold stored reaches in r
 
-      go : (t : Bool) → takes row vs (stored row vs p) ≡ t → turned i g (setOf row vs) (stored row vs p) ≡ stored row vs p
-      go true t = rw (there, t) (stored-twice row vs p (taken-allowed row vs p a) (good .full))
+      -- the wall that it was left is the wall that it has
+      same-held : heldThen row vs q ≡ held
+      same-held =
+          ap (λ (l : List ℕ). filled row (getD l 3 0) vs) (stored-own row held p (taken-allowed row vs p a) (good .full))
+          ∙ filled-again row (getD (valuesOf row (p .values)) 3 0) vs
+
+      go : (t : Bool) → takes row vs q ≡ t → turned i g (setOf row vs) q ≡ q
+      go true t = rw (there, t, same-held) (stored-twice row held p (taken-allowed row vs p a) (good .full))
       go false t = rw (there, t)
 
   asked-again : (c : Command) → reaches i g p ≡ true → turned i g c (turned i g c p) ≡ turned i g c p
@@ -93,7 +108,7 @@ module _ (i : MonitorId) (g : GroupId) (p : Panel) (good : GoodPanel p) where
       go : (t : Bool) → takes row vs p ≡ t → turned i g (setOf row vs) (turned i g (setOf row vs) p) ≡ turned i g (setOf row vs) p
       go false a = unmoved (setOf row vs) (rw (r, a))
       go true a =
-          let once : turned i g (setOf row vs) p ≡ stored row vs p = rw (r, a) in
+          let once : turned i g (setOf row vs) p ≡ stored row (heldThen row vs p) p = rw (r, a) in
           ap (turned i g (setOf row vs)) once ∙ set-again row vs r a ∙ sym once
 
   turned-again : (c : Command) → turned i g c (turned i g c p) ≡ turned i g c p

@@ -1,7 +1,7 @@
 -- The ten P cases of 01, proved together: antt plays each burst. Assumes nothing.
 use mathlib.Core.Path.{_≡_, refl}
 use mathlib.Core.List.{map, flatten}
-use Rattle.settings.specs.Settings.{settings, foundFrom, allowedByRow, freshValues, within, allAllowed}
+use Rattle.settings.specs.Settings.{settings, foundFrom, allowedByRow, freshValues, within, allAllowed, filled}
 use Rattle.lists.specs.Lists.{laidAt}
 use Rattle.packet.specs.Xor.{_⊕_, xorAll}
 use Rattle.packet.specs.Packet.{isIntact, verdictOf, dataOf, packetOf}
@@ -15,5 +15,5 @@ use Rattle.answers.specs.Sample.{twoPanels}
 use Rattle.demands.specs.Cases.{Case, tried, cases}
 
 pub p-cases : map (λ (c : Case). tried (c .burst)) cases ≡ cases
-unfolding settings foundFrom allowedByRow freshValues within allAllowed flatten _⊕_ xorAll isIntact verdictOf dataOf packetOf placeFrom reaches isHeard sentBytes command stored laidAt offAlready takes judge turned damagedReply played twoPanels cases
+unfolding settings foundFrom allowedByRow freshValues within allAllowed filled flatten _⊕_ xorAll isIntact verdictOf dataOf packetOf placeFrom reaches isHeard sentBytes command stored laidAt offAlready takes judge turned damagedReply played twoPanels cases
 p-cases = refl

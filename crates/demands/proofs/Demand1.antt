@@ -18,7 +18,7 @@ use Rattle.panels.specs.declared.Panel.{Panel}
 use Rattle.panels.specs.declared.Place.{Place}
 use Rattle.panels.specs.declared.Place.the-variants.{At, Nowhere}
 use Rattle.panels.specs.declared.Refusal.{Refusal}
-use Rattle.panels.specs.declared.Refusal.the-variants.{Nothing, Full, IdZero, IdTaken, GroupZero, UnknownProfile, NoPanel}
+use Rattle.panels.specs.declared.Refusal.the-variants.{Nothing, Full, IdZero, IdTaken, GroupZero, UnknownProfile, NoPanel, UnknownKind}
 use Rattle.panels.specs.Wall.{Wall, blank, placeOf, panelsOf}
 use Rattle.panels.specs.Addressed.{reaches}
 use Rattle.panels.specs.Calls.{refusalOf as tableNumber, ifThere, addRefusal, added, without, removed}
@@ -52,7 +52,7 @@ use Rattle.demands.specs.Demand1.{AddRefused, RemoveRefused, ReadRefused
 
 pub add-refused : AddRefused
 unfolding added
-add-refused w i g n refused = go (addRefusal w i g n) _ refused
+add-refused w i g n k refused = go (addRefusal w i g n k) _ refused
   where
     go : (r : Refusal) (then : Wall) → (r ≡ Nothing → ⊥) → cond (eqb (tableNumber r) 0) then w ≡ w
     go Nothing then n = absurd (n refl)
@@ -62,6 +62,7 @@ add-refused w i g n refused = go (addRefusal w i g n) _ refused
     go GroupZero then n = refl
     go UnknownProfile then n = refl
     go NoPanel then n = refl
+    go UnknownKind then n = refl
 
 pub remove-refused : RemoveRefused
 unfolding removed

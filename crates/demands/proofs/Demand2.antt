@@ -6,6 +6,7 @@ use mathlib.Core.Path.{_≡_, refl, sym, ap, _∙_}
 use mathlib.Core.List.{List, [], map}
 use lib.Dec.{leb, eqb}
 use lib.ListN.{length, getD, length-map, List·getD-map}
+use Rattle.settings.proofs.Laws.{get-found}
 use Rattle.panels.specs.Calls.{ifThere}
 use Rattle.packet.specs.declared.MonitorId.{MonitorId}
 use Rattle.packet.specs.declared.GroupId.{GroupId}
@@ -24,9 +25,9 @@ use Rattle.panels.proofs.Laws.{place-there}
 use Rattle.lists.proofs.Places.{getD-inside}
 use Rattle.panels.proofs.Formed.{empty-formed, added-formed, removed-formed, good-at}
 use Rattle.answers.specs.Reply.{silence, wordFrom}
-use Rattle.answers.specs.Judged.{Command, getOf, setOf, unavailable, command, takes, judge, panelAfter, stored, taken, notAvailable, replyBy}
+use Rattle.answers.specs.Judged.{Command, getOf, setOf, unavailable, command, heldThen, takes, judge, panelAfter, stored, taken, notAvailable, replyBy}
 use Rattle.answers.specs.Played.{turned, replyFrom, damagedReply, playedBy, played}
-use Rattle.answers.proofs.Orders.{taken-allowed}
+use Rattle.answers.proofs.Orders.{OnLine, on-line, taken-allowed}
 use Rattle.answers.proofs.Formed.{stored-own, stored-others, played-formed}
 use Rattle.demands.proofs.Cases.{p-cases}
 use Rattle.image_read.specs.Read.{Reading}
@@ -38,7 +39,7 @@ use Rattle.demands.specs.Demand2.{SetBy, OnlyAddressed, Answer·Is, Answ
 
 pub in-range : InRange
 in-range t empty = empty-formed
-in-range t (add c i g n) = added-formed (in-range _ c) i g n
+in-range t (add c i g n k) = added-formed (in-range _ c) i g n k
 in-range t (remove c i) = removed-formed (in-range _ c) i
 in-range t (image bytes) = read-formed bytes
 in-range t (burst c b) = played-formed (in-range _ c) b
@@ -53,23 +54,27 @@ module _ (b : List ℕ) (i : MonitorId) (g : GroupId) (n : ℕ) (e : verdictOf b
   set-by (setOf row vs) d r = go (takes row vs p) refl
     where
       go : (t : Bool) → takes row vs p ≡ t
-          → (panelAfter (cond t (taken (stored row vs p)) notAvailable) p ≡ p)
-          ⊎ SetBy b p (panelAfter (cond t (taken (stored row vs p)) notAvailable) p)
+          → (panelAfter (cond t (taken (stored row (heldThen row vs p) p)) notAvailable) p ≡ p)
+          ⊎ SetBy b p (panelAfter (cond t (taken (stored row (heldThen row vs p) p)) notAvailable) p)
       go false a = inl refl
-      go true a = inr (record {
-        id = i;
-        group = g;
-        count = n;
-        row = row;
-        values = vs;
-        intact = e;
-        addressed = r;
-        named = d;
-        inRange = taken-allowed row vs p a;
-        same = unfold stored in (refl, refl, refl);
-        stored = stored-own row vs p (taken-allowed row vs p a) (ok .full);
-        others = stored-others row vs p (taken-allowed row vs p a) (ok .full);
-      })
+      go true a =
+          let held = heldThen row vs p in
+          let allowed = taken-allowed row vs p a in
+          let own = stored-own row held p allowed (ok .full) in
+          inr (record {
+            id = i;
+            group = g;
+            count = n;
+            row = row;
+            values = vs;
+            intact = e;
+            addressed = r;
+            named = d;
+            inRange = rw own allowed;
+            same = unfold stored in (refl, refl, refl);
+            stored = own;
+            others = stored-others row held p allowed (ok .full);
+          })
 
   turned-by : (turned i g (command (dataOf b (Intact i g n))) p ≡ p) ⊎ SetBy b p (turned i g (command (dataOf b (Intact i g n))) p)
   unfolding turned
@@ -94,24 +99,24 @@ unfolding played
 only-addressed t f b k h = by-verdict (verdictOf b) (panelsOf t) b k refl (f .good) h
 
 -- Answers.
-judged-answer : (w : Wall) (i : MonitorId) (k : ℕ) (c : Command) → k < length w → getD w k blank .id .0 ≡ i .0
+judged-answer : (w : Wall) (i : MonitorId) (k : ℕ) (c : Command) → OnLine c → k < length w → getD w k blank .id .0 ≡ i .0
     → Answer·Is w (replyBy i (judge c (getD w k blank)))
 unfolding judge
-judged-answer w i k (getOf row) h e = inr (inr (i, k, row, h, e, refl))
-judged-answer w i k unavailable h e = inr (inl (i, Nav, refl))
-judged-answer w i k (setOf row vs) h e = go (takes row vs (getD w k blank))
+judged-answer w i k (getOf row) (s, l) h e = inr (inr (i, k, row, h, e, get-found s l, refl))
+judged-answer w i k unavailable on h e = inr (inl (i, Nav, refl))
+judged-answer w i k (setOf row vs) on h e = go (takes row vs (getD w k blank))
   where
-    go : (t : Bool) → Answer·Is w (replyBy i (cond t (taken (stored row vs (getD w k blank))) notAvailable))
+    go : (t : Bool) → Answer·Is w (replyBy i (cond t (taken (stored row (heldThen row vs (getD w k blank)) (getD w k blank))) notAvailable))
     go true = inr (inl (i, Ack, refl))
     go false = inr (inl (i, Nav, refl))
 
-heard-answer : (w : Wall) (i : MonitorId) (c : Command) (q : Place) → placeOf i w ≡ q → Answer·Is w (replyFrom w i c q)
-heard-answer w i c Nowhere e = inl refl
-heard-answer w i c (At k) e = let (h, same) = place-there i w k e in judged-answer w i k c h same
+heard-answer : (w : Wall) (i : MonitorId) (c : Command) → OnLine c → (q : Place) → placeOf i w ≡ q → Answer·Is w (replyFrom w i c q)
+heard-answer w i c on Nowhere e = inl refl
+heard-answer w i c on (At k) e = let (h, same) = place-there i w k e in judged-answer w i k c on h same
 
-packet-answer : (w : Wall) (i : MonitorId) (c : Command) (t : Bool) → Answer·Is w (cond t (replyFrom w i c (placeOf i w)) silence)
-packet-answer w i c true = heard-answer w i c (placeOf i w) refl
-packet-answer w i c false = inl refl
+packet-answer : (w : Wall) (i : MonitorId) (c : Command) → OnLine c → (t : Bool) → Answer·Is w (cond t (replyFrom w i c (placeOf i w)) silence)
+packet-answer w i c on true = heard-answer w i c on (placeOf i w) refl
+packet-answer w i c on false = inl refl
 
 nack-answer : (w : Wall) (i : MonitorId) (q : Place) → Answer·Is w (ifThere q (wordFrom i Nack) silence)
 nack-answer w i Nowhere = inl refl
@@ -133,7 +138,7 @@ answers w b = go (verdictOf b)
     go : (v : Verdict) → Answer·Is w (playedBy v w b .reply)
     go Empty = inl refl
     go (Damaged d) = damaged-burst w b
-    go (Intact i g n) = packet-answer w i _ (isHeard i g)
+    go (Intact i g n) = packet-answer w i _ (on-line (dataOf b (Intact i g n))) (isHeard i g)
 
 -- The line.
 pub received : Received

@@ -1,19 +1,21 @@
 -- Host and box on one line. Assumes nothing.
-use Prim.Native.Nat.{ℕ, zero, suc, _≤_, _<_}
-use mathlib.Core.Bool.{Bool, true, false, cond, not, false≢true}
+use Prim.Native.Nat.{ℕ, zero, suc, _-_, _≤_, _<_}
+use mathlib.Core.Bool.{Bool, true, false, cond, not, false≢true, and-false, _&&_}
 use mathlib.Core.Path.{_≡_, refl, sym, ap, subst, _∙_}
 use mathlib.Core.List.{List, [], _∷_}
 use native.Mathlib.Omega.{arith}
-use borrow.Author.Tests.{eqb-true, eq-eqb, ne-eqb, lt-ltb}
+use borrow.Author.Tests.{eqb-true, eqb-false, eq-eqb, ne-eqb, lt-ltb}
 use lib.Dec.{eqb, leb, ltb}
 use lib.ListN.{length, getD, replicate, length-take, length-replicate}
 use lib.Seq.{take-append-seam}
-use Rattle.settings.specs.declared.Profile.{Profile}
+use Rattle.settings.specs.declared.Model.{Model}
 use Rattle.settings.specs.declared.Found.{Found}
 use Rattle.settings.specs.declared.Found.the-variants.{Set, Get, Nothing}
-use Rattle.settings.specs.Settings.{settings, foundBy, setCode, getCode, allowedFor, rowCount, mostValues, powerRow, off}
+use Rattle.settings.specs.Settings.{settings, foundBy, setCode, getCode, allowedFor, byteCount, valuesOf, filled, rowCount, mostValues, kindRow, powerRow, tilingRow, off}
 use Rattle.lists.proofs.Both.{both}
-use Rattle.settings.proofs.Laws.{IsFound, found-right, byte-count-few}
+use Rattle.settings.proofs.Laws.{IsFound, found-right, allowed-many, byte-count-few}
+use Rattle.settings.proofs.Filled.{filled-other, filled-there, length-filled}
+use Rattle.tiling.specs.Kinds.{largest, inWall}
 use Rattle.lists.proofs.Each.{alike}
 use Rattle.packet.specs.declared.Control.the-variants.{Ack as AckWord, Nav as NavWord}
 use Rattle.packet.specs.declared.Damage.the-variants.{Nothing as NoDamage}
@@ -24,17 +26,17 @@ use Rattle.packet.proofs.Packets.{sound, packet-intact, packet-verdict, packet-
 use Rattle.packet.proofs.Damages.{undamaged}
 use Rattle.panels.specs.declared.Panel.{Panel}
 use Rattle.panels.specs.declared.Place.the-variants.{At}
-use Rattle.panels.specs.Wall.{Wall, valuesOf, blank, placeOf, panelsOf}
+use Rattle.panels.specs.Wall.{Wall, modelOf, blank, placeOf, panelsOf}
 use Rattle.panels.specs.WellFormed.{GoodPanel}
 use Rattle.panels.proofs.Laws.{place-there}
 use Rattle.panels.proofs.Formed.{good-at}
-use Rattle.answers.specs.Judged.{command, offAlready, takes, judge, replyBy}
+use Rattle.answers.specs.Judged.{command, offAlready, heldThen, takes, judge, replyBy}
 use Rattle.answers.specs.Played.{played}
 use Rattle.answers.specs.Reply.{wordFrom, reportFrom, sentBytes}
 use Rattle.requests.specs.declared.Request.{Request}
 use Rattle.requests.specs.declared.Said.{Said}
 use Rattle.requests.specs.declared.Said.the-variants.{Ack, Nack, Nav, Report, Nothing as Other}
-use Rattle.requests.specs.Request.{valuesOf as requestValues, requestData, requestPacket, isPowerOff, isTaken, isRequest}
+use Rattle.requests.specs.Request.{valuesOf as requestValues, requestData, requestPacket, isPowerOff, maySet, isTaken, isRequest}
 use Rattle.lists.specs.Lists.{same}
 use Rattle.requests.specs.Said.{isControl, isReport, endedBy, wordIn}
 use Rattle.host.specs.declared.Outcome.{Outcome}
@@ -42,16 +44,72 @@ use Rattle.host.specs.declared.Outcome.the-variants.{Nav as NavHeard, OffOrRefu
 use Rattle.host.specs.Heard.{saidBy, saidTo}
 use Rattle.host.specs.Machine.{start, burst, mark, idle, State, Move, sendings, mostSendings, over, begun, again, navEnds, ending, heard, telling, step}
 use Rattle.host.proofs.Lasting.{packet-reads}
-use Rattle.demands.specs.HostAndBox.{asking, EndsWith, Lossless}
+use Rattle.demands.specs.HostAndBox.{asking, pastWall, EndsWith, Lossless}
+use Rattle.demands.proofs.Tiling.{in-own-wall, value-at, held-allowed, host-tiling}
+
+-- no setting's get code is 0
+codes-some : (row : ℕ) → kindRow < row → row < rowCount → eqb (getCode row) 0 ≡ false
+unfolding settings
+codes-some row s h =
+    let k : suc (row - 1) ≡ row = omega arith in
+    rw k at (alike (λ j. eqb (getCode (suc j)) 0) (λ j. false) (rowCount - 1) refl {k = row - 1} (omega arith))
 
 -- The box answers a request to a panel that is there as that panel judges it.
-word-report : (profile : Profile) (code row : ℕ) (values : List ℕ) → foundBy code ≡ Get row → eqb (getCode row) 0 ≡ false
-    → allowedFor profile row values ≡ true → wordIn profile code (getCode row ∷ values) ≡ Report
+word-report : (model : Model) (code row : ℕ) (values : List ℕ) → foundBy code ≡ Get row → eqb (getCode row) 0 ≡ false
+    → allowedFor model row values ≡ true → wordIn model code (getCode row ∷ values) ≡ Report
 unfolding wordIn isControl same endedBy isReport
-word-report profile code row values found notZero allowed = rw (notZero, found, eq-eqb (getCode row) _ refl, allowed)
+word-report model code row values found notZero allowed = rw (notZero, found, eq-eqb (getCode row) _ refl, allowed)
+
+-- What the host may ask a panel takes, but for a power off while off, and for a tiling past its own wall.
+not-not : (t : Bool) → not (not t) ≡ t
+not-not true = refl
+not-not false = refl
+
+tiling-count : byteCount tilingRow ≡ 4
+unfolding settings
+tiling-count = refl
+
+-- of a tiling that leaves the wall open
+open-wall : (p : Panel) (vs : List ℕ) → length vs ≡ 4 → maySet (modelOf p) tilingRow vs ≡ true → getD vs 3 0 ≡ 0
+    → allowedFor (modelOf p) tilingRow (heldThen tilingRow vs p) ≡ not (pastWall tilingRow vs p)
+open-wall p (enable ∷ frame ∷ position ∷ byte ∷ []) n may none =
+    let zeroed = eq-eqb byte 0 none in
+    let (flag, rest) = both (leb enable 1) _ (sym (host-tiling (modelOf p) enable frame position byte .0) ∙ may) in
+    let (frames, _) = both (leb frame 1) _ rest in
+    held-allowed p enable frame position byte
+    ∙ rw (flag, frames, zeroed)
+    (in-own-wall p position (getD (p .values) 5 0) ∙ ap (inWall (modelOf p .kind) position) (sym (value-at p 3 (omega arith))) ∙ sym (not-not _))
+open-wall p [] n may none = absurd (omega arith)
+open-wall p (a ∷ []) n may none = absurd (omega arith)
+open-wall p (a ∷ b ∷ []) n may none = absurd (omega arith)
+open-wall p (a ∷ b ∷ c ∷ []) n may none = absurd (omega arith)
+open-wall p (a ∷ b ∷ c ∷ d ∷ x ∷ l) n may none = absurd (omega arith)
+
+may-hold : (p : Panel) (row : ℕ) (vs : List ℕ) → maySet (modelOf p) row vs ≡ true
+    → allowedFor (modelOf p) row (heldThen row vs p) ≡ not (pastWall row vs p)
+may-hold p row vs may = go (eqb row tilingRow) (eqb (getD vs 3 0) 0) refl refl
+  where
+    model : Model
+    model = modelOf p
+
+    own : ℕ
+    own = getD (valuesOf row (p .values)) 3 0
+
+    go : (t z : Bool) → eqb row tilingRow ≡ t → eqb (getD vs 3 0) 0 ≡ z → allowedFor model row (heldThen row vs p) ≡ not (pastWall row vs p)
+    go false z et ez =
+        let ne = eqb-false row tilingRow et in
+        ap (allowedFor model row) (filled-other row own vs ne ∙ sym (filled-other row (largest (model .kind)) vs ne)) ∙ may ∙ sym (rw et)
+    go true false et ez =
+        let ne = eqb-false (getD vs 3 0) 0 ez in
+        ap (allowedFor model row) (filled-there row own vs ne ∙ sym (filled-there row (largest (model .kind)) vs ne)) ∙ may ∙ sym (rw (et, ez))
+    go true true et ez =
+        let same-row = eqb-true row tilingRow et in
+        let four = sym (length-filled row (largest (model .kind)) vs) ∙ allowed-many model row (filled row (largest (model .kind)) vs) may in
+        subst (λ (r : ℕ). allowedFor model r (heldThen r vs p) ≡ not (pastWall r vs p)) (sym same-row)
+        (open-wall p vs (four ∙ ap byteCount same-row ∙ tiling-count) (subst (λ (r : ℕ). maySet model r vs ≡ true) same-row may) (eqb-true (getD vs 3 0) 0 ez))
 
 module _ (w : Wall) (r : Request) (k : ℕ) (asked : isRequest r ≡ true) (due : isHeard (r .id) (r .group) ≡ true) (there : placeOf (r .id) w ≡ At k)
-    (told : getD w k blank .profile ≡ r .profile) where
+    (told : modelOf (getD w k blank) ≡ r .model) where
   abbrev panel : Panel
   panel = getD w k blank
 
@@ -104,42 +162,59 @@ module _ (w : Wall) (r : Request) (k : ℕ) (asked : isRequest r ≡ true) (due 
   nav-ends zero e = rw e
   nav-ends (suc n) e = rw (e, length-replicate, lt-ltb 1 (suc (suc n)) (omega arith), ne-eqb (suc (suc n)) 1 (λ d. omega arith))
 
+  -- and to any other request
+  not-power : (row : ℕ) → foundBy (r .code) ≡ Set row → pastWall row (requestValues r) panel ≡ true → isPowerOff r ≡ false
+  unfolding isPowerOff same settings
+  not-power row found e =
+      let (at, _) = both (eqb row tilingRow) _ (both (eqb row tilingRow && eqb (getD (requestValues r) 3 0) 0) _ e .0) in
+      let code = sym (subst (IsFound (r .code)) found (found-right (r .code)) .1) ∙ ap setCode (eqb-true row tilingRow at) in
+      rw code
+
+  nav-plain : (n : ℕ) → isPowerOff r ≡ false → navEnds (waiting (suc n)) ≡ NavHeard (suc n)
+  unfolding navEnds
+  nav-plain n e = rw (e, length-replicate)
+
   hears : (n : ℕ) → n < mostSendings → (d : List ℕ) → length d ≤ mostData
-      → step (asking r n) (burst (packetOf (r .id) (groupId 0) d)) ≡ ending (waiting (suc n)) d (wordIn (r .profile) (r .code) d)
+      → step (asking r n) (burst (packetOf (r .id) (groupId 0) d)) ≡ ending (waiting (suc n)) d (wordIn (r .model) (r .code) d)
   unfolding step heard saidTo saidBy
   hears n few d short =
       let none = undamaged _ (sound _ (packet-intact (r .id) (groupId 0) d short)) in
       rw (waits-on n few, length-replicate, lt-ltb 0 (suc n) (omega arith), none, packet-data (r .id) (groupId 0) d short, packet-verdict (r .id) (groupId 0) d short, eq-eqb (r .id .0) _ refl)
-      (untold (waiting (suc n)) d (wordIn (r .profile) (r .code) d))
+      (untold (waiting (suc n)) d (wordIn (r .model) (r .code) d))
 
   -- a set to which the panel says the word
-  set-ends : (n : ℕ) → n < mostSendings → (row : ℕ) → foundBy (r .code) ≡ Set row → allowedFor (panel .profile) row (requestValues r) ≡ true
-      → (off : Bool) → offAlready row (requestValues r) panel ≡ off
+  set-ends : (n : ℕ) → n < mostSendings → (row : ℕ) → foundBy (r .code) ≡ Set row
+      → allowedFor (modelOf panel) row (heldThen row (requestValues r) panel) ≡ not (pastWall row (requestValues r) panel)
+      → (off past : Bool) → offAlready row (requestValues r) panel ≡ off → pastWall row (requestValues r) panel ≡ past
       → EndsWith (Set row) r panel (suc n) (step (asking r n) (burst (sentBytes (played w (requestPacket r) .reply))))
   unfolding command takes judge sentBytes ending
-  set-ends n few row found allowed true e =
-      let reply : played w (requestPacket r) .reply ≡ wordFrom (r .id) NavWord = box-answers ∙ rw (found, allowed, e) in
+  set-ends n few row found allowed true past e f =
+      let reply : played w (requestPacket r) .reply ≡ wordFrom (r .id) NavWord = box-answers ∙ rw (found, allowed, e, and-false (not (pastWall row (requestValues r) panel))) in
       rw (reply, e) (hears n few (controlData NavWord) (omega arith) ∙ (unfold wordIn isControl same in ap (λ (o : Outcome). over o []) (nav-ends n (power-off row found e))))
-  set-ends n few row found allowed false e =
-      let reply : played w (requestPacket r) .reply ≡ wordFrom (r .id) AckWord = box-answers ∙ rw (found, allowed, e) in
-      rw (reply, e) (hears n few (controlData AckWord) (omega arith) ∙ (unfold wordIn isControl same endedBy in rw (found, length-replicate)))
+  set-ends n few row found allowed false true e f =
+      let reply : played w (requestPacket r) .reply ≡ wordFrom (r .id) NavWord = box-answers ∙ rw (found, allowed, f) in
+      rw (reply, e, f) (hears n few (controlData NavWord) (omega arith) ∙ (unfold wordIn isControl same in ap (λ (o : Outcome). over o []) (nav-plain n (not-power row found f))))
+  set-ends n few row found allowed false false e f =
+      let reply : played w (requestPacket r) .reply ≡ wordFrom (r .id) AckWord = box-answers ∙ rw (found, allowed, e, f) in
+      rw (reply, e, f) (hears n few (controlData AckWord) (omega arith) ∙ (unfold wordIn isControl same endedBy in rw (found, length-replicate)))
 
   ends : (n : ℕ) → n < mostSendings → GoodPanel panel → (f : Found) → foundBy (r .code) ≡ f → isTaken r f ≡ true
       → EndsWith f r panel (suc n) (step (asking r n) (burst (sentBytes (played w (requestPacket r) .reply))))
   unfolding isTaken command judge sentBytes ending
   ends n few good Nothing found t = absurd (false≢true t)
   ends n few good (Set row) found t =
-      set-ends n few row found (rw told (both (not (eqb (r .group .0) 255)) _ t .1)) (offAlready row (requestValues r) panel) refl
+      let may = both (not (eqb (r .group .0) 255)) _ t .1 in
+      set-ends n few row found (may-hold panel row (requestValues r) (subst (λ (m : Model). maySet m row (requestValues r) ≡ true) (sym told) may)) (offAlready row (requestValues r) panel) (pastWall row (requestValues r) panel) refl refl
   ends n few good (Get row) found t =
       let none = eqb-true (r .count) 0 (both (eqb (r .count) 0) _ t .0) in
-      let inTable = subst (IsFound (r .code)) found (found-right (r .code)) .0 in
+      let (inTable, _, setting) = subst (IsFound (r .code)) found (found-right (r .code)) in
       let d = getCode row ∷ valuesOf row (panel .values) in
       let short : length d ≤ mostData = simp length-take (omega (arith, byte-count-few inTable)) in
       let reply : played w (requestPacket r) .reply ≡ reportFrom (r .id) d = box-answers ∙ rw (found, none) in
       let sent : sentBytes (reportFrom (r .id) d) ≡ packetOf (r .id) (groupId 0) d = ap (packetOf (r .id) (groupId 0)) (take-append-seam d _) in
-      let notZero = alike (λ j. eqb (getCode j) 0) (λ j. false) rowCount (unfold settings in refl) inTable in
+      let notZero = codes-some row setting inTable in
       rw (reply, sent)
-      (hears n few d short ∙ ap (ending (waiting (suc n)) d) (word-report (r .profile) (r .code) row (valuesOf row (panel .values)) found notZero (rw (← told) (good .inRange row inTable)))
+      (hears n few d short ∙ ap (ending (waiting (suc n)) d) (word-report (r .model) (r .code) row (valuesOf row (panel .values)) found notZero (subst (λ (m : Model). allowedFor m row (valuesOf row (panel .values)) ≡ true) told (good .inRange row inTable)))
       ∙ rw length-replicate)
 
 pub lossless : Lossless

@@ -5,6 +5,8 @@ pub mod Demand2
 pub mod Demand3
 pub mod Damage
 pub mod Profiles
+pub mod ToOne
+pub mod Tiling
 pub mod Forms
 pub mod Power
 pub mod Again

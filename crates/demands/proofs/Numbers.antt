@@ -2,17 +2,19 @@
 use Prim.Native.Nat.{ℕ, _+_, _*_}
 use mathlib.Core.Path.{_≡_, refl, ap, _∙_}
 use mathlib.Core.Bool.{Bool, true, false, cond, _&&_, _||_}
-use mathlib.Core.List.{List, [], _∷_}
+use mathlib.Core.List.{List, [], _∷_, flatten}
 use lib.Dec.{leb, eqb}
 use lib.ListN.{length}
 use Rattle.settings.specs.declared.Profile.the-variants.{General, Phoenix}
+use Rattle.tiling.specs.Kinds.{isKind}
+use Rattle.settings.specs.Settings.{settings, freshValues, allowedByRow}
 use Rattle.profiles.specs.declared.Numbered.the-variants.{Known, Unknown}
-use Rattle.profiles.specs.Numbers.{profileNumber, profileWith, ifKnown}
+use Rattle.profiles.specs.Numbers.{profileWith, ifKnown}
 use Rattle.packet.specs.declared.Written.the-variants.{Bytes as PacketBytes, TooLong, NoRoom as NoPacket}
 use Rattle.packet.specs.Packet.{writtenOf as packetWritten}
 use Rattle.panels.specs.declared.Place.{Place}
 use Rattle.panels.specs.declared.Place.the-variants.{At, Nowhere}
-use Rattle.panels.specs.declared.Refusal.the-variants.{Nothing, Full, IdZero, IdTaken, GroupZero, UnknownProfile, NoPanel}
+use Rattle.panels.specs.declared.Refusal.the-variants.{Nothing, Full, IdZero, IdTaken, GroupZero, UnknownProfile, NoPanel, UnknownKind}
 use Rattle.panels.specs.Wall.{Wall, placeOf}
 use Rattle.panels.specs.Calls.{refusalOf as tableNumber, ifThere, addRefusal}
 use Rattle.answers.specs.declared.Sent.the-variants.{Bytes as AnswerBytes, NoRoom as NoAnswer}
@@ -20,25 +22,33 @@ use Rattle.answers.specs.Reply.{sentBytes, sentOf}
 use Rattle.image_write.specs.declared.Written.the-variants.{Bytes as ImageBytes, WouldLose, NoRoom as NoImage}
 use Rattle.forms.specs.declared.Form.{Form}
 use Rattle.forms.specs.declared.Form.the-variants.{One, Two}
+use Rattle.forms.specs.Forms.{keeps}
 use Rattle.image_write.specs.Written.{recordSize, sizeOf, losesNothing, writtenOf as imageWritten}
 use Rattle.image_write.proofs.Losing.{two-holds}
-use Rattle.demands.specs.Numbers.{Add, Remove, imageNumber, answerNumber, packetNumber, allGeneral, ImageOne, ImageTwo, Answer, Packet}
+use Rattle.demands.specs.Numbers.{Add, Remove, imageNumber, answerNumber, packetNumber, isPlain, allPlain, ImageOne, ImageTwo, Answer, Packet}
 
 pub add-number : Add
-unfolding addRefusal profileWith
-add-number w i g n = go (leb 32 (length w)) (eqb (i .0) 0) (placeOf i w) (eqb (g .0) 0) (eqb n 0) (eqb n 1)
+unfolding addRefusal profileWith isKind
+add-number w i g n k = go (leb 32 (length w)) (eqb (i .0) 0) (placeOf i w) (eqb (g .0) 0) (eqb n 0) (eqb n 1)
   where
+    kinds : (t : Bool) → tableNumber (cond t Nothing UnknownKind) ≡ cond t 0 7
+    kinds true = refl
+    kinds false = refl
+
     go : (a b : Bool) (q : Place) (c d e : Bool)
         → tableNumber
         (cond a Full
-        (cond b IdZero (ifThere q IdTaken (cond c GroupZero (ifKnown (cond d (Known General) (cond e (Known Phoenix) Unknown)) (λ profile. Nothing) UnknownProfile)))))
-        ≡ cond a 1 (cond b 2 (ifThere q 3 (cond c 4 (cond (d || e) 0 5))))
+        (cond b IdZero
+        (ifThere q IdTaken
+        (cond c GroupZero
+        (ifKnown (cond d (Known General) (cond e (Known Phoenix) Unknown)) (λ profile. cond (isKind k) Nothing UnknownKind) UnknownProfile)))))
+        ≡ cond a 1 (cond b 2 (ifThere q 3 (cond c 4 (cond (d || e) (cond (isKind k) 0 7) 5))))
     go true b q c d e = refl
     go false true q c d e = refl
     go false false (At k) c d e = refl
     go false false Nowhere true d e = refl
-    go false false Nowhere false true e = refl
-    go false false Nowhere false false true = refl
+    go false false Nowhere false true e = kinds (isKind k)
+    go false false Nowhere false false true = kinds (isKind k)
     go false false Nowhere false false false = refl
 
 pub remove-number : Remove
@@ -48,11 +58,11 @@ remove-number w i = go (placeOf i w)
     go (At k) = refl
     go Nowhere = refl
 
--- form 1 holds exactly the walls of general panels
-general-held : (w : Wall) → losesNothing One w ≡ allGeneral w
-unfolding losesNothing
-general-held [] = refl
-general-held (p ∷ w) = ap (λ (t : Bool). eqb (profileNumber (p .profile)) 0 && t) (general-held w)
+-- form 1 keeps exactly the walls of plain panels
+plain-kept : (w : Wall) → losesNothing One w ≡ allPlain w
+unfolding losesNothing keeps settings freshValues allowedByRow flatten
+plain-kept [] = refl
+plain-kept (p ∷ w) = ap (λ (t : Bool). isPlain p && t) (plain-kept w)
 
 image-number : (form : Form) (w : Wall) (out : List ℕ)
     → imageNumber (imageWritten form w out) ≡ cond (losesNothing form w) (cond (leb (sizeOf form w) (length out)) 0 19) 31
@@ -65,12 +75,12 @@ image-number form w out = go (losesNothing form w) (leb (sizeOf form w) (length 
     go false b = refl
 
 pub image-one : ImageOne
-unfolding recordSize
-image-one w out = image-number One w out ∙ ap (λ (t : Bool). cond t (cond (leb (35 * length w + 2) (length out)) 0 19) 31) (general-held w)
+unfolding recordSize settings
+image-one w out = image-number One w out ∙ ap (λ (t : Bool). cond t (cond (leb (35 * length w + 2) (length out)) 0 19) 31) (plain-kept w)
 
 pub image-two : ImageTwo
 unfolding recordSize
-image-two w out = image-number Two w out ∙ ap (λ (t : Bool). cond t (cond (leb (36 * length w + 2) (length out)) 0 19) 31) (two-holds w)
+image-two w out = image-number Two w out ∙ ap (λ (t : Bool). cond t (cond (leb (45 * length w + 2) (length out)) 0 19) 31) (two-holds w)
 
 pub answer-number : Answer
 unfolding sentOf answerNumber

@@ -1,4 +1,4 @@
--- Walls of both profiles, and the tint with its sign. Assumes nothing.
+-- Walls of both profiles and both kinds, and the tint with its sign. Assumes nothing.
 use mathlib.Core.Path.{_≡_, refl, sym, ap₂, _∙_}
 use mathlib.Core.Bool.{Bool, true, false, cond, not, _&&_, and-true, or-false}
 use mathlib.Core.List.{List, [], _∷_, _++_, map}
@@ -18,13 +18,13 @@ use Rattle.settings.specs.Settings.{settings, _to_, within, allAllowed, allowed
 use Rattle.profiles.specs.Video.{tintOf, videoIn, bytesOf}
 use Rattle.profiles.proofs.Tints.{byte-back, tint-back}
 use Rattle.panels.specs.declared.Panel.{Panel}
-use Rattle.panels.specs.Wall.{blank, videoOf}
+use Rattle.panels.specs.Wall.{modelOf, blank, videoOf}
 use Rattle.panels.specs.Addressed.{reaches}
 use Rattle.panels.proofs.Values.{set-row}
-use Rattle.answers.specs.Judged.{setOf, offAlready, takes, judge, stored, taken, notAvailable, panelAfter}
+use Rattle.answers.specs.Judged.{setOf, offAlready, heldThen, takes, judge, stored, taken, notAvailable, panelAfter}
 use Rattle.answers.specs.Played.{turned, played}
 use Rattle.answers.proofs.Formed.{off-same}
-use Rattle.demands.specs.Profiles.{OwnProfile, TintBack, inPhoenixRange, VideoAllowed, SeenAsSet}
+use Rattle.demands.specs.Profiles.{OwnModel, TintBack, inPhoenixRange, VideoAllowed, SeenAsSet}
 
 -- one panel and a set
 one-set : (r : Bool) (t : Bool) (q p : Panel) → cond r (panelAfter (cond t (taken q) notAvailable) p) p ≡ cond (r && t) q p
@@ -33,23 +33,25 @@ one-set true false q p = refl
 one-set false t q p = refl
 
 -- power off to a panel that is off is not taken, and storing it changes nothing
-as-allowed : (r : Bool) (row : ℕ) (vs : List ℕ) (p : Panel) → cond (r && takes row vs p) (stored row vs p) p ≡ cond (r && allowedFor (p .profile) row vs) (stored row vs p) p
+as-allowed : (r : Bool) (row : ℕ) (vs : List ℕ) (p : Panel)
+    → let q = stored row (heldThen row vs p) p in cond (r && takes row vs p) q p ≡ cond (r && allowedFor (modelOf p) row (heldThen row vs p)) q p
 unfolding takes
 as-allowed false row vs p = refl
-as-allowed true row vs p = go (allowedFor (p .profile) row vs) (offAlready row vs p) refl
+as-allowed true row vs p = go (allowedFor (modelOf p) row (heldThen row vs p)) (offAlready row vs p) refl
   where
-    go : (a t : Bool) → offAlready row vs p ≡ t → cond (a && not t) (stored row vs p) p ≡ cond a (stored row vs p) p
+    go : (a t : Bool) → offAlready row vs p ≡ t
+        → let q = stored row (heldThen row vs p) p in cond (a && not t) q p ≡ cond a q p
     go false t e = refl
     go true false e = refl
     go true true e = sym (off-same row vs p e)
 
-pub own-profile : OwnProfile
+pub own-model : OwnModel
 unfolding played turned judge
-own-profile w b i g n row values intact named k h =
+own-model w b i g n row values intact named k h =
     let f = turned i g (setOf row values) in
     let p = getD w k blank in
     let at = getD-inside (map f w) k blank (f blank) (rw (length-map w f) h) ∙ List·getD-map f w k blank in
-    rw (intact, named) (at ∙ one-set (reaches i g p) (takes row values p) (stored row values p) p ∙ as-allowed (reaches i g p) row values p)
+    rw (intact, named) (at ∙ one-set (reaches i g p) (takes row values p) (stored row (heldThen row values p) p) p ∙ as-allowed (reaches i g p) row values p)
 
 fits : (t : ℤ) → mag t < 128 → SFits w8 t
 fits t h = record { sfits = h }
@@ -58,7 +60,7 @@ pub tint-and-byte : TintBack
 tint-and-byte = ((λ b h. byte-back h), (λ t h. tint-back t (fits t h)))
 
 -- the ranges one by one
-up-to : (high v : ℕ) → within (0 to high) v ≡ leb v high
+pub up-to : (high v : ℕ) → within (0 to high) v ≡ leb v high
 unfolding within
 up-to high v = rw (le-leb 0 v (omega arith)) (or-false (leb v high))
 
@@ -84,17 +86,17 @@ seven-tests true true true true true true g = refl
 
 pub video-allowed : VideoAllowed
 unfolding settings allAllowed videoIn inPhoenixRange
-video-allowed (b ∷ c ∷ k ∷ s ∷ t ∷ l ∷ g ∷ []) e h =
-    and (up-to 100 b) (and (up-to 100 c) (and (up-to 100 k) (and (up-to 10 s) (and (tints h) (and (up-to 100 l) (gammas g))))))
+video-allowed (b ∷ c ∷ k ∷ s ∷ t ∷ l ∷ g ∷ []) kind e h =
+    and-true _ ∙ and (up-to 100 b) (and (up-to 100 c) (and (up-to 100 k) (and (up-to 10 s) (and (tints h) (and (up-to 100 l) (gammas g))))))
     ∙ seven-tests (leb b 100) (leb c 100) (leb k 100) (leb s 10) (leZ (negsuc 49) (tintOf t) && leZ (tintOf t) (pos 50)) (leb l 100) (leb 1 g && leb g 5)
-video-allowed [] e h = absurd (omega arith)
-video-allowed (b ∷ []) e h = absurd (omega arith)
-video-allowed (b ∷ c ∷ []) e h = absurd (omega arith)
-video-allowed (b ∷ c ∷ k ∷ []) e h = absurd (omega arith)
-video-allowed (b ∷ c ∷ k ∷ s ∷ []) e h = absurd (omega arith)
-video-allowed (b ∷ c ∷ k ∷ s ∷ t ∷ []) e h = absurd (omega arith)
-video-allowed (b ∷ c ∷ k ∷ s ∷ t ∷ l ∷ []) e h = absurd (omega arith)
-video-allowed (b ∷ c ∷ k ∷ s ∷ t ∷ l ∷ g ∷ x ∷ rest) e h = absurd (omega arith)
+video-allowed [] kind e h = absurd (omega arith)
+video-allowed (b ∷ []) kind e h = absurd (omega arith)
+video-allowed (b ∷ c ∷ []) kind e h = absurd (omega arith)
+video-allowed (b ∷ c ∷ k ∷ []) kind e h = absurd (omega arith)
+video-allowed (b ∷ c ∷ k ∷ s ∷ []) kind e h = absurd (omega arith)
+video-allowed (b ∷ c ∷ k ∷ s ∷ t ∷ []) kind e h = absurd (omega arith)
+video-allowed (b ∷ c ∷ k ∷ s ∷ t ∷ l ∷ []) kind e h = absurd (omega arith)
+video-allowed (b ∷ c ∷ k ∷ s ∷ t ∷ l ∷ g ∷ x ∷ rest) kind e h = absurd (omega arith)
 
 video-back : (v : Video) → mag (v .tint) < 128 → videoIn (bytesOf v) ≡ v
 unfolding videoIn bytesOf

@@ -6,7 +6,7 @@ use mathlib.Core.Path.{_≡_, refl, sym, ap, _∙_}
 use mathlib.Core.List.{List, [], _∷_, _++_, map, flatten}
 use native.Mathlib.Omega.{arith}
 use lib.ListN.{length, getD, length-append}
-use Rattle.settings.specs.Settings.{settings, foundFrom, allowedByRow, freshValues, within, allAllowed}
+use Rattle.settings.specs.Settings.{settings, foundFrom, allowedByRow, freshValues, within, allAllowed, filled}
 use Rattle.lists.specs.Lists.{laidAt, same}
 use Rattle.packet.specs.declared.Verdict.the-variants.{Damaged}
 use Rattle.packet.specs.Xor.{_⊕_, xorAll}
@@ -39,7 +39,7 @@ others = byBurst everyNav ∷ byBurst neverStores ∷ firstAlone ∷ byBurst sto
 
 -- one computed test
 tested : (sentBy session ≡ ours) × (map (λ (box : Box). same (sentBy box) ours) others ≡ false ∷ false ∷ false ∷ false ∷ false ∷ [])
-unfolding settings foundFrom allowedByRow freshValues within allAllowed flatten _⊕_ xorAll isIntact verdictOf dataOf packetOf placeFrom reaches isHeard sentBytes command stored laidAt offAlready takes judge turned damagedReply played twoPanels byBurst written same
+unfolding settings foundFrom allowedByRow freshValues within allAllowed filled flatten _⊕_ xorAll isIntact verdictOf dataOf packetOf placeFrom reaches isHeard sentBytes command stored laidAt offAlready takes judge turned damagedReply played twoPanels byBurst written same
 tested = (refl, refl)
 
 same-bytes : (box : Box) → box twoPanels written ≡ session twoPanels written → sentBy box ≡ ours

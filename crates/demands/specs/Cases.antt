@@ -2,6 +2,7 @@
 use Prim.Native.Nat.{ℕ}
 use mathlib.Core.List.{List, [], _∷_}
 use Rattle.settings.specs.declared.Profile.the-variants.{General}
+use Rattle.tiling.specs.declared.Kind.the-variants.{FiveByFive}
 use Rattle.packet.specs.Packet.{monitorId, groupId}
 use Rattle.panels.specs.declared.Panel.{Panel}
 use Rattle.panels.specs.Wall.{Wall, freshPanel}
@@ -10,9 +11,9 @@ use Rattle.answers.specs.Reply.{sentBytes}
 use Rattle.answers.specs.Judged.{stored}
 use Rattle.answers.specs.Played.{played}
 
--- a fresh panel whose fan is v; the fan is row 4
+-- a fresh panel whose fan is v; the fan is row 6
 abbrev pub fanAt : ℕ → ℕ → Panel
-fanAt i v = stored 4 (v ∷ []) (freshPanel (monitorId i) (groupId 9) General)
+fanAt i v = stored 6 (v ∷ []) (freshPanel (monitorId i) (groupId 9) General FiveByFive)
 
 -- a burst, the bytes of its answer, and the wall after it
 pub record Case : Type 0 where

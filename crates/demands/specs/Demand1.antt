@@ -35,7 +35,7 @@ use Rattle.host.specs.Calls.{stateOf, stepOf, call, bytesOf}
 
 -- a refusal of add or remove leaves the wall as it was
 abbrev pub AddRefused : Type 0
-AddRefused = (w : Wall) (i : MonitorId) (g : GroupId) (n : ℕ) → (addRefusal w i g n ≡ Nothing → ⊥) → added w i g n ≡ w
+AddRefused = (w : Wall) (i : MonitorId) (g : GroupId) (n k : ℕ) → (addRefusal w i g n k ≡ Nothing → ⊥) → added w i g n k ≡ w
 
 abbrev pub RemoveRefused : Type 0
 RemoveRefused = (w : Wall) (i : MonitorId) → (removedFrom w i .refusal ≡ Nothing → ⊥) → removed w i ≡ w

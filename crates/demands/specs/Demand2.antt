@@ -7,7 +7,8 @@ use mathlib.Core.Path.{_≡_}
 use mathlib.Core.List.{List, [], _∷_, map, Forall₂}
 use lib.ListN.{length, getD, take}
 use Rattle.settings.specs.declared.Profile.{Profile}
-use Rattle.settings.specs.Settings.{setCode, getCode, allowedFor, rowCount}
+use Rattle.settings.specs.declared.Found.the-variants.{Get}
+use Rattle.settings.specs.Settings.{foundBy, setCode, getCode, allowedFor, valuesOf, filled, rowCount, kindRow, tilingRow}
 use Rattle.packet.specs.declared.MonitorId.{MonitorId}
 use Rattle.packet.specs.declared.GroupId.{GroupId}
 use Rattle.packet.specs.declared.Control.{Control}
@@ -15,7 +16,7 @@ use Rattle.packet.specs.declared.Verdict.the-variants.{Intact}
 use Rattle.packet.specs.Packet.{verdictOf, dataOf}
 use Rattle.panels.specs.declared.Panel.{Panel}
 use Rattle.panels.specs.declared.Table.{Table}
-use Rattle.panels.specs.Wall.{Wall, valuesOf, blank, tableOf, panelsOf}
+use Rattle.panels.specs.Wall.{Wall, modelOf, blank, tableOf, panelsOf}
 use Rattle.panels.specs.Addressed.{reaches}
 use Rattle.panels.specs.Calls.{added, removed}
 use Rattle.panels.specs.WellFormed.{WellFormed}
@@ -26,16 +27,17 @@ use Rattle.answers.specs.Played.{played}
 use Rattle.demands.specs.Cases.{Case, tried, cases}
 use Rattle.line.specs.Session.{Event, session, burstsAfter, receiverOf, streamed}
 use Rattle.forms.specs.declared.Form.{Form}
+use Rattle.forms.specs.Forms.{hasField}
 use Rattle.image_read.specs.declared.Refusal.the-variants.{Nothing as Sound}
 use Rattle.image_write.specs.declared.Written.the-variants.{Bytes}
 use Rattle.image_write.specs.Written.{writtenOf, outputOf}
 use Rattle.image_read.specs.Whole.{formOf, wholeRefusal, recordsIn}
 use Rattle.image_read.specs.Fields.{fieldsIn}
 use Rattle.image_read.specs.Read.{isSound, readOf, inTable}
-use Rattle.image_read.specs.Entries.{Entry, bytesOf, freshEntry, Permuted, Without, GiveAlike, SameHead}
+use Rattle.image_read.specs.Entries.{Entry, bytesOf, freshEntry, Without, Reordered, GiveAlike, SameHead}
 
--- a panel that a set changed: it was addressed, and only the row that the set code names is another, with values that the
--- panel's own profile allows
+-- a panel that a set changed: it was addressed, and only the row that the set code names is another, with the set's values, of
+-- which a tiling's byte 0 leaves the wall that the panel had (02, A6); its own profile and kind allow what it then holds
 pub record SetBy (b : List ℕ) (p q : Panel) : Type 0 where
   pub id : MonitorId
   pub group : GroupId
@@ -45,9 +47,9 @@ pub record SetBy (b : List ℕ) (p q : Panel) : Type 0 where
   pub intact : verdictOf b ≡ Intact id group count
   pub addressed : reaches id group p ≡ true
   pub named : command (dataOf b (Intact id group count)) ≡ setOf row values
-  pub inRange : allowedFor (p .profile) row values ≡ true
+  pub inRange : allowedFor (modelOf p) row (valuesOf row (q .values)) ≡ true
   pub same : (q .id ≡ p .id) × (q .group ≡ p .group) × (q .profile ≡ p .profile)
-  pub stored : valuesOf row (q .values) ≡ values
+  pub stored : valuesOf row (q .values) ≡ filled row (getD (valuesOf row (p .values)) 3 0) values
   pub others : (other : ℕ) → (other ≡ row → ⊥) → valuesOf other (q .values) ≡ valuesOf other (p .values)
 
 -- every panel stays, or such a set changed it
@@ -57,12 +59,13 @@ OnlyAddressed = (t : Table) → WellFormed t → (b : List ℕ) (k : ℕ) → k 
     let q = getD (played (panelsOf t) b .wall) k blank in
     (q ≡ p) ⊎ SetBy b p q
 
--- an answer is silence, one of the three control words, or a report, which carries the stored values of the panel that it is from
+-- an answer is silence, one of the three control words, or a report of a setting, which carries the stored values of the panel that
+-- it is from
 abbrev pub Answer·Is : Wall → Reply → Type 0
 Answer·Is w r =
     (r ≡ silence)
     ⊎ (((i : MonitorId) × (c : Control) × (r ≡ wordFrom i c))
-    ⊎ ((i : MonitorId) × (k : ℕ) × (row : ℕ) × (k < length w) × (getD w k blank .id .0 ≡ i .0)
+    ⊎ ((i : MonitorId) × (k : ℕ) × (row : ℕ) × (k < length w) × (getD w k blank .id .0 ≡ i .0) × (foundBy (getCode row) ≡ Get row)
     × (r ≡ reportFrom i (getCode row ∷ valuesOf row (getD w k blank .values)))))
 
 abbrev pub Answers : Type 0
@@ -75,7 +78,7 @@ Received = (w : Wall) (events : List Event) → streamed (receiverOf []) w event
 -- tables come from the empty one by add, remove and bursts, or from an image
 pub data Comes : Table → Type 0 where
   empty : Comes (tableOf [])
-  add : {t : Table} → Comes t → (i : MonitorId) (g : GroupId) (n : ℕ) → Comes (tableOf (added (panelsOf t) i g n))
+  add : {t : Table} → Comes t → (i : MonitorId) (g : GroupId) (n k : ℕ) → Comes (tableOf (added (panelsOf t) i g n k))
   remove : {t : Table} → Comes t → (i : MonitorId) → Comes (tableOf (removed (panelsOf t) i))
   image : (bytes : List ℕ) → Comes (inTable (readOf bytes) .table)
   burst : {t : Table} → Comes t → (b : List ℕ) → Comes (tableOf (played (panelsOf t) b .wall))
@@ -91,15 +94,15 @@ ReadsBack =
     (inTable (readOf image) .refusal ≡ Sound) × (inTable (readOf image) .table ≡ t)
 
 -- Fields go by code: an image without fault, and another, of the same form or the other one, whose records hold the same fields
--- in any order, read as the same wall
-abbrev pub Alike : (Profile → List Entry → List Entry → Type 0) → Type 0
+-- in any order that has no kind behind a tiling, read as the same wall
+abbrev pub Alike : (Form → Profile → List Entry → List Entry → Type 0) → Type 0
 Alike P =
     (image other : List ℕ) → isSound (wholeRefusal other) ≡ true
     → Forall₂ (SameHead P (formOf image) (formOf other)) (recordsIn image) (recordsIn other)
     → readOf image .refusal ≡ Sound → readOf other ≡ readOf image
 
 abbrev pub AnyOrder : Type 0
-AnyOrder = Alike (λ profile. Permuted)
+AnyOrder = Alike Reordered
 
 -- or whose records give each setting the same values, where a code that is not there gives its fresh ones;
 abbrev pub ByCode : Type 0
@@ -108,9 +111,9 @@ ByCode = Alike GiveAlike
 -- and fields without a code read as with that field at its fresh value, which is that of the record's own profile.
 abbrev pub LeftOut : Type 0
 LeftOut =
-    (profile : Profile) (row : ℕ) (es : List Entry) → row < rowCount → Without (setCode row) es
-    → fieldsIn profile (bytesOf es) .refusal ≡ Sound
-    → fieldsIn profile (bytesOf (freshEntry profile row ∷ es)) ≡ fieldsIn profile (bytesOf es)
+    (profile : Profile) (form : Form) (row : ℕ) (es : List Entry) → row < rowCount → hasField form row ≡ true → Without (setCode row) es
+    → (row ≡ tilingRow → Without (setCode kindRow) es) → fieldsIn form profile (bytesOf es) .refusal ≡ Sound
+    → fieldsIn form profile (bytesOf (freshEntry profile row ∷ es)) ≡ fieldsIn form profile (bytesOf es)
 
 -- the ten P cases of 01
 abbrev pub Cases : Type 0

@@ -1,18 +1,19 @@
 -- Host and box on one line. 01, "Host side".
 use Prim.Native.Nat.{ℕ, zero, suc, _<_}
-use mathlib.Core.Bool.{true, cond}
+use mathlib.Core.Bool.{Bool, true, cond, not, _&&_}
 use mathlib.Core.Path.{_≡_}
-use mathlib.Core.List.{[]}
+use mathlib.Core.List.{List, []}
 use lib.Dec.{eqb}
 use lib.ListN.{getD}
 use Rattle.settings.specs.declared.Found.{Found}
 use Rattle.settings.specs.declared.Found.the-variants.{Set, Get, Nothing}
-use Rattle.settings.specs.Settings.{foundBy}
+use Rattle.tiling.specs.Kinds.{inWall}
+use Rattle.settings.specs.Settings.{foundBy, valuesOf, tilingRow}
 use Rattle.packet.specs.Answered.{isHeard}
 use Rattle.panels.specs.declared.Panel.{Panel}
 use Rattle.panels.specs.declared.Table.{Table}
 use Rattle.panels.specs.declared.Place.the-variants.{At}
-use Rattle.panels.specs.Wall.{valuesOf, blank, placeOf, panelsOf}
+use Rattle.panels.specs.Wall.{modelOf, blank, placeOf, panelsOf}
 use Rattle.panels.specs.WellFormed.{WellFormed}
 use Rattle.answers.specs.Reply.{sentBytes}
 use Rattle.answers.specs.Judged.{offAlready}
@@ -27,19 +28,26 @@ abbrev pub asking : Request → ℕ → State
 asking r zero = step idle (start r) .next
 asking r (suc n) = step (asking r n) mark .next
 
+-- a tiling that leaves the panel its wall, which has no such position (02, A6)
+abbrev pub pastWall : ℕ → List ℕ → Panel → Bool
+pastWall row values p =
+    eqb row tilingRow && eqb (getD values 3 0) 0
+    && not (inWall (modelOf p .kind) (getD values 2 0) (getD (valuesOf tilingRow (p .values)) 3 0))
+
 -- With the nth packet a get ends with the report of the panel's values, and a set with ACK; but the power off of a panel that is
--- off (02, A5) with NAV and, where an earlier packet may have turned it off, with "off or refused".
+-- off (02, A5) with NAV and, where an earlier packet may have turned it off, with "off or refused"; and a tiling past the panel's
+-- own wall with NAV.
 abbrev pub EndsWith : Found → Request → Panel → ℕ → Move → Type 0
 EndsWith (Set row) r p n m =
-    m ≡ over (cond (offAlready row (requestValues r) p) (cond (eqb n 1) (Nav n) (OffOrRefused n)) (Ack n)) []
+    m ≡ over (cond (offAlready row (requestValues r) p) (cond (eqb n 1) (Nav n) (OffOrRefused n)) (cond (pastWall row (requestValues r) p) (Nav n) (Ack n))) []
 EndsWith (Get row) r p n m = m ≡ over (Report n) (valuesOf row (p .values))
 EndsWith Nothing r p n m = ⊥
 
--- A request to a panel that is there, and of the profile that the request says, ends so with the first packet that is answered: on
+-- A request to a panel that is there, and of the profile and kind that the request says, ends so with the first packet that is answered: on
 -- a line that loses nothing that is the first, and on another the one that comes after n marks.
 abbrev pub Lossless : Type 0
 Lossless =
     (t : Table) → WellFormed t → (r : Request) (k n : ℕ) → isRequest r ≡ true → isHeard (r .id) (r .group) ≡ true
-    → placeOf (r .id) (panelsOf t) ≡ At k → getD (panelsOf t) k blank .profile ≡ r .profile → n < mostSendings
+    → placeOf (r .id) (panelsOf t) ≡ At k → modelOf (getD (panelsOf t) k blank) ≡ r .model → n < mostSendings
     → let answer = sentBytes (played (panelsOf t) (requestPacket r) .reply) in
     EndsWith (foundBy (r .code)) r (getD (panelsOf t) k blank) (suc n) (step (asking r n) (burst answer))

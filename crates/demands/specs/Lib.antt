@@ -6,6 +6,7 @@ pub mod Demand2
 pub mod Demand3
 pub mod Damage
 pub mod Profiles
+pub mod Tiling
 pub mod Forms
 pub mod Power
 pub mod Again

@@ -5,13 +5,15 @@ use mathlib.Core.Bool.{Bool, true, cond, _&&_, _||_}
 use mathlib.Core.Path.{_≡_}
 use mathlib.Core.List.{List, [], _∷_}
 use lib.Dec.{leb, eqb}
-use lib.ListN.{length}
+use lib.ListN.{length, take, drop}
+use Rattle.lists.specs.Lists.{same}
 use Rattle.profiles.specs.Numbers.{profileNumber}
 use Rattle.packet.specs.declared.MonitorId.{MonitorId}
 use Rattle.packet.specs.declared.GroupId.{GroupId}
 use Rattle.packet.specs.declared.Written.{Written as PacketWritten}
 use Rattle.packet.specs.declared.Written.the-variants.{Bytes as PacketBytes, TooLong, NoRoom as NoPacketRoom}
 use Rattle.packet.specs.Packet.{writtenOf as packetWritten}
+use Rattle.panels.specs.declared.Panel.{Panel}
 use Rattle.panels.specs.Wall.{Wall, placeOf}
 use Rattle.panels.specs.Calls.{refusalOf as tableNumber, ifThere, addRefusal, removedFrom}
 use Rattle.answers.specs.declared.Reply.{Reply}
@@ -23,13 +25,14 @@ use Rattle.image_write.specs.declared.Written.{Written as ImageWritten}
 use Rattle.image_write.specs.declared.Written.the-variants.{Bytes as ImageBytes, WouldLose, NoRoom as NoImageRoom}
 use Rattle.image_write.specs.Written.{writtenOf as imageWritten}
 
--- 32 panels are there, ID 0, ID in the table, group 0, a profile that is neither 0 nor 1
+-- 32 panels are there, ID 0, ID in the table, group 0, a profile that is neither 0 nor 1, a kind that is neither
 abbrev pub Add : Type 0
 Add =
-    (w : Wall) (i : MonitorId) (g : GroupId) (n : ℕ)
-    → tableNumber (addRefusal w i g n)
+    (w : Wall) (i : MonitorId) (g : GroupId) (n k : ℕ)
+    → tableNumber (addRefusal w i g n k)
     ≡ cond (leb 32 (length w)) 1
-    (cond (eqb (i .0) 0) 2 (ifThere (placeOf i w) 3 (cond (eqb (g .0) 0) 4 (cond (eqb n 0 || eqb n 1) 0 5))))
+    (cond (eqb (i .0) 0) 2
+    (ifThere (placeOf i w) 3 (cond (eqb (g .0) 0) 4 (cond (eqb n 0 || eqb n 1) (cond (eqb k 0 || eqb k 1) 0 7) 5))))
 
 -- no panel has that ID
 abbrev pub Remove : Type 0
@@ -50,18 +53,24 @@ packetNumber (PacketBytes n) = 0
 packetNumber TooLong = 19
 packetNumber NoPacketRoom = 19
 
--- form 1: 31 where a panel is not general; then, in either form, 19, lent output too short: image under 35n + 2 bytes in form 1
--- and 36n + 2 in form 2, answer or packet under 40; data that fits no packet is refused so too
-abbrev pub allGeneral : Wall → Bool
-allGeneral [] = true
-allGeneral (p ∷ w) = eqb (profileNumber (p .profile)) 0 && allGeneral w
+-- form 1: 31 where a panel is not general, its kind, the first of its values, not 0, or its tiling, the third to the sixth, not
+-- fresh; then, in either form, 19, lent output too short: image under 35n + 2 bytes in form 1 and 45n + 2 in form 2, answer or
+-- packet under 40; data that fits no packet is refused so too
+abbrev pub isPlain : Panel → Bool
+isPlain p =
+    eqb (profileNumber (p .profile)) 0
+    && (same (take 1 (p .values)) (0 ∷ []) && same (take 4 (drop 2 (p .values))) (0 ∷ 0 ∷ 1 ∷ 1 ∷ []))
+
+abbrev pub allPlain : Wall → Bool
+allPlain [] = true
+allPlain (p ∷ w) = isPlain p && allPlain w
 
 abbrev pub ImageOne : Type 0
 ImageOne =
-    (w : Wall) (out : List ℕ) → imageNumber (imageWritten One w out) ≡ cond (allGeneral w) (cond (leb (35 * length w + 2) (length out)) 0 19) 31
+    (w : Wall) (out : List ℕ) → imageNumber (imageWritten One w out) ≡ cond (allPlain w) (cond (leb (35 * length w + 2) (length out)) 0 19) 31
 
 abbrev pub ImageTwo : Type 0
-ImageTwo = (w : Wall) (out : List ℕ) → imageNumber (imageWritten Two w out) ≡ cond (leb (36 * length w + 2) (length out)) 0 19
+ImageTwo = (w : Wall) (out : List ℕ) → imageNumber (imageWritten Two w out) ≡ cond (leb (45 * length w + 2) (length out)) 0 19
 
 abbrev pub Answer : Type 0
 Answer = (out : List ℕ) (r : Reply) → answerNumber (sentOf out r) ≡ cond (leb 40 (length out)) 0 19

@@ -1,4 +1,4 @@
--- Power off and on, in the paper's numbers: set 0x18, 1 off, 2 on. 02, A5.
+-- Power off and on, in the paper's numbers: set 0x18, 1 off, 2 on. 02, A5. A panel's values begin with its kind and its power.
 use Prim.Native.Nat.{ℕ, _<_}
 use mathlib.Core.Bool.{cond, _&&_, _||_}
 use mathlib.Core.Path.{_≡_}
@@ -27,7 +27,7 @@ use Rattle.host.specs.Machine.{State, sendings, over, ending}
 abbrev pub PowerSet : Type 0
 PowerSet =
     (t : Table) → WellFormed t → (i : MonitorId) (k v : ℕ) → placeOf i (panelsOf t) ≡ At k
-    → let power = getD (getD (panelsOf t) k blank .values) 0 0 in
+    → let power = getD (getD (panelsOf t) k blank .values) 1 0 in
     played (panelsOf t) (packetOf i (groupId 0) (0x18 ∷ v ∷ [])) .reply ≡ wordFrom i (cond (eqb v 2 || eqb v 1 && eqb power 2) Ack Nav)
 
 -- Power off, to one panel, a group or all, leaves each panel that is off as it is.
@@ -35,7 +35,7 @@ abbrev pub OffStays : Type 0
 OffStays =
     (w : Wall) (b : List ℕ) (i : MonitorId) (g : GroupId) (n : ℕ)
     → verdictOf b ≡ Intact i g n → dataOf b (Intact i g n) ≡ 0x18 ∷ 1 ∷ []
-    → (k : ℕ) → k < length w → getD (getD w k blank .values) 0 0 ≡ 1 → getD (played w b .wall) k blank ≡ getD w k blank
+    → (k : ℕ) → k < length w → getD (getD w k blank .values) 1 0 ≡ 1 → getD (played w b .wall) k blank ≡ getD w k blank
 
 -- NAV ends a request; "off or refused" is for a power off alone, and only where it was sent twice or three times.
 abbrev pub NavEnds : Type 0

@@ -1,4 +1,4 @@
--- Walls of both profiles, and the tint with its sign. 02, A1.
+-- Walls of both profiles and both kinds, and the tint with its sign. 02, A1 and A6.
 use Prim.Native.Nat.{ℕ, _<_}
 use mathlib.Core.Bool.{Bool, cond, _&&_}
 use mathlib.Core.Path.{_≡_}
@@ -7,6 +7,7 @@ use lib.Dec.{leb}
 use lib.IntN.{ℤ, pos, negsuc}
 use lib.ListN.{length, getD}
 use lib.Signed.{mag, leZ}
+use Rattle.tiling.specs.declared.Kind.{Kind}
 use Rattle.settings.specs.declared.Profile.the-variants.{Phoenix}
 use Rattle.profiles.specs.declared.Video.{Video}
 use Rattle.settings.specs.Settings.{allowedFor, videoRow}
@@ -17,21 +18,22 @@ use Rattle.packet.specs.declared.Verdict.the-variants.{Intact}
 use Rattle.packet.specs.Packet.{verdictOf, dataOf}
 use Rattle.panels.specs.declared.Panel.{Panel}
 use Rattle.panels.specs.declared.Seen.the-variants.{Phoenix as PhoenixSeen}
-use Rattle.panels.specs.Wall.{Wall, blank, videoOf}
+use Rattle.panels.specs.Wall.{Wall, modelOf, blank, videoOf}
 use Rattle.panels.specs.Addressed.{reaches}
 use Rattle.panels.specs.WellFormed.{GoodPanel}
-use Rattle.answers.specs.Judged.{command, setOf, stored}
+use Rattle.answers.specs.Judged.{command, setOf, stored, heldThen}
 use Rattle.answers.specs.Played.{played}
 
--- A set to a wall of both profiles: exactly the panels that it addresses and whose own profile allows it have the values, and
--- every other is as it was.
-abbrev pub OwnProfile : Type 0
-OwnProfile =
+-- A set to a wall of both profiles and both kinds: exactly the panels that it addresses and whose own profile and kind allow what
+-- they would then hold hold it, and every other is as it was.
+abbrev pub OwnModel : Type 0
+OwnModel =
     (w : Wall) (b : List ℕ) (i : MonitorId) (g : GroupId) (n row : ℕ) (values : List ℕ)
     → verdictOf b ≡ Intact i g n → command (dataOf b (Intact i g n)) ≡ setOf row values
     → (k : ℕ) → k < length w
     → let p = getD w k blank in
-    getD (played w b .wall) k blank ≡ cond (reaches i g p && allowedFor (p .profile) row values) (stored row values p) p
+    let held = heldThen row values p in
+    getD (played w b .wall) k blank ≡ cond (reaches i g p && allowedFor (modelOf p) row held) (stored row held p) p
 
 -- A byte and a tint of 8 bits are each the other's way back; `mag` of t is t or -(t + 1).
 abbrev pub TintBack : Type 0
@@ -46,7 +48,8 @@ inPhoenixRange v =
 
 abbrev pub VideoAllowed : Type 0
 VideoAllowed =
-    (bytes : List ℕ) → length bytes ≡ 7 → getD bytes 4 0 < 256 → allowedFor Phoenix videoRow bytes ≡ inPhoenixRange (videoIn bytes)
+    (bytes : List ℕ) (kind : Kind) → length bytes ≡ 7 → getD bytes 4 0 < 256
+    → allowedFor (record { profile = Phoenix; kind = kind }) videoRow bytes ≡ inPhoenixRange (videoIn bytes)
 
 -- What is set is what is seen.
 abbrev pub SeenAsSet : Type 0

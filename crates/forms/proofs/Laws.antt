@@ -1,17 +1,24 @@
--- Each form reads what it writes: its form byte, and a record's head. Assumes nothing.
-use mathlib.Core.Path.{_≡_, refl}
-use mathlib.Core.Bool.{true, false≢true}
-use mathlib.Core.List.{List, _++_}
-use Prim.Native.Nat.{ℕ, _≤_}
+-- Each form reads what it writes: its form byte, and a record's head. What it has no field for it keeps where that is fresh.
+-- Assumes nothing.
+use mathlib.Core.Path.{_≡_, refl, sym}
+use mathlib.Core.Bool.{Bool, true, false, false≢true, not, _||_}
+use mathlib.Core.List.{List, [], _∷_, _++_}
+use Prim.Native.Nat.{ℕ, _≤_, _<_}
 use native.Mathlib.Omega.{arith}
+use borrow.Author.Tests.{eqb-true, eq-eqb}
+use lib.Dec.{eqb}
 use lib.ListN.{length, drop}
+use Rattle.lists.specs.Lists.{same}
+use Rattle.lists.proofs.Both.{both}
+use Rattle.lists.proofs.Same.{same-is}
 use Rattle.settings.specs.declared.Profile.{Profile}
 use Rattle.settings.specs.declared.Profile.the-variants.{General, Phoenix}
+use Rattle.settings.specs.Settings.{valuesOf, freshValues, rowCount, kindRow, tilingRow}
 use Rattle.profiles.specs.declared.Numbered.the-variants.{Known}
 use Rattle.profiles.proofs.Numbers.{number-back}
 use Rattle.forms.specs.declared.Form.{Form}
 use Rattle.forms.specs.declared.Form.the-variants.{One, Two}
-use Rattle.forms.specs.Forms.{formByte, isForm, formWith, headSize, headOf, profileIn, holds}
+use Rattle.forms.specs.Forms.{formByte, isForm, formWith, headSize, headOf, profileIn, holds, hasField, keeps}
 
 pub byte-back : (form : Form) → formWith (formByte form) ≡ form
 unfolding formWith
@@ -46,3 +53,45 @@ module _ (id group : ℕ) (profile : Profile) where
   pub behind-head : (form : Form) (rest : List ℕ) → drop (headSize form) (headOf form id group profile ++ rest) ≡ rest
   behind-head One rest = refl
   behind-head Two rest = refl
+
+-- form 1 has a field for every row but two
+but-two : (P : ℕ → Type 0) → P kindRow → P tilingRow → (row : ℕ) → hasField One row ≡ false → P row
+but-two P kind tiling row e = go (eqb row kindRow) (eqb row tilingRow) refl refl e
+  where
+    go : (s t : Bool) → eqb row kindRow ≡ s → eqb row tilingRow ≡ t → not (s || t) ≡ false → P row
+    go true t es et e = rw (eqb-true row kindRow es) kind
+    go false true es et e = rw (eqb-true row tilingRow et) tiling
+    go false false es et e = absurd (false≢true (sym e))
+
+same-self : (l : List ℕ) → same l l ≡ true
+unfolding same
+same-self [] = refl
+same-self (x ∷ l) = rw (eq-eqb x x refl, same-self l)
+
+-- a panel that a form keeps: there is room for its profile, and what has no field is fresh; and no others
+module _ (profile : Profile) (values : List ℕ) where
+  pub kept-profile : (form : Form) → keeps form profile values ≡ true → holds form profile ≡ true
+  unfolding keeps
+  kept-profile form e = both (holds form profile) _ e .0
+
+  pub kept-fresh : (form : Form) → keeps form profile values ≡ true → (row : ℕ) → hasField form row ≡ false
+      → valuesOf row values ≡ valuesOf row (freshValues profile)
+  unfolding keeps
+  kept-fresh One e row n =
+      let (room, rows) = both (holds One profile) _ e in
+      let (kind, tiling) = both _ _ rows in
+      rw (holds-general profile room)
+      (but-two (λ row. valuesOf row values ≡ valuesOf row (freshValues General)) (same-is _ _ kind) (same-is _ _ tiling) row n)
+  kept-fresh Two e row n = absurd (false≢true (sym n))
+
+  pub keeps-fresh : (form : Form) → holds form profile ≡ true
+      → ((row : ℕ) → row < rowCount → hasField form row ≡ false → valuesOf row values ≡ valuesOf row (freshValues profile)) → keeps form profile values ≡ true
+  unfolding keeps
+  keeps-fresh One room fresh =
+      let of-general = rw (holds-general profile room) at fresh in
+      rw (room, of-general kindRow (omega arith) refl, of-general tilingRow (omega arith) refl, same-self _, same-self _)
+  keeps-fresh Two room fresh = refl
+
+  pub two-keeps : keeps Two profile values ≡ true
+  unfolding keeps
+  two-keeps = refl

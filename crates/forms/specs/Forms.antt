@@ -1,12 +1,14 @@
 -- The forms of a setup image, and all that differs between them. 01, "Setup image, form 1". 02, A2: form 2 puts the profile byte
--- after the group, the form byte is 2, all else is as before.
+-- after the group, the form byte is 2, all else is as before; A6: the kind and the tiling are fields of form 2 alone.
 use Prim.Native.Nat.{ℕ}
-use mathlib.Core.Bool.{Bool, true, cond, _||_}
+use mathlib.Core.Bool.{Bool, true, cond, not, _&&_, _||_}
 use mathlib.Core.List.{List, [], _∷_}
 use lib.Dec.{eqb}
 use lib.ListN.{getD}
+use Rattle.lists.specs.Lists.{same}
 use Rattle.settings.specs.declared.Profile.{Profile}
 use Rattle.settings.specs.declared.Profile.the-variants.{General}
+use Rattle.settings.specs.Settings.{freshValues, valuesOf, kindRow, tilingRow}
 use Rattle.profiles.specs.declared.Numbered.{Numbered}
 use Rattle.profiles.specs.declared.Numbered.the-variants.{Known}
 use Rattle.profiles.specs.Numbers.{profileNumber, profileWith}
@@ -42,7 +44,23 @@ abbrev pub profileIn : Form → List ℕ → Numbered
 profileIn One bytes = Known General
 profileIn Two bytes = profileWith (getD bytes 2 0)
 
--- so that it would lose any other
+-- so that it has room for no other
 abbrev pub holds : Form → Profile → Bool
 holds One profile = eqb (profileNumber profile) (profileNumber General)
 holds Two profile = true
+
+-- the rows that a form has a field for
+abbrev pub hasField : Form → ℕ → Bool
+hasField One row = not (eqb row kindRow || eqb row tilingRow)
+hasField Two row = true
+
+-- what a form has no field for is not lost where it is fresh
+abbrev pub isFresh : ℕ → List ℕ → Bool
+isFresh row values = same (valuesOf row values) (valuesOf row (freshValues General))
+
+abbrev pub keepsRow : Form → ℕ → List ℕ → Bool
+keepsRow form row values = hasField form row || isFresh row values
+
+-- a form loses nothing of a panel with this profile and these values
+unfoldable pub keeps : Form → Profile → List ℕ → Bool
+keeps form profile values = holds form profile && (keepsRow form kindRow values && keepsRow form tilingRow values)

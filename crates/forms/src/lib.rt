@@ -1,7 +1,12 @@
-// The two forms of a setup image, which differ in the form byte and in a record's head.
+// The two forms of a setup image, which differ in the form byte, in a record's head, and in the fields that they have.
 ghost use mathlib.Core.Path.{_≡_};
-ghost use Rattle.forms.specs.Forms.{formByte, isForm, formWith, headSize, holds};
+ghost use Prim.Native.Nat.{_<_};
+ghost use lib.ListN.{length};
+ghost use Rattle.settings.specs.Settings.{rowCount, valueCount};
+ghost use Rattle.forms.specs.Forms.{formByte, isForm, formWith, headSize, holds, hasField, isFresh, keeps};
+use settings::KIND_ROW;
 use settings::Profile;
+use settings::TILING_ROW;
 
 pub enum Form {
     One,
@@ -54,6 +59,47 @@ pub fn holds(form: Form, profile: Profile) -> bool
 {
     match form {
         Form::One => profiles::number_of(profile) == 0,
+        Form::Two => true,
+    }
+}
+
+// Whether a form has a field for a row. Form 1 has none for the kind and the tiling.
+pub fn has_field(form: Form, row: usize) -> bool
+    ensures { λ r. ⌜ r ≡ hasField form row ⌝ }
+{
+    match form {
+        Form::One => row != KIND_ROW && row != TILING_ROW,
+        Form::Two => true,
+    }
+}
+
+// Whether a row has its fresh values.
+fn is_fresh(row: usize, values: &[u8]) -> bool
+    requires { ⌜ (row < rowCount) × (length (now values) ≡ valueCount) ⌝ }
+    ensures { λ r. ⌜ r ≡ isFresh row (now (values .entry)) ⌝ }
+{
+    let fresh = settings::fresh(Profile::General);
+    let mut at = settings::place_of(row);
+    let end = at + settings::byte_count(row);
+    while at < end {
+        if values[at] != fresh[at] {
+            return false;
+        }
+        at += 1;
+    }
+    true
+}
+
+// Whether a form loses nothing of a panel with this profile and these values.
+pub fn keeps(form: Form, profile: Profile, values: &[u8]) -> bool
+    requires { ⌜ length (now values) ≡ valueCount ⌝ }
+    ensures { λ r. ⌜ r ≡ keeps form profile (now (values .entry)) ⌝ }
+{
+    if !holds(form, profile) {
+        return false;
+    }
+    match form {
+        Form::One => is_fresh(KIND_ROW, values) && is_fresh(TILING_ROW, values),
         Form::Two => true,
     }
 }

@@ -98,6 +98,6 @@ module _ (s : State) (d : List ℕ) where
       unfolding saidBy
       other-id g h = ignored (rw (e, eq-eqb _ _ g, ne-eqb _ _ h))
 
-      pub addressed : group .0 ≡ 0 → id .0 ≡ s .request .id .0 → saidBy (s .request) v d ≡ wordIn (s .request .profile) (s .request .code) d
+      pub addressed : group .0 ≡ 0 → id .0 ≡ s .request .id .0 → saidBy (s .request) v d ≡ wordIn (s .request .model) (s .request .code) d
       unfolding saidBy
       addressed g i = rw (e, eq-eqb _ _ g, eq-eqb _ _ i)

@@ -16,7 +16,7 @@ use Rattle.requests.specs.declared.Said.the-variants.{Nothing}
 unfoldable pub saidBy : Request → Verdict → List ℕ → Said
 saidBy r Empty d = Nothing
 saidBy r (Damaged damage) d = Nothing
-saidBy r (Intact id group n) d = cond (eqb (group .0) 0 && eqb (id .0) (r .id .0)) (wordIn (r .profile) (r .code) d) Nothing
+saidBy r (Intact id group n) d = cond (eqb (group .0) 0 && eqb (id .0) (r .id .0)) (wordIn (r .model) (r .code) d) Nothing
 
 abbrev pub dataIn : List ℕ → List ℕ
 dataIn burst = dataOf burst (verdictOf burst)

@@ -4,6 +4,7 @@ use mathlib.Core.Bool.{Bool, cond, _&&_}
 use mathlib.Core.List.{List, [], _∷_}
 use lib.ListN.{length, drop, replicate}
 use lib.Dec.{ltb}
+use Rattle.tiling.specs.declared.Kind.the-variants.{FiveByFive}
 use Rattle.settings.specs.declared.Profile.the-variants.{General}
 use Rattle.settings.specs.Settings.{mostValues}
 use Rattle.packet.specs.Answered.{isHeard}
@@ -41,7 +42,17 @@ pub record Move : Type 0 where
 
 -- nothing waits, and a fixed blank stands in the place of a request
 abbrev pub idle : State
-idle = record { request = record { profile = General; id = monitorId 0; group = groupId 0; code = 0; values = replicate mostValues 0; count = 0 }; given = [] }
+idle = record {
+  request = record {
+    model = record { profile = General; kind = FiveByFive };
+    id = monitorId 0;
+    group = groupId 0;
+    code = 0;
+    values = replicate mostValues 0;
+    count = 0;
+  };
+  given = [];
+}
 
 -- how many times the packet was sent: the number given out since start
 abbrev pub sendings : State → ℕ

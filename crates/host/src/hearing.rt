@@ -52,11 +52,11 @@ fn not_available(host: Host) -> Step
 // The panel that was asked has sent this data.
 fn told(host: Host, d: &[u8], out: &mut [u8]) -> Step
     requires { ⌜ longest ≤ length (now out) ⌝ }
-    ensures { λ r. ⌜ Answers (ending (stateOf host) (now (d .entry)) (wordIn (host .request .profile) (host .request .code) (now (d .entry)))) (now (out .entry)) r (now (out .exit)) ⌝ }
+    ensures { λ r. ⌜ Answers (ending (stateOf host) (now (d .entry)) (wordIn (host .request .model) (host .request .code) (now (d .entry)))) (now (out .entry)) r (now (out .exit)) ⌝ }
 {
     let request = host.request;
-    let profile = request.profile;
-    let word = requests::word_in(profile, request.code, d);
+    let model = request.model;
+    let word = requests::word_in(model, request.code, d);
     match word {
         Said::Ack => crate::plain(Host::idle(), 0, Outcome::Ack(host.sendings)),
         Said::Nack => sending::send_again(host, out),

@@ -12,7 +12,9 @@ use packet::LONGEST;
 use packet::MonitorId;
 use requests::Request;
 use settings::MOST_VALUES;
+use settings::Model;
 use settings::Profile;
+use tiling::Kind;
 
 // A packet is sent at most so often.
 const MOST_SENDINGS: usize = 3;
@@ -104,8 +106,12 @@ impl Host {
         ensures { λ r. ⌜ r ≡ hostOf idle ⌝ }
     {
         let values = [0u8; MOST_VALUES];
-        let request = Request {
+        let model = Model {
             profile: Profile::General,
+            kind: Kind::FiveByFive,
+        };
+        let request = Request {
+            model,
             id: MonitorId(0),
             group: GroupId(0),
             code: 0,

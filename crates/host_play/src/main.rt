@@ -13,22 +13,24 @@ use packet::MonitorId;
 use profiles::Numbered;
 use requests::Request;
 use settings::MOST_VALUES;
+use settings::Model;
 use settings::Profile;
 use text::LONGEST_STEP;
 use text::Read;
+use tiling::Kind;
 
 // How many bytes stand before a start's values: ID, group and code.
 const START_HEAD: usize = 3;
 
 // A start's ID, group, code and values, of which those are kept that a request has room for; a request with more is refused by its count.
-fn request_of(profile: Profile, asked: &[u8]) -> Request
+fn request_of(model: Model, asked: &[u8]) -> Request
     requires { ⌜ startHead ≤ length (now asked) ⌝ }
-    ensures { λ r. ⌜ r ≡ requestOf profile (now (asked .entry)) ⌝ }
+    ensures { λ r. ⌜ r ≡ requestOf model (now (asked .entry)) ⌝ }
 {
     let mut values = [0u8; MOST_VALUES];
     bytes::copy(text::front(&asked[START_HEAD..], MOST_VALUES), &mut values);
     Request {
-        profile,
+        model,
         id: MonitorId(asked[0]),
         group: GroupId(asked[1]),
         code: asked[2],
@@ -118,29 +120,34 @@ fn unknown(host: Host) -> Host {
     host
 }
 
-// A request of a panel with this profile is started.
-fn play_start(host: Host, profile: Profile, asked: &[u8]) -> Host {
+// A request of a panel of this model is started.
+fn play_start(host: Host, model: Model, asked: &[u8]) -> Host {
     if asked.len() < START_HEAD {
         return unknown(host);
     }
     let mut out = [0u8; LONGEST];
-    let step = host.start(request_of(profile, asked), &mut out);
+    let step = host.start(request_of(model, asked), &mut out);
     show(step, &out)
 }
 
-// A start behind which the profile's number stands first.
-fn play_profiled(host: Host, step: &[u8]) -> Host {
+// A start in front of which the model's number stands: the profile's, and twice the kind's.
+fn play_modelled(host: Host, step: &[u8]) -> Host {
     if step.len() == 0 {
         return unknown(host);
     }
-    let numbered = profiles::with_number(step[0]);
+    let number = step[0];
+    if !tiling::is_kind(number / 2) {
+        return unknown(host);
+    }
+    let numbered = profiles::with_number(number % 2);
     let Numbered::Known(profile) = numbered else {
         return unknown(host);
     };
-    play_start(host, profile, &step[1..])
+    let kind = tiling::with_number(number / 2);
+    play_start(host, Model { profile, kind }, &step[1..])
 }
 
-// One step: its kind, 1 for a start, 2 for a burst, 3 for the mark, 4 for a start with a profile, and what stands behind it.
+// One step: its kind, 1 for a start, 2 for a burst, 3 for the mark, 4 for a start with a model, and what stands behind it.
 fn play(host: Host, step: &[u8]) -> Host {
     let n = step.len();
     if n == 0 {
@@ -148,7 +155,13 @@ fn play(host: Host, step: &[u8]) -> Host {
     }
     let mut out = [0u8; LONGEST];
     match step[0] {
-        1 => play_start(host, Profile::General, &step[1..]),
+        1 => {
+            let model = Model {
+                profile: Profile::General,
+                kind: Kind::FiveByFive,
+            };
+            play_start(host, model, &step[1..])
+        }
         2 => {
             let step = host.hear(&step[1..], &mut out);
             show(step, &out)
@@ -160,7 +173,7 @@ fn play(host: Host, step: &[u8]) -> Host {
             let step = host.mark(&mut out);
             show(step, &out)
         }
-        4 => play_profiled(host, &step[1..]),
+        4 => play_modelled(host, &step[1..]),
         _ => unknown(host),
     }
 }

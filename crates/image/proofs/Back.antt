@@ -1,71 +1,103 @@
 -- Reading what was written gives that table. Assumes nothing.
-use mathlib.Core.Path.{_≡_, refl, sym, ap, _∙_}
-use mathlib.Core.Bool.{true}
+use mathlib.Core.Path.{_≡_, refl, sym, ap, ap₂, _∙_}
+use mathlib.Core.Bool.{Bool, true, false, cond, false≢true}
 use mathlib.Core.List.{List, [], _∷_, _++_, flatten, append-nil}
-use Prim.Native.Nat.{ℕ, zero, suc, _≤_, _<_}
-use native.Mathlib.Nat.{not-suc-le-zero, le-of-suc-le-suc}
+use mathlib.Core.Logic.{⊎-elim}
+use Prim.Native.Nat.{ℕ, zero, suc, _+_, _≤_, _<_}
+use native.Mathlib.Nat.{add-zero, eq-or-lt-of-le}
 use native.Mathlib.Omega.{arith}
 use borrow.Author.Tests.{eq-eqb, ne-eqb}
 use lib.ListN.{length, getD, take, length-map}
 use lib.Seq.{append-snoc, take-at}
-use Rattle.settings.specs.declared.Profile.{Profile}
-use Rattle.settings.specs.Settings.{setCode, rowCount, valueCount}
+use Rattle.settings.specs.declared.Model.{Model}
+use Rattle.settings.specs.Settings.{setCode, freshValues, valuesOf, rowCount, valueCount, kindRow}
 use Rattle.lists.specs.Lists.{each, laidOver}
 use Rattle.packet.specs.declared.MonitorId.{MonitorId}
 use Rattle.panels.specs.declared.Panel.{Panel}
 use Rattle.panels.specs.declared.Place.the-variants.{Nowhere}
-use Rattle.panels.specs.Wall.{Wall, valuesOf, blank, placeFrom, mostPanels}
+use Rattle.panels.specs.Wall.{Wall, modelOf, blank, placeFrom, mostPanels}
 use Rattle.panels.specs.WellFormed.{GoodPanel, Absent, GoodWall}
 use Rattle.panels.proofs.Formed.{absent-snoc, good-at}
 use Rattle.image_read.specs.declared.Refusal.the-variants.{Nothing}
 use Rattle.forms.specs.declared.Form.{Form}
-use Rattle.forms.specs.Forms.{holds}
+use Rattle.forms.specs.Forms.{hasField, keeps}
+use Rattle.forms.proofs.Laws.{kept-profile, kept-fresh}
 use Rattle.image_write.specs.declared.Written.the-variants.{Bytes}
-use Rattle.image_write.specs.Written.{field, fieldsOf, recordOf, recordsOf, setupOf, sizeOf, losesNothing, writtenOf, outputOf}
+use Rattle.image_write.specs.Written.{field, fieldIn, fieldsOf, recordOf, recordsOf, setupOf, sizeOf, losesNothing, writtenOf, outputOf}
 use Rattle.image_read.specs.Fields.{fieldsIn}
 use Rattle.image_read.specs.Read.{Reading, recordRefusal, panelIn, readRecords, readOf}
-use Rattle.image_read.specs.Entries.{Entry, bytesOf, Without, givenOr, given}
-use Rattle.image_read.proofs.OnTheWay.{entryBytes, entryOf}
-use Rattle.lists.proofs.Each.{each-alike, map-each}
+use Rattle.image_read.specs.Entries.{Entry, bytesOf, Without, HasAll, KindFirst, givenOr, given}
+use Rattle.image_read.proofs.OnTheWay.{entryOf}
+use Rattle.lists.proofs.Each.{each-alike}
 use Rattle.panels.proofs.Values.{length-values}
 use Rattle.image_write.proofs.Lengths.{record-at, record-length, record-some, records-long, image-length, products}
 use Rattle.image_write.proofs.Losing.{first-held, is-written, was-written}
-use Rattle.image_read.proofs.Entries.{rowOf, row-is, Good, GoodEntries}
-use Rattle.image_read.proofs.Order.{codes-apart, given-read}
+use Rattle.image_read.proofs.Entries.{row-is, Good, GoodEntries}
+use Rattle.image_read.proofs.Order.{codes-apart, without-gives, given-read}
 use Rattle.image_read.proofs.Said.{saidRefusal, saidPanel, refusal-said, panel-said}
 use Rattle.image.proofs.Split.{form-back, whole-sound, records-in}
 
--- the entries of a panel's fields
-abbrev entriesOf : List ℕ → List Entry
-entriesOf values = each (λ row. entryOf row values) rowCount
+-- the entries of a panel's n rows from k on, of those that the form has a field for
+module _ (form : Form) (values : List ℕ) where
+  abbrev entriesFrom : ℕ → ℕ → List Entry
+  entriesFrom k zero = []
+  entriesFrom k (suc n) = cond (hasField form k) (entryOf k values ∷ entriesFrom (suc k) n) (entriesFrom (suc k) n)
 
-written-entries : (values : List ℕ) → length values ≡ valueCount → flatten (fieldsOf values) ≡ bytesOf (entriesOf values)
-unfolding fieldsOf bytesOf flatten
-written-entries values full =
-    ap flatten
-    (sym (map-each entryBytes (λ row. entryOf row values) rowCount
-    ∙ each-alike (λ row. entryBytes (entryOf row values)) (λ row. field row (valuesOf row values)) rowCount
-    (λ row h. ap (λ (n : ℕ). setCode row ∷ n ∷ valuesOf row values) (length-values row values full))))
+  bytes-from : length values ≡ valueCount → (k n : ℕ) → flatten (each (λ j. fieldIn form values (k + j)) n) ≡ bytesOf (entriesFrom k n)
+  unfolding bytesOf flatten
+  bytes-from full k zero = refl
+  bytes-from full k (suc n) =
+      let more = each-alike (λ j. fieldIn form values (k + suc j)) (λ j. fieldIn form values (suc k + j)) n
+      (λ j h. let e : k + suc j ≡ suc k + j = omega arith in ap (fieldIn form values) e) in
+      rw (add-zero k, more) (go (hasField form k) (bytes-from full (suc k) n))
+    where
+      go : (t : Bool) → flatten (each (λ j. fieldIn form values (suc k + j)) n) ≡ bytesOf (entriesFrom (suc k) n)
+          → cond t (field k (valuesOf k values)) [] ++ flatten (each (λ j. fieldIn form values (suc k + j)) n)
+          ≡ bytesOf (cond t (entryOf k values ∷ entriesFrom (suc k) n) (entriesFrom (suc k) n))
+      go true ih = ap₂ (λ (m : ℕ) (l : List ℕ). setCode k ∷ m ∷ (valuesOf k values ++ l)) (sym (length-values k values full)) ih
+      go false ih = ih
 
-without-each : (c : ℕ) (f : ℕ → Entry) (n : ℕ) → ((k : ℕ) → k < n → f k .code ≡ c → ⊥) → Without c (each f n)
-without-each c f zero ne = tt
-without-each c f (suc n) ne = (ne 0 (omega arith), without-each c (λ k. f (suc k)) n (λ k h. ne (suc k) (omega arith)))
+  -- none has the code of a row that is before them or that the form has no field for
+  without-row : (row k n : ℕ) → row < rowCount → k + n ≤ rowCount → ((j : ℕ) → k ≤ j → hasField form j ≡ true → j ≡ row → ⊥)
+      → Without (setCode row) (entriesFrom k n)
+  without-row row k zero h few ne = tt
+  without-row row k (suc n) h few ne = go (hasField form k) refl (without-row row (suc k) n h (omega arith) (λ j l. ne j (omega arith)))
+    where
+      go : (t : Bool) → hasField form k ≡ t → Without (setCode row) (entriesFrom (suc k) n)
+          → Without (setCode row) (cond t (entryOf k values ∷ entriesFrom (suc k) n) (entriesFrom (suc k) n))
+      go true has rest = ((λ c. ne k (omega arith) has (codes-apart (omega arith) h c)), rest)
+      go false none rest = rest
 
-good-each : (profile : Profile) (f : ℕ → Entry) (n : ℕ) → ((k : ℕ) → k < n → Good profile (f k)) → ((j k : ℕ) → j < k → k < n → f k .code ≡ f j .code → ⊥) → GoodEntries profile (each f n)
-good-each profile f zero good ne = tt
-good-each profile f (suc n) good ne = (
-  good 0 (omega arith),
-  without-each (f 0 .code) (λ k. f (suc k)) n (λ k h. ne 0 (suc k) (omega arith) (omega arith)),
-  good-each profile (λ k. f (suc k)) n (λ k h. good (suc k) (omega arith)) (λ j k l h. ne (suc j) (suc k) (omega arith) (omega arith)),
-)
+  good-from : (model : Model) → ((row : ℕ) → row < rowCount → Good model (entryOf row values)) → (k n : ℕ) → k + n ≤ rowCount
+      → GoodEntries model (entriesFrom k n) × KindFirst (entriesFrom k n)
+  good-from model good k zero few = (tt, tt)
+  good-from model good k (suc n) few = go (hasField form k) (good-from model good (suc k) n (omega arith))
+    where
+      go : (t : Bool) → GoodEntries model (entriesFrom (suc k) n) × KindFirst (entriesFrom (suc k) n)
+          → let es = cond t (entryOf k values ∷ entriesFrom (suc k) n) (entriesFrom (suc k) n) in GoodEntries model es × KindFirst es
+      go true (rest, first) = (
+        (good k (omega arith), without-row k (suc k) n (omega arith) (omega arith) (λ j l has same. omega arith), rest),
+        ((λ tiling. without-row kindRow (suc k) n (omega arith) (omega arith) (λ j l has same. omega arith)), first),
+      )
+      go false rest = rest
 
--- a row is given what the first entry with its code has
-each-gives : (fresh : List ℕ) (row : ℕ) (f : ℕ → Entry) (n k : ℕ) → k < n → f k .code ≡ setCode row → ((j : ℕ) → j < k → f j .code ≡ setCode row → ⊥)
-    → givenOr fresh row (each f n) ≡ f k .values
-each-gives fresh row f zero k h e ne = absurd (not-suc-le-zero h)
-each-gives fresh row f (suc n) zero h e ne = rw (eq-eqb _ _ e)
-each-gives fresh row f (suc n) (suc k) h e ne =
-    rw (ne-eqb _ _ (ne 0 (omega arith))) (each-gives fresh row (λ k. f (suc k)) n k (le-of-suc-le-suc h) e (λ j l. ne (suc j) (omega arith)))
+  has-all : HasAll form (entriesFrom 0 rowCount)
+  has-all row h none = without-row row 0 rowCount h (omega arith) (λ j l has same. false≢true (sym none ∙ ap (hasField form) (sym same) ∙ has))
+
+  -- and a row is given its own values
+  gives-from : (fresh : List ℕ) (row k n : ℕ) → k ≤ row → row < k + n → k + n ≤ rowCount → hasField form row ≡ true
+      → givenOr fresh row (entriesFrom k n) ≡ valuesOf row values
+  gives-from fresh row k zero l h few has = absurd (omega arith)
+  gives-from fresh row k (suc n) l h few has =
+      ⊎-elim here (λ less. later (hasField form k) less (gives-from fresh row (suc k) n less (omega arith) (omega arith) has)) (eq-or-lt-of-le l)
+    where
+      here : k ≡ row → givenOr fresh row (entriesFrom k (suc n)) ≡ valuesOf row values
+      here same = rw (same, has, eq-eqb (setCode row) (setCode row) refl)
+
+      later : (t : Bool) → k < row → givenOr fresh row (entriesFrom (suc k) n) ≡ valuesOf row values
+          → givenOr fresh row (cond t (entryOf k values ∷ entriesFrom (suc k) n) (entriesFrom (suc k) n)) ≡ valuesOf row values
+      later true less ih = rw (ne-eqb (setCode k) (setCode row) (λ c. let same : k ≡ row = codes-apart (omega arith) (omega arith) c in omega arith)) ih
+      later false less ih = ih
 
 -- where an ID is absent nothing is found
 absent-nowhere : (i : MonitorId) (k : ℕ) (w : Wall) → Absent i w → placeFrom i k w ≡ Nowhere
@@ -73,39 +105,40 @@ unfolding placeFrom
 absent-nowhere i k [] a = refl
 absent-nowhere i k (p ∷ w) (n, a) = rw (ne-eqb (p .id .0) (i .0) n) (absent-nowhere i (suc k) w a)
 
--- a panel's own entries are good, and give each row its values
-module _ (p : Panel) (good : GoodPanel p) where
-  own-row : {row : ℕ} → row < rowCount → rowOf (entryOf row (p .values)) ≡ row
-  own-row {row} h = row-is (entryOf row (p .values)) h refl
+-- a good panel that a form keeps: its entries are good, and give each row its values
+module _ (p : Panel) (good : GoodPanel p) (form : Form) (kept : keeps form (p .profile) (p .values) ≡ true) where
+  own-good : (row : ℕ) → row < rowCount → Good (modelOf p) (entryOf row (p .values))
+  own-good row h = let e = row-is (entryOf row (p .values)) h refl in record { in-table = rw e h; code = ap setCode e; allowed = rw e (good .inRange row h) }
 
-  own-good : GoodEntries (p .profile) (entriesOf (p .values))
-  own-good =
-      good-each (p .profile) (λ row. entryOf row (p .values)) rowCount
-      (λ row h. let e = own-row h in record { in-table = rw e h; code = ap setCode e; allowed = rw e (good .inRange row h) })
-      (λ j k l h e. let s = codes-apart h (omega arith) e in omega arith)
+  own-given : (row : ℕ) → row < rowCount → given (p .profile) row (entriesFrom form (p .values) 0 rowCount) ≡ valuesOf row (p .values)
+  own-given row h = go (hasField form row) refl
+    where
+      go : (t : Bool) → hasField form row ≡ t → given (p .profile) row (entriesFrom form (p .values) 0 rowCount) ≡ valuesOf row (p .values)
+      go true has = gives-from form (p .values) (valuesOf row (freshValues (p .profile))) row 0 rowCount (omega arith) (omega arith) (omega arith) has
+      go false none =
+          without-gives (valuesOf row (freshValues (p .profile))) row (entriesFrom form (p .values) 0 rowCount) (has-all form (p .values) row h none)
+          ∙ sym (kept-fresh (p .profile) (p .values) form kept row none)
 
-  own-given : (row : ℕ) → row < rowCount → given (p .profile) row (entriesOf (p .values)) ≡ valuesOf row (p .values)
-  own-given row h = each-gives _ row (λ row. entryOf row (p .values)) rowCount row h refl (λ j l e. let s = codes-apart (omega arith) h e in omega arith)
-
-  fields-back : fieldsIn (p .profile) (flatten (fieldsOf (p .values))) ≡ record { refusal = Nothing; values = p .values }
+  fields-back : fieldsIn form (p .profile) (flatten (fieldsOf form (p .values))) ≡ record { refusal = Nothing; values = p .values }
+  unfolding fieldsOf
   fields-back =
-      ap (fieldsIn (p .profile)) (written-entries (p .values) (good .full))
-      ∙ given-read (p .profile) (entriesOf (p .values)) (p .values) own-good (good .full) own-given
+      let (own, first) = good-from form (p .values) (modelOf p) own-good 0 rowCount (omega arith) in
+      ap (fieldsIn form (p .profile)) (bytes-from form (p .values) (good .full) 0 rowCount)
+      ∙ given-read (p .profile) form (entriesFrom form (p .values) 0 rowCount) (p .values) own first (has-all form (p .values)) (good .full) own-given
 
-  -- and so its record, in a form that holds it
-  module _ (form : Form) (held : holds form (p .profile) ≡ true) where
-    panel-back : panelIn form (recordOf form p) ≡ p
-    unfolding recordOf saidPanel
-    panel-back =
-        panel-said form (p .id .0) (p .group .0) (p .profile) (flatten (fieldsOf (p .values))) held
-        ∙ ap (saidPanel (p .id .0) (p .group .0) (p .profile)) fields-back
+  -- and so its record
+  panel-back : panelIn form (recordOf form p) ≡ p
+  unfolding recordOf saidPanel
+  panel-back =
+      panel-said form (p .id .0) (p .group .0) (p .profile) (flatten (fieldsOf form (p .values))) (kept-profile (p .profile) (p .values) form kept)
+      ∙ ap (saidPanel (p .id .0) (p .group .0) (p .profile)) fields-back
 
-    record-back : (w : Wall) → Absent (p .id) w → recordRefusal form w (recordOf form p) ≡ Nothing
-    unfolding recordOf saidRefusal
-    record-back w a =
-        refusal-said form (p .id .0) (p .group .0) (p .profile) (flatten (fieldsOf (p .values))) held w
-        ∙ ap (saidRefusal w (p .id .0) (p .group .0)) fields-back
-        ∙ rw (ne-eqb (p .id .0) 0 (good .named), ne-eqb (p .group .0) 0 (good .grouped), absent-nowhere (p .id) 0 w a)
+  record-back : (w : Wall) → Absent (p .id) w → recordRefusal form w (recordOf form p) ≡ Nothing
+  unfolding recordOf saidRefusal
+  record-back w a =
+      refusal-said form (p .id .0) (p .group .0) (p .profile) (flatten (fieldsOf form (p .values))) (kept-profile (p .profile) (p .values) form kept) w
+      ∙ ap (saidRefusal w (p .id .0) (p .group .0)) fields-back
+      ∙ rw (ne-eqb (p .id .0) 0 (good .named), ne-eqb (p .group .0) 0 (good .grouped), absent-nowhere (p .id) 0 w a)
 
 -- no panel of the one wall has the ID of a panel of the other
 abbrev Apart : Wall → Wall → Type 0

@@ -1,21 +1,25 @@
--- A form holds whatever is read from its images. Assumes nothing.
+-- A form keeps whatever is read from its images: what it has no field for is never taken, and stays fresh. Assumes nothing.
 use mathlib.Core.Path.{_≡_, refl}
 use mathlib.Core.Bool.{Bool, true, false, cond}
 use mathlib.Core.List.{List, [], _∷_, _++_}
 use Prim.Native.Nat.{ℕ}
+use lib.ListN.{drop}
+use Rattle.settings.specs.declared.Profile.the-variants.{General}
 use Rattle.panels.specs.Wall.{Wall}
 use Rattle.forms.specs.declared.Form.{Form}
 use Rattle.forms.specs.declared.Form.the-variants.{One, Two}
-use Rattle.forms.specs.Forms.{holds}
+use Rattle.forms.specs.Forms.{headSize, keeps}
+use Rattle.forms.proofs.Laws.{keeps-fresh, two-keeps}
 use Rattle.image_write.specs.Written.{losesNothing}
 use Rattle.image_write.proofs.Losing.{one-more}
 use Rattle.image_read.specs.Whole.{formOf, wholeRefusal, recordsIn}
 use Rattle.image_read.specs.Read.{Reading, isSound, recordRefusal, panelIn, refused, readRecords, readOf}
+use Rattle.image_read.proofs.Sound.{fields-gathered}
 
-panel-held : (form : Form) (bytes : List ℕ) → holds form (panelIn form bytes .profile) ≡ true
+panel-held : (form : Form) (bytes : List ℕ) → keeps form (panelIn form bytes .profile) (panelIn form bytes .values) ≡ true
 unfolding panelIn
-panel-held One bytes = refl
-panel-held Two bytes = refl
+panel-held One bytes = keeps-fresh General _ One refl (λ row h none. fields-gathered One General (drop (headSize One) bytes) .fresh row none)
+panel-held Two bytes = two-keeps _ _
 
 either : (form : Form) (t : Bool) (a b : Reading) → losesNothing form (a .wall) ≡ true → losesNothing form (b .wall) ≡ true
     → losesNothing form (cond t a b .wall) ≡ true

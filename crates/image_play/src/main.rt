@@ -9,7 +9,7 @@ use panels::MOST_PANELS;
 use panels::Table;
 
 // The bytes of the largest image, in form 2, and their hex digits.
-const LARGEST: usize = 36 * MOST_PANELS + 2;
+const LARGEST: usize = 45 * MOST_PANELS + 2;
 
 const MOST_DIGITS: usize = 2 * LARGEST;
 

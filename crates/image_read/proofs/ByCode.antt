@@ -7,24 +7,15 @@ use borrow.Author.Tests.{eqb-true, eqb-false}
 use lib.Dec.{eqb}
 use lib.ListN.{length}
 use Rattle.settings.specs.declared.Profile.{Profile}
-use Rattle.settings.specs.Settings.{setCode, freshValues, valuesWith, valueCount, rowCount}
+use Rattle.settings.specs.declared.Model.{Model}
+use Rattle.settings.specs.Settings.{setCode, freshValues, valuesWith, valueCount, rowCount, valuesOf}
 use Rattle.settings.proofs.Laws.{fresh-count}
-use Rattle.panels.specs.Wall.{valuesOf}
 use Rattle.panels.proofs.Values.{length-with, set-row, other-row, by-rows}
 use Rattle.image_read.specs.Entries.{Entry, Without, givenOr, given}
-use Rattle.image_read.proofs.Entries.{rowOf, row-is, GoodEntries, stored, count-of}
+use Rattle.image_read.proofs.Entries.{rowOf, row-is, GoodEntries, stored, count-of, kept-by}
 
-module _ (profile : Profile) where
-  -- a row whose code no entry has keeps its values
-  kept-by : (row : ℕ) (es : List Entry) (values : List ℕ) → GoodEntries profile es → Without (setCode row) es → length values ≡ valueCount
-      → valuesOf row (stored es values) ≡ valuesOf row values
-  kept-by row [] values good w full = refl
-  kept-by row (e ∷ es) values (g, v, good) (ne, w) full =
-      let n = count-of g in
-      kept-by row es (valuesWith (rowOf e) (e .values) values) good w (length-with (rowOf e) (e .values) values n full)
-      ∙ other-row (rowOf e) (e .values) values n full row (λ s. ne (sym (g .code) ∙ ap setCode (sym s)))
-
-  by-code : (es : List Entry) (values : List ℕ) → GoodEntries profile es → length values ≡ valueCount → {row : ℕ} → row < rowCount
+module _ (model : Model) where
+  pub by-code : (es : List Entry) (values : List ℕ) → GoodEntries model es → length values ≡ valueCount → {row : ℕ} → row < rowCount
       → valuesOf row (stored es values) ≡ givenOr (valuesOf row values) row es
   by-code [] values good full h = refl
   by-code (e ∷ es) values (g, w, good) full {row} h = go (eqb (e .code) (setCode row)) refl (by-code es with-e good full-e h)
@@ -40,24 +31,20 @@ module _ (profile : Profile) where
       go true same ih =
           let c = eqb-true _ _ same in
           let r = row-is e h (sym c) in
-          kept-by row es with-e good (subst (λ (c : ℕ). Without c es) c w) full-e
+          kept-by model row es with-e good (subst (λ (c : ℕ). Without c es) c w) full-e
           ∙ rw (← r) (set-row (rowOf e) (e .values) values (count-of g) full)
       go false other ih =
           let kept = other-row (rowOf e) (e .values) values (count-of g) full row (λ s. eqb-false _ _ other (sym (g .code) ∙ ap setCode (sym s))) in
           ih ∙ ap (λ (d : List ℕ). givenOr d row es) kept
 
-  pub stored-full : (es : List Entry) (values : List ℕ) → GoodEntries profile es → length values ≡ valueCount → length (stored es values) ≡ valueCount
+  pub stored-full : (es : List Entry) (values : List ℕ) → GoodEntries model es → length values ≡ valueCount → length (stored es values) ≡ valueCount
   stored-full [] values good full = full
   stored-full (e ∷ es) values (g, w, good) full =
       stored-full es (valuesWith (rowOf e) (e .values) values) good (length-with (rowOf e) (e .values) values (count-of g) full)
 
   -- what is stored over fresh values is known by what each row is given
-  pub stored-is : (es : List Entry) (values : List ℕ) → GoodEntries profile es → length values ≡ valueCount
+  pub stored-is : (profile : Profile) (es : List Entry) (values : List ℕ) → GoodEntries model es → length values ≡ valueCount
       → ((row : ℕ) → row < rowCount → given profile row es ≡ valuesOf row values) → stored es (freshValues profile) ≡ values
-  stored-is es values good full same =
-      by-rows (stored es (freshValues profile)) values (stored-full es (freshValues profile) good (fresh-count profile)) full (λ row h. by-code es (freshValues profile) good (fresh-count profile) h ∙ same row h)
-
-  pub stored-alike : (es fs : List Entry) → GoodEntries profile es → GoodEntries profile fs → ((row : ℕ) → row < rowCount → given profile row es ≡ given profile row fs)
-      → stored es (freshValues profile) ≡ stored fs (freshValues profile)
-  stored-alike es fs good also same =
-      stored-is es (stored fs (freshValues profile)) good (stored-full fs (freshValues profile) also (fresh-count profile)) (λ row h. same row h ∙ sym (by-code fs (freshValues profile) also (fresh-count profile) h))
+  stored-is profile es values good full same =
+      let n = fresh-count profile in
+      by-rows (stored es (freshValues profile)) values (stored-full es (freshValues profile) good n) full (λ row h. by-code es (freshValues profile) good n h ∙ same row h)

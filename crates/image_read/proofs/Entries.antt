@@ -4,22 +4,28 @@ use mathlib.Core.Bool.{Bool, true, false, cond, _||_, false≢true}
 use mathlib.Core.List.{List, [], _∷_, _++_, flatten}
 use Prim.Native.Nat.{ℕ, suc, _+_, _<_}
 use native.Mathlib.Omega.{arith}
-use borrow.Author.Tests.{ne-eqb}
+use borrow.Author.Tests.{ne-eqb, eqb-true, eqb-false}
+use lib.Dec.{eqb}
 use lib.ListN.{length, getD, length-append, length-set}
-use lib.Seq.{take-at, drop-at, getD-set-same, getD-set-other}
+use lib.Seq.{take-at, drop-at, getD-set-other}
+use Rattle.tiling.specs.Kinds.{kindWith}
 use Rattle.settings.specs.declared.Profile.{Profile}
+use Rattle.settings.specs.declared.Model.{Model}
 use Rattle.settings.specs.declared.Found.{Found}
 use Rattle.settings.specs.declared.Found.the-variants.{Set, Get, Nothing}
-use Rattle.settings.specs.Settings.{foundBy, setCode, byteCount, allowedFor, valuesWith, rowCount}
-use Rattle.settings.proofs.Laws.{set-found, allowed-many}
+use Rattle.settings.specs.Settings.{fieldBy, setCode, byteCount, allowedFor, valuesOf, valuesWith, modelIn, rowCount, valueCount, kindRow, tilingRow}
+use Rattle.settings.proofs.Laws.{field-found, allowed-many, kind-free}
+use Rattle.forms.specs.declared.Form.{Form}
+use Rattle.forms.specs.Forms.{hasField}
+use Rattle.panels.proofs.Values.{length-with, other-row}
 use Rattle.image_read.specs.declared.Refusal.the-variants.{Nothing as Sound}
 use Rattle.image_read.specs.declared.Step.{Step}
 use Rattle.image_read.specs.declared.Step.the-variants.{Field, NotAllowed, Broken, End}
 use Rattle.image_read.specs.declared.Fields.{Fields}
-use Rattle.image_read.specs.Fields.{valuesIn, misfits, fieldBy, stepAt, fieldsFrom}
+use Rattle.image_read.specs.Fields.{valuesIn, misplaced, misfits, fieldOf, stepAt, fieldsFrom}
 use Rattle.image_read.proofs.OnTheWay.{seenWith, behind}
-use Rattle.image_read.specs.Entries.{Entry, bytesOf, Without}
-use Rattle.image_read.proofs.Steps.{Takes, takes, takes-it, fields-step}
+use Rattle.image_read.specs.Entries.{Entry, bytesOf, Without, HasAll, KindFirst}
+use Rattle.image_read.proofs.Steps.{seen-apart, Free, Takes, takes, takes-it, fields-step}
 
 -- the row of an entry's code
 rowFound : Found → ℕ
@@ -29,26 +35,26 @@ rowFound Nothing = 0
 
 unfoldable pub rowOf : Entry → ℕ
 unfolding rowFound
-rowOf e = rowFound (foundBy (e .code))
+rowOf e = rowFound (fieldBy (e .code))
 
 pub row-is : (e : Entry) {row : ℕ} → row < rowCount → setCode row ≡ e .code → rowOf e ≡ row
 unfolding rowOf rowFound
-row-is e h c = ap rowFound (ap foundBy (sym c) ∙ set-found h)
+row-is e h c = ap rowFound (ap fieldBy (sym c) ∙ field-found h)
 
--- an entry that can be taken
-pub record Good (profile : Profile) (e : Entry) : Type 0 where
+-- an entry of a row, with values that a panel of the model may have
+pub record Good (model : Model) (e : Entry) : Type 0 where
   pub in-table : rowOf e < rowCount
   pub code : setCode (rowOf e) ≡ e .code
-  pub allowed : allowedFor profile (rowOf e) (e .values) ≡ true
+  pub allowed : allowedFor model (rowOf e) (e .values) ≡ true
 
 -- every entry is good, and no later one has its code
-abbrev pub GoodEntries : Profile → List Entry → Type 0
-GoodEntries profile [] = Unit {0}
-GoodEntries profile (e ∷ es) = Good profile e × Without (e .code) es × GoodEntries profile es
+abbrev pub GoodEntries : Model → List Entry → Type 0
+GoodEntries model [] = Unit {0}
+GoodEntries model (e ∷ es) = Good model e × Without (e .code) es × GoodEntries model es
 
 abbrev pub Unseen : List Bool → List Entry → Type 0
 Unseen seen [] = Unit {0}
-Unseen seen (e ∷ es) = (getD seen (rowOf e) false ≡ false) × Unseen seen es
+Unseen seen (e ∷ es) = Free seen (rowOf e) × Unseen seen es
 
 -- the values with all entries stored
 abbrev pub stored : List Entry → List ℕ → List ℕ
@@ -59,8 +65,8 @@ bytes-cons : (e : Entry) (es : List Entry) → bytesOf (e ∷ es) ≡ e .code �
 unfolding bytesOf flatten
 bytes-cons e es = refl
 
-pub count-of : {profile : Profile} {e : Entry} → Good profile e → length (e .values) ≡ byteCount (rowOf e)
-count-of {profile} {e} g = allowed-many profile _ (e .values) (g .allowed)
+pub count-of : {model : Model} {e : Entry} → Good model e → length (e .values) ≡ byteCount (rowOf e)
+count-of {model} {e} g = allowed-many model _ (e .values) (g .allowed)
 
 -- the front of the bytes, where an entry with its row's count stands there
 module _ (e : Entry) (rest : List ℕ) (row : ℕ) (n : length (e .values) ≡ byteCount row) where
@@ -70,90 +76,147 @@ module _ (e : Entry) (rest : List ℕ) (row : ℕ) (n : length (e .values) ≡ b
   front-behind : behind row (e .code ∷ length (e .values) ∷ (e .values ++ rest)) ≡ rest
   front-behind = let s : 2 + byteCount row ≡ suc (suc (byteCount row)) = omega arith in rw s (drop-at (e .values) rest (byteCount row) n)
 
-pub other-rows : {profile : Profile} {d e : Entry} → Good profile d → Good profile e → (e .code ≡ d .code → ⊥) → rowOf e ≡ rowOf d → ⊥
-other-rows g h ne same = ne (sym (h .code) ∙ ap setCode same ∙ g .code)
+module _ (model : Model) where
+  other-rows : {d e : Entry} → Good model d → Good model e → (e .code ≡ d .code → ⊥) → rowOf e ≡ rowOf d → ⊥
+  other-rows g h ne same = ne (sym (h .code) ∙ ap setCode same ∙ g .code)
 
-still-unseen : {profile : Profile} {d : Entry} → Good profile d → (seen : List Bool) (es : List Entry) → Without (d .code) es → GoodEntries profile es → Unseen seen es → Unseen (seenWith (rowOf d) seen) es
-still-unseen g seen [] w good u = tt
-still-unseen {profile} {d} g seen (e ∷ es) (ne, w) (h, without, good) (new, u) =
-    (getD-set-other seen (rowOf d) (rowOf e) true false (other-rows g h ne) ∙ new, still-unseen g seen es w good u)
+  still-unseen : {d : Entry} → Good model d → (seen : List Bool) (es : List Entry) → Without (d .code) es
+      → (d .code ≡ setCode tilingRow → Without (setCode kindRow) es) → GoodEntries model es → Unseen seen es → Unseen (seenWith (rowOf d) seen) es
+  still-unseen g seen [] w k good u = tt
+  still-unseen {d} g seen (e ∷ es) (ne, w) k (h, without, good) (free, u) =
+      let apart : rowOf e ≡ kindRow → tilingRow ≡ rowOf d → ⊥ = λ kind same. k (sym (g .code) ∙ ap setCode (sym same)) .0 (sym (h .code) ∙ ap setCode kind) in (
+        record {
+          new = getD-set-other seen (rowOf d) (rowOf e) true false (other-rows g h ne) ∙ free .new;
+          first = λ kind. getD-set-other seen (rowOf d) tilingRow true false (apart kind) ∙ free .first kind;
+        },
+        still-unseen g seen es w (λ tiling. k tiling .1) good u,
+      )
 
--- Good entries are all taken.
-pub all-taken : (profile : Profile) (es : List Entry) (seen : List Bool) (values : List ℕ) → GoodEntries profile es → Unseen seen es
-    → fieldsFrom profile seen values (bytesOf es) ≡ record { refusal = Sound; values = stored es values }
-all-taken profile [] seen values good u = fields-step profile seen values (bytesOf []) End (unfold stepAt bytesOf flatten in refl)
-all-taken profile (e ∷ es) seen values (g, without, good) (new, u) =
-    let n = count-of g in
-    let left = e .code ∷ length (e .values) ∷ (e .values ++ bytesOf es) in
-    let vs = front-values e (bytesOf es) (rowOf e) n in
-    let takes-e : Takes profile seen left (rowOf e) = record {
-      in-table = g .in-table;
-      code = sym (g .code);
-      new = new;
-      whole = rw (length-append (e .values) (bytesOf es)) (omega arith);
-      count = n;
-      allowed = rw vs (g .allowed);
-    } in
-    ap (fieldsFrom profile seen values) (bytes-cons e es)
-    ∙ fields-step profile seen values left (Field (rowOf e)) (takes-it takes-e)
-    ∙ rw (vs, front-behind e (bytesOf es) (rowOf e) n) (all-taken profile es (seenWith (rowOf e) seen) (valuesWith (rowOf e) (e .values) values) good (still-unseen g seen es without good u))
+  -- a row whose code no entry has keeps its values
+  pub kept-by : (row : ℕ) (es : List Entry) (values : List ℕ) → GoodEntries model es → Without (setCode row) es → length values ≡ valueCount
+      → valuesOf row (stored es values) ≡ valuesOf row values
+  kept-by row [] values good w full = refl
+  kept-by row (e ∷ es) values (g, v, good) (ne, w) full =
+      let n = count-of g in
+      kept-by row es (valuesWith (rowOf e) (e .values) values) good w (length-with (rowOf e) (e .values) values n full)
+      ∙ other-row (rowOf e) (e .values) values n full row (λ s. ne (sym (g .code) ∙ ap setCode (sym s)))
 
--- And where there is no fault the entries are good.
-seen-apart : (row : ℕ) (seen : List Bool) (r : ℕ) → row < length seen → getD (seenWith row seen) r false ≡ false → (r ≡ row → ⊥) × (getD seen r false ≡ false)
-seen-apart row seen r h e = (apart, sym (getD-set-other seen row r true false apart) ∙ e)
-  where
-    apart : r ≡ row → ⊥
-    apart same = false≢true (sym e ∙ ap (λ (k : ℕ). getD (seenWith row seen) k false) same ∙ getD-set-same seen row true false h)
+  -- An entry is judged by the kind so far as by the kind at last: only a tiling goes by it, and no kind is behind that.
+  judged-alike : (profile : Profile) (e : Entry) (es : List Entry) (values : List ℕ) → setCode (rowOf e) ≡ e .code → length (e .values) ≡ byteCount (rowOf e)
+      → (e .code ≡ setCode tilingRow → Without (setCode kindRow) es) → GoodEntries model es → length values ≡ valueCount
+      → allowedFor (modelIn profile values) (rowOf e) (e .values) ≡ allowedFor (modelIn profile (stored (e ∷ es) values)) (rowOf e) (e .values)
+  judged-alike profile e es values code n k good full = go (eqb (rowOf e) tilingRow) refl
+    where
+      with-e : List ℕ
+      with-e = valuesWith (rowOf e) (e .values) values
 
-were-unseen : (d : Entry) (seen : List Bool) (es : List Entry) → rowOf d < length seen → Unseen (seenWith (rowOf d) seen) es → Without (d .code) es × Unseen seen es
-were-unseen d seen [] h u = (tt, tt)
-were-unseen d seen (e ∷ es) h (new, u) =
-    let (apart, new′) = seen-apart (rowOf d) seen (rowOf e) h new in
-    let (without, u′) = were-unseen d seen es h u in
-    (((λ same. apart (unfold rowOf in ap (λ c. rowFound (foundBy c)) same)), without), (new′, u′))
+      go : (t : Bool) → eqb (rowOf e) tilingRow ≡ t
+          → allowedFor (modelIn profile values) (rowOf e) (e .values) ≡ allowedFor (modelIn profile (stored es with-e)) (rowOf e) (e .values)
+      go false other = kind-free (modelIn profile values) (modelIn profile (stored es with-e)) (e .values) refl (eqb-false _ _ other)
+      go true same =
+          let tiling = eqb-true (rowOf e) tilingRow same in
+          let kept = kept-by kindRow es with-e good (k (sym code ∙ ap setCode tiling)) (length-with (rowOf e) (e .values) values n full) in
+          let before = other-row (rowOf e) (e .values) values n full kindRow (λ s. omega arith) in
+          ap (λ (l : List ℕ). allowedFor (record { profile = profile; kind = kindWith (getD l 0 0) }) (rowOf e) (e .values)) (sym (kept ∙ before))
 
--- only where no byte is left the fields end
-never-end : (profile : Profile) (seen : List Bool) (left : List ℕ) → 0 < length left → stepAt profile seen left ≡ End → ⊥
-unfolding stepAt
-never-end profile seen left h e = by-found (foundBy (getD left 0 0)) (rw (ne-eqb (length left) 0 (λ z. omega arith)) at e)
-  where
-    by-tests : (r : ℕ) (a b : Bool) → cond a Broken (cond b (Field r) NotAllowed) ≡ End → ⊥
-    by-tests r true b e = let z : _≡_ {A = ℕ} 0 1 = cc in omega arith
-    by-tests r false true e = let z : _≡_ {A = ℕ} 0 1 = cc in omega arith
-    by-tests r false false e = let z : _≡_ {A = ℕ} 0 1 = cc in omega arith
+-- Good entries are all taken in a record of a form that has them, where no kind is behind a tiling.
+module _ (form : Form) (profile : Profile) where
+  has-first : {model : Model} (e : Entry) (es : List Entry) → HasAll form (e ∷ es) → Good model e → hasField form (rowOf e) ≡ true
+  has-first e es has g = go (hasField form (rowOf e)) refl
+    where
+      go : (t : Bool) → hasField form (rowOf e) ≡ t → hasField form (rowOf e) ≡ true
+      go true t = t
+      go false t = absurd (has (rowOf e) (g .in-table) t .0 (sym (g .code)))
 
-    by-found : (f : Found) → fieldBy profile f seen left ≡ End → ⊥
-    by-found (Set r) e = by-tests r (getD seen r false || misfits r left) (allowedFor profile r (valuesIn r left)) e
-    by-found (Get r) e = let z : _≡_ {A = ℕ} 0 1 = cc in omega arith
-    by-found Nothing e = let z : _≡_ {A = ℕ} 0 1 = cc in omega arith
+  pub all-taken : (es : List Entry) (seen : List Bool) (values : List ℕ) → GoodEntries (modelIn profile (stored es values)) es → KindFirst es → HasAll form es
+      → Unseen seen es → length values ≡ valueCount → fieldsFrom form profile seen values (bytesOf es) ≡ record { refusal = Sound; values = stored es values }
+  all-taken [] seen values good first has u full = fields-step form profile seen values (bytesOf []) End (unfold stepAt bytesOf flatten in refl)
+  all-taken (e ∷ es) seen values (g, without, good) (k, first) has (free, u) full =
+      let n = count-of g in
+      let left = e .code ∷ length (e .values) ∷ (e .values ++ bytesOf es) in
+      let vs = front-values e (bytesOf es) (rowOf e) n in
+      let takes-e : Takes form profile seen values left (rowOf e) = record {
+        in-table = g .in-table;
+        code = sym (g .code);
+        has = has-first e es has g;
+        free = free;
+        whole = rw (length-append (e .values) (bytesOf es)) (omega arith);
+        count = n;
+        allowed = rw vs (judged-alike _ profile e es values (g .code) n k good full ∙ g .allowed);
+      } in
+      ap (fieldsFrom form profile seen values) (bytes-cons e es)
+      ∙ fields-step form profile seen values left (Field (rowOf e)) (takes-it form profile takes-e)
+      ∙ rw (vs, front-behind e (bytesOf es) (rowOf e) n)
+      (all-taken es (seenWith (rowOf e) seen) (valuesWith (rowOf e) (e .values) values) good first (λ row h t. has row h t .1)
+      (still-unseen _ g seen es without k good u) (length-with (rowOf e) (e .values) values n full))
 
-pub no-fault : (profile : Profile) (es : List Entry) (seen : List Bool) (values : List ℕ) → length seen ≡ rowCount → fieldsFrom profile seen values (bytesOf es) .refusal ≡ Sound
-    → GoodEntries profile es × Unseen seen es
-no-fault profile [] seen values n e = (tt, tt)
-no-fault profile (e ∷ es) seen values n sound = go (stepAt profile seen left) refl
-    (λ row r. no-fault profile es (seenWith row seen) (valuesWith row (e .values) values) (length-set seen row true ∙ n) r)
-    (ap (λ (b : List ℕ). fieldsFrom profile seen values b .refusal) (sym (bytes-cons e es)) ∙ sound)
-  where
-    left : List ℕ
-    left = e .code ∷ length (e .values) ∷ (e .values ++ bytesOf es)
+-- And where there is no fault they are such.
+were-unseen : (d : Entry) (seen : List Bool) (es : List Entry) → rowOf d < length seen → Unseen (seenWith (rowOf d) seen) es
+    → Without (d .code) es × (d .code ≡ setCode tilingRow → Without (setCode kindRow) es) × Unseen seen es
+were-unseen d seen [] h u = (tt, (λ _. tt), tt)
+were-unseen d seen (e ∷ es) h (free, u) =
+    let (apart, new) = seen-apart (rowOf d) seen (rowOf e) h (free .new) in
+    let (without, k, u′) = were-unseen d seen es h u in
+    let of-kind : rowOf e ≡ kindRow → (tilingRow ≡ rowOf d → ⊥) × (getD seen tilingRow false ≡ false) =
+    λ is-kind. seen-apart (rowOf d) seen tilingRow h (free .first is-kind) in (
+      ((λ same. apart (unfold rowOf in ap (λ c. rowFound (fieldBy c)) same)), without),
+      (λ tiling. ((λ kind. of-kind (row-is e (omega arith) (sym kind)) .0 (sym (row-is d (omega arith) (sym tiling)))), k tiling)),
+      (record { new = new; first = λ is-kind. of-kind is-kind .1 }, u′),
+    )
 
-    go : (s : Step) → stepAt profile seen left ≡ s
-        → ((row : ℕ) → fieldsFrom profile (seenWith row seen) (valuesWith row (e .values) values) (bytesOf es) .refusal ≡ Sound → GoodEntries profile es × Unseen (seenWith row seen) es)
-        → fieldsFrom profile seen values left .refusal ≡ Sound → GoodEntries profile (e ∷ es) × Unseen seen (e ∷ es)
-    go (Field row) st ih sound =
-        let t = takes profile seen left row st in
-        let vs = front-values e (bytesOf es) row (t .count) in
-        let is-row = row-is e (t .in-table) (sym (t .code)) in
-        let next = fields-step profile seen values left (Field row) st ∙ ap₂ (λ (v b : List ℕ). fieldsFrom profile (seenWith row seen) (valuesWith row v values) b) vs (front-behind e (bytesOf es) row (t .count)) in
-        let (good, u) = ih row (ap (λ (f : Fields). f .refusal) (sym next) ∙ sound) in
-        let (without, u′) = were-unseen e seen es (rw (is-row, n) (t .in-table)) (rw is-row u) in (
-          (record { in-table = rw is-row (t .in-table); code = rw is-row (sym (t .code)); allowed = rw is-row (rw vs at (t .allowed)) }, without, good),
-          (rw is-row (t .new), u′),
-        )
-    go NotAllowed st ih sound =
-        let f = ap (λ (f : Fields). f .refusal) (fields-step profile seen values left NotAllowed st) in
-        let z : _≡_ {A = ℕ} 0 1 = cc in absurd (omega arith)
-    go Broken st ih sound =
-        let f = ap (λ (f : Fields). f .refusal) (fields-step profile seen values left Broken st) in
-        let z : _≡_ {A = ℕ} 0 1 = cc in absurd (omega arith)
-    go End st ih sound = absurd (never-end profile seen left (omega arith) st)
+module _ (form : Form) (profile : Profile) where
+  -- only where no byte is left the fields end
+  never-end : (seen : List Bool) (values left : List ℕ) → 0 < length left → stepAt form profile seen values left ≡ End → ⊥
+  unfolding stepAt
+  never-end seen values left h e = by-found (fieldBy (getD left 0 0)) (rw (ne-eqb (length left) 0 (λ z. omega arith)) at e)
+    where
+      by-tests : (r : ℕ) (a b : Bool) → cond a Broken (cond b (Field r) NotAllowed) ≡ End → ⊥
+      by-tests r true b e = let z : _≡_ {A = ℕ} 0 1 = cc in omega arith
+      by-tests r false true e = let z : _≡_ {A = ℕ} 0 1 = cc in omega arith
+      by-tests r false false e = let z : _≡_ {A = ℕ} 0 1 = cc in omega arith
+
+      by-found : (f : Found) → fieldOf form profile f seen values left ≡ End → ⊥
+      by-found (Set r) e = by-tests r (misplaced form seen r || misfits r left) (allowedFor (modelIn profile values) r (valuesIn r left)) e
+      by-found (Get r) e = let z : _≡_ {A = ℕ} 0 1 = cc in omega arith
+      by-found Nothing e = let z : _≡_ {A = ℕ} 0 1 = cc in omega arith
+
+  pub no-fault : (es : List Entry) (seen : List Bool) (values : List ℕ) → length seen ≡ rowCount → length values ≡ valueCount
+      → fieldsFrom form profile seen values (bytesOf es) .refusal ≡ Sound
+      → GoodEntries (modelIn profile (stored es values)) es × KindFirst es × HasAll form es × Unseen seen es
+  no-fault [] seen values n full e = (tt, tt, (λ row h t. tt), tt)
+  no-fault (e ∷ es) seen values n full sound = go (stepAt form profile seen values left) refl
+      (λ row m r. no-fault es (seenWith row seen) (valuesWith row (e .values) values) (length-set seen row true ∙ n) (length-with row (e .values) values m full) r)
+      (ap (λ (b : List ℕ). fieldsFrom form profile seen values b .refusal) (sym (bytes-cons e es)) ∙ sound)
+    where
+      left : List ℕ
+      left = e .code ∷ length (e .values) ∷ (e .values ++ bytesOf es)
+
+      go : (s : Step) → stepAt form profile seen values left ≡ s
+          → ((row : ℕ) → length (e .values) ≡ byteCount row
+          → fieldsFrom form profile (seenWith row seen) (valuesWith row (e .values) values) (bytesOf es) .refusal ≡ Sound
+          → GoodEntries (modelIn profile (stored es (valuesWith row (e .values) values))) es × KindFirst es × HasAll form es × Unseen (seenWith row seen) es)
+          → fieldsFrom form profile seen values left .refusal ≡ Sound
+          → GoodEntries (modelIn profile (stored (e ∷ es) values)) (e ∷ es) × KindFirst (e ∷ es) × HasAll form (e ∷ es) × Unseen seen (e ∷ es)
+      go (Field row) st ih sound =
+          let t = takes form profile seen values left row st in
+          let vs = front-values e (bytesOf es) row (t .count) in
+          let is-row = row-is e (t .in-table) (sym (t .code)) in
+          let next = fields-step form profile seen values left (Field row) st
+          ∙ ap₂ (λ (v b : List ℕ). fieldsFrom form profile (seenWith row seen) (valuesWith row v values) b) vs (front-behind e (bytesOf es) row (t .count)) in
+          let (good, first, has, u) = rw (← is-row) at (ih row (t .count) (ap (λ (f : Fields). f .refusal) (sym next) ∙ sound)) in
+          let (without, k, u′) = were-unseen e seen es (rw (is-row, n) (t .in-table)) u in
+          let code : setCode (rowOf e) ≡ e .code = rw is-row (sym (t .code)) in
+          let so-far : allowedFor (modelIn profile values) (rowOf e) (e .values) ≡ true = rw is-row (rw vs at (t .allowed)) in
+          let alike = judged-alike _ profile e es values code (rw is-row (t .count)) k good full in (
+            (record { in-table = rw is-row (t .in-table); code = code; allowed = sym alike ∙ so-far }, without, good),
+            (k, first),
+            (λ r h none. ((λ c. false≢true (sym none ∙ ap (hasField form) (sym (row-is e h (sym c)) ∙ is-row) ∙ t .has)), has r h none)),
+            (rw is-row (t .free), u′),
+          )
+      go NotAllowed st ih sound =
+          let f = ap (λ (f : Fields). f .refusal) (fields-step form profile seen values left NotAllowed st) in
+          let z : _≡_ {A = ℕ} 0 1 = cc in absurd (omega arith)
+      go Broken st ih sound =
+          let f = ap (λ (f : Fields). f .refusal) (fields-step form profile seen values left Broken st) in
+          let z : _≡_ {A = ℕ} 0 1 = cc in absurd (omega arith)
+      go End st ih sound = absurd (never-end seen values left (omega arith) st)

@@ -2,7 +2,7 @@
 use mathlib.Core.Path.{_≡_, refl, sym, subst, _∙_}
 use mathlib.Core.Bool.{Bool, true, false, cond, not}
 use mathlib.Core.List.{List, [], _∷_, _++_}
-use Prim.Native.Nat.{ℕ, zero, suc, _<_}
+use Prim.Native.Nat.{ℕ, suc, _<_}
 use borrow.Author.Tests.{eqb-true, eqb-false}
 use lib.Dec.{eqb}
 use lib.ListN.{length, getD, drop, set, replicate}
@@ -24,16 +24,12 @@ use Rattle.image_read.specs.declared.ReadPanel.{ReadPanel}
 use Rattle.image_read.specs.Fields.{fieldsIn}
 use Rattle.image_read.specs.Read.{isSound, headFits, recordRefusal, panelWith, panelIn}
 use Rattle.image_read.specs.Private.Marked.{Marks, headFitsBy, noPanel, panelBy}
+use Rattle.image_read.proofs.Steps.{none-seen}
 use Rattle.image_read.proofs.Sound.{head-of, panel-known}
 
 pub none-marked : (n : ℕ) → Marks (replicate n false) []
 unfolding placeFrom
-none-marked n = record { marked = unmarked n }
-  where
-    unmarked : (n i : ℕ) → getD (replicate n false) i false ≡ false
-    unmarked zero i = refl
-    unmarked (suc n) zero = refl
-    unmarked (suc n) (suc i) = unmarked n i
+none-marked n = record { marked = none-seen n }
 
 there-snoc : (i k : ℕ) (w : Wall) (p : Panel)
     → ifThere (placeFrom (monitorId i) k (w ++ p ∷ [])) true false
@@ -73,7 +69,7 @@ module _ {seen : List Bool} {w : Wall} (m : Marks seen w) (form : Form) (bytes :
 
   -- what is read of a profile, and what its fields are refused by
   read-with : Profile → ReadPanel
-  read-with profile = record { refusal = fieldsIn profile (drop (headSize form) bytes) .refusal; panel = panelWith form bytes profile }
+  read-with profile = record { refusal = fieldsIn form profile (drop (headSize form) bytes) .refusal; panel = panelWith form bytes profile }
 
   pub refusal-alike : panelBy form seen bytes .refusal ≡ recordRefusal form w bytes
   unfolding panelBy recordRefusal read-with

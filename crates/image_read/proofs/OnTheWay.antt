@@ -1,11 +1,11 @@
 -- Names for a record on its way through the reader: a row that is seen, what is behind its field, the wall with the panel; and
--- for a row's field among some values, and a field's bytes. Assumes nothing.
+-- for a row's field among some values. Assumes nothing.
 use Prim.Native.Nat.{ℕ, _+_}
 use mathlib.Core.Bool.{Bool, true}
 use mathlib.Core.List.{List, [], _∷_, _++_}
-use lib.ListN.{length, drop, set}
-use Rattle.settings.specs.Settings.{setCode, byteCount}
-use Rattle.panels.specs.Wall.{Wall, valuesOf}
+use lib.ListN.{drop, set}
+use Rattle.settings.specs.Settings.{setCode, byteCount, valuesOf}
+use Rattle.panels.specs.Wall.{Wall}
 use Rattle.forms.specs.declared.Form.{Form}
 use Rattle.image_read.specs.Read.{panelIn}
 use Rattle.image_read.specs.Entries.{Entry}
@@ -21,6 +21,3 @@ wallWith form w bytes = w ++ panelIn form bytes ∷ []
 
 abbrev pub entryOf : ℕ → List ℕ → Entry
 entryOf row values = record { code = setCode row; values = valuesOf row values }
-
-abbrev pub entryBytes : Entry → List ℕ
-entryBytes e = e .code ∷ length (e .values) ∷ e .values

@@ -30,13 +30,13 @@ unfoldable pub saidPanel : ℕ → ℕ → Profile → Fields → Panel
 saidPanel id group profile f = record { id = monitorId id; group = groupId group; profile = profile; values = f .values }
 
 module _ (form : Form) (id group : ℕ) (profile : Profile) (rest : List ℕ) (held : holds form profile ≡ true) where
-  pub refusal-said : (w : Wall) → recordRefusal form w (headOf form id group profile ++ rest) ≡ saidRefusal w id group (fieldsIn profile rest)
+  pub refusal-said : (w : Wall) → recordRefusal form w (headOf form id group profile ++ rest) ≡ saidRefusal w id group (fieldsIn form profile rest)
   unfolding recordRefusal headFits saidRefusal
   refusal-said w =
       let long : headSize form ≤ length (headOf form id group profile ++ rest) = omega (arith, head-length id group profile form, length-append (headOf form id group profile) rest) in
       rw (le-leb _ _ long, profile-back id group profile form rest held, behind-head id group profile form rest)
 
-  pub panel-said : panelIn form (headOf form id group profile ++ rest) ≡ saidPanel id group profile (fieldsIn profile rest)
+  pub panel-said : panelIn form (headOf form id group profile ++ rest) ≡ saidPanel id group profile (fieldsIn form profile rest)
   unfolding panelIn saidPanel
   panel-said = rw (profile-back id group profile form rest held, behind-head id group profile form rest)
 

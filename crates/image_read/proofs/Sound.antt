@@ -1,5 +1,5 @@
--- Reading gives only well-formed tables. Assumes nothing.
-use mathlib.Core.Path.{_≡_, refl}
+-- Reading gives only well-formed tables, and leaves fresh what the form has no field for. Assumes nothing.
+use mathlib.Core.Path.{_≡_, refl, sym, ap, _∙_}
 use mathlib.Core.Bool.{Bool, true, false, cond, false≢true}
 use mathlib.Core.List.{List, [], _∷_}
 use Prim.Native.Nat.{ℕ, zero, suc, _+_, _≤_, _<_}
@@ -7,13 +7,14 @@ use native.Mathlib.Numerals.{add-one}
 use native.Mathlib.Omega.{arith}
 use borrow.Author.Tests.{eqb-false, not-true}
 use lib.Dec.{leb}
-use lib.ListN.{length, getD, drop, replicate, length-append}
-use lib.Seq.{drop-cons}
+use lib.ListN.{length, getD, drop, replicate, length-append, length-set}
+use lib.Seq.{drop-cons, getD-set-other}
 use Rattle.settings.specs.declared.Profile.{Profile}
 use Rattle.profiles.specs.declared.Numbered.{Numbered}
 use Rattle.profiles.specs.declared.Numbered.the-variants.{Known, Unknown}
 use Rattle.profiles.specs.Numbers.{ifKnown}
-use Rattle.settings.specs.Settings.{freshValues, valuesWith, rowCount}
+use Rattle.settings.specs.Settings.{freshValues, valuesOf, valuesWith, modelIn, rowCount, tilingRow}
+use Rattle.settings.proofs.Laws.{allowed-many}
 use Rattle.lists.specs.Lists.{each}
 use Rattle.lists.proofs.Both.{both}
 use Rattle.lists.proofs.Each.{in-each, length-each}
@@ -25,9 +26,9 @@ use Rattle.panels.specs.Wall.{Wall, tableOf, panelsOf, placeOf, mostPanels}
 use Rattle.panels.specs.Calls.{ifThere}
 use Rattle.panels.specs.WellFormed.{GoodPanel, GoodWall, WellFormed}
 use Rattle.panels.proofs.Formed.{formed, empty-formed, nowhere-absent, good-snoc}
-use Rattle.panels.proofs.Values.{InRange, fresh-in-range, with-in-range}
+use Rattle.panels.proofs.Values.{InRange, other-row, fresh-in-range, with-in-range}
 use Rattle.forms.specs.declared.Form.{Form}
-use Rattle.forms.specs.Forms.{headSize, profileIn}
+use Rattle.forms.specs.Forms.{headSize, profileIn, hasField}
 use Rattle.image_read.specs.declared.Refusal.the-variants.{Record}
 use Rattle.image_read.specs.declared.Step.{Step}
 use Rattle.image_read.specs.declared.Step.the-variants.{Field, NotAllowed, Broken, End}
@@ -35,28 +36,58 @@ use Rattle.image_read.specs.Whole.{formOf, countOf, recordIn, recordsIn,
 use Rattle.image_read.specs.Fields.{stepAt, valuesIn, afterStep, gathered, fieldsFrom, fieldsIn}
 use Rattle.image_read.proofs.OnTheWay.{seenWith, behind, wallWith}
 use Rattle.image_read.specs.Read.{isSound, headFits, recordRefusal, panelWith, panelIn, refused, readRecords, readOf, inTable}
-use Rattle.image_read.proofs.Steps.{takes}
+use Rattle.image_read.proofs.Steps.{none-seen, seen-apart, Takes, takes}
 use Rattle.image_read.proofs.Edges.{fits}
 
--- the values gathered are in range
-gathered-in-range : (profile : Profile) (n : ℕ) (seen : List Bool) (values left : List ℕ) → InRange profile values → InRange profile (gathered profile n seen values left .values)
-unfolding gathered
-gathered-in-range profile zero seen values left i = i
-gathered-in-range profile (suc n) seen values left i =
-    go (stepAt profile seen left) refl (λ row. gathered-in-range profile n (seenWith row seen) (valuesWith row (valuesIn row left) values) (behind row left))
-  where
-    go : (s : Step) → stepAt profile seen left ≡ s
-        → ((row : ℕ) → InRange profile (valuesWith row (valuesIn row left) values)
-        → InRange profile (gathered profile n (seenWith row seen) (valuesWith row (valuesIn row left) values) (behind row left) .values))
-        → InRange profile (afterStep s values (λ row. gathered profile n (seenWith row seen) (valuesWith row (valuesIn row left) values) (behind row left)) .values)
-    go (Field row) e ih = ih row (with-in-range i row (valuesIn row left) (takes profile seen left row e .allowed))
-    go NotAllowed e ih = i
-    go Broken e ih = i
-    go End e ih = i
+-- what is so on the way: the values are in range, a row that was not seen is fresh, and none was seen that the form has no field for
+record Gathering (form : Form) (profile : Profile) (seen : List Bool) (values : List ℕ) : Type 0 where
+  inRange : InRange profile values
+  marks : length seen ≡ rowCount
+  fresh : (row : ℕ) → getD seen row false ≡ false → valuesOf row values ≡ valuesOf row (freshValues profile)
+  fields : (row : ℕ) → hasField form row ≡ false → getD seen row false ≡ false
 
-fields-in-range : (profile : Profile) (left : List ℕ) → InRange profile (fieldsIn profile left .values)
-unfolding fieldsFrom
-fields-in-range profile left = gathered-in-range profile (suc (length left)) (replicate rowCount false) (freshValues profile) left (fresh-in-range profile)
+-- and at the end
+pub record Gathered (form : Form) (profile : Profile) (values : List ℕ) : Type 0 where
+  pub inRange : InRange profile values
+  pub fresh : (row : ℕ) → hasField form row ≡ false → valuesOf row values ≡ valuesOf row (freshValues profile)
+
+at-last : {form : Form} {profile : Profile} {seen : List Bool} {values : List ℕ} → Gathering form profile seen values → Gathered form profile values
+at-last g = record { inRange = g .inRange; fresh = λ row e. g .fresh row (g .fields row e) }
+
+module _ (form : Form) (profile : Profile) where
+  goes-on : (seen : List Bool) (values left : List ℕ) (row : ℕ) → Gathering form profile seen values → Takes form profile seen values left row
+      → Gathering form profile (seenWith row seen) (valuesWith row (valuesIn row left) values)
+  goes-on seen values left row g t =
+      let n = allowed-many (modelIn profile values) row (valuesIn row left) (t .allowed) in
+      let there : row < length seen = rw (g .marks) (t .in-table) in
+      record {
+        inRange = with-in-range (g .inRange) row (valuesIn row left) (t .allowed) (λ k. g .fresh tilingRow (t .free .first k));
+        marks = length-set seen row true ∙ g .marks;
+        fresh = λ r e. let (apart, new) = seen-apart row seen r there e in other-row row (valuesIn row left) values n (g .inRange .full) r apart ∙ g .fresh r new;
+        fields = λ r e. getD-set-other seen row r true false (λ s. false≢true (sym e ∙ ap (hasField form) s ∙ t .has)) ∙ g .fields r e;
+      }
+
+  gathered-so : (n : ℕ) (seen : List Bool) (values left : List ℕ) → Gathering form profile seen values
+      → Gathered form profile (gathered form profile n seen values left .values)
+  unfolding gathered
+  gathered-so zero seen values left g = at-last g
+  gathered-so (suc n) seen values left g =
+      go (stepAt form profile seen values left) refl (λ row. gathered-so n (seenWith row seen) (valuesWith row (valuesIn row left) values) (behind row left))
+    where
+      go : (s : Step) → stepAt form profile seen values left ≡ s
+          → ((row : ℕ) → Gathering form profile (seenWith row seen) (valuesWith row (valuesIn row left) values)
+          → Gathered form profile (gathered form profile n (seenWith row seen) (valuesWith row (valuesIn row left) values) (behind row left) .values))
+          → Gathered form profile
+          (afterStep s values (λ row. gathered form profile n (seenWith row seen) (valuesWith row (valuesIn row left) values) (behind row left)) .values)
+      go (Field row) e ih = ih row (goes-on seen values left row g (takes form profile seen values left row e))
+      go NotAllowed e ih = at-last g
+      go Broken e ih = at-last g
+      go End e ih = at-last g
+
+  pub fields-gathered : (left : List ℕ) → Gathered form profile (fieldsIn form profile left .values)
+  unfolding fieldsFrom
+  fields-gathered left = gathered-so (suc (length left)) (replicate rowCount false) (freshValues profile) left
+      (record { inRange = fresh-in-range profile; marks = refl; fresh = λ row e. refl; fields = λ row e. none-seen rowCount row })
 
 -- a record that is not refused
 pub record HeadFits (form : Form) (w : Wall) (bytes : List ℕ) : Type 0 where
@@ -83,7 +114,7 @@ unfolding recordRefusal
 head-of form w bytes e = go (headFits form w bytes) (profileIn form bytes) refl e
   where
     go : (t : Bool) (n : Numbered) → profileIn form bytes ≡ n
-        → isSound (cond t (ifKnown n (λ profile. fieldsIn profile (drop (headSize form) bytes) .refusal) Record) Record) ≡ true
+        → isSound (cond t (ifKnown n (λ profile. fieldsIn form profile (drop (headSize form) bytes) .refusal) Record) Record) ≡ true
         → (t ≡ true) × ((profile : Profile) × (profileIn form bytes ≡ Known profile))
     go true (Known profile) known e = (refl, (profile, known))
     go true Unknown known e = absurd (false≢true e)
@@ -95,7 +126,7 @@ panel-known form bytes profile known = rw known
 
 panel-good : (form : Form) (w : Wall) (bytes : List ℕ) (profile : Profile) → HeadFits form w bytes → GoodPanel (panelWith form bytes profile)
 panel-good form w bytes profile h =
-    let i = fields-in-range profile (drop (headSize form) bytes) in
+    let i = fields-gathered form profile (drop (headSize form) bytes) .inRange in
     record { named = h .named; grouped = h .grouped; full = i .full; inRange = i .rows }
 
 pub good-with : (form : Form) (w : Wall) (bytes : List ℕ) → GoodWall w → isSound (recordRefusal form w bytes) ≡ true → GoodWall (wallWith form w bytes)

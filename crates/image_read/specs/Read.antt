@@ -54,7 +54,7 @@ headFits form w bytes = headStands form bytes && ifThere (placeOf (monitorId (ge
 unfoldable pub recordRefusal : Form → Wall → List ℕ → Refusal
 recordRefusal form w bytes =
     cond (headFits form w bytes)
-    (ifKnown (profileIn form bytes) (λ profile. fieldsIn profile (drop (headSize form) bytes) .refusal) Record)
+    (ifKnown (profileIn form bytes) (λ profile. fieldsIn form profile (drop (headSize form) bytes) .refusal) Record)
     Record
 
 -- the panel of a record, once its profile is known
@@ -63,7 +63,7 @@ panelWith form bytes profile = record {
   id = monitorId (getD bytes 0 0);
   group = groupId (getD bytes 1 0);
   profile = profile;
-  values = fieldsIn profile (drop (headSize form) bytes) .values;
+  values = fieldsIn form profile (drop (headSize form) bytes) .values;
 }
 
 unfoldable pub panelIn : Form → List ℕ → Panel

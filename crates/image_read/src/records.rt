@@ -78,7 +78,7 @@ fn panel_of(form: Form, bytes: &[u8], seen: &[bool]) -> ReadPanel
     let Numbered::Known(profile) = numbered else {
         return no_panel();
     };
-    let fields = walk::fields_of(profile, &bytes[forms::head_size(form)..]);
+    let fields = walk::fields_of(form, profile, &bytes[forms::head_size(form)..]);
     let refusal = fields.refusal;
     let values = fields.values;
     let panel = Panel {

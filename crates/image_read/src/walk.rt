@@ -2,30 +2,47 @@
 ghost use mathlib.Core.Path.{_≡_};
 ghost use Prim.Native.Nat.{_+_, _<_};
 ghost use lib.ListN.{length};
-ghost use Rattle.settings.specs.Settings.{rowCount};
-ghost use Rattle.image_read.specs.Fields.{stepAt, fieldsIn};
+ghost use Rattle.settings.specs.Settings.{rowCount, valueCount};
+ghost use Rattle.image_read.specs.Fields.{misplaced, stepAt, fieldsIn};
 use crate::Fields;
 use crate::Refusal;
 use crate::Step;
+use forms::Form;
 use settings::Found;
+use settings::KIND_ROW;
 use settings::Profile;
 use settings::ROW_COUNT;
+use settings::TILING_ROW;
 
-// What stands at the front of the bytes that are left, where some rows were seen before.
-fn step_at(profile: Profile, left: &[u8], seen: &[bool]) -> Step
-    requires { ⌜ length (now seen) ≡ rowCount ⌝ }
-    ensures { λ r. ⌜ r ≡ stepAt profile (now (seen .entry)) (now (left .entry)) ⌝ }
+// Whether a row has no field here: none in this form, or it was seen before, or it is a kind behind the tiling.
+fn is_misplaced(form: Form, row: usize, seen: &[bool]) -> bool
+    requires { ⌜ (row < rowCount) × (length (now seen) ≡ rowCount) ⌝ }
+    ensures { λ r. ⌜ r ≡ misplaced form (now (seen .entry)) row ⌝ }
+{
+    if !forms::has_field(form, row) {
+        return true;
+    }
+    if seen[row] {
+        return true;
+    }
+    row == KIND_ROW && seen[TILING_ROW]
+}
+
+// What stands at the front of the bytes that are left, where some rows were seen before and some values gathered.
+fn step_at(form: Form, profile: Profile, left: &[u8], seen: &[bool], values: &[u8]) -> Step
+    requires { ⌜ (length (now seen) ≡ rowCount) × (length (now values) ≡ valueCount) ⌝ }
+    ensures { λ r. ⌜ r ≡ stepAt form profile (now (seen .entry)) (now (values .entry)) (now (left .entry)) ⌝ }
 {
     let n = left.len();
     if n == 0 {
         return Step::End;
     }
-    let found = settings::find_setting(left[0]);
+    let found = settings::find_field(left[0]);
     let Found::Set(row) = found else {
         return Step::Broken;
     };
     let count = settings::byte_count(row);
-    if seen[row] {
+    if is_misplaced(form, row, seen) {
         return Step::Broken;
     }
     if n < 2 + count {
@@ -34,21 +51,22 @@ fn step_at(profile: Profile, left: &[u8], seen: &[bool]) -> Step
     if left[1] as usize != count {
         return Step::Broken;
     }
-    if !settings::allowed(profile, row, &left[2..2 + count]) {
+    let model = settings::model_in(profile, values);
+    if !settings::allowed(model, row, &left[2..2 + count]) {
         return Step::NotAllowed;
     }
     Step::Field(row)
 }
 
-// The values of a panel of a profile whose record goes on with these bytes.
-pub fn fields_of(profile: Profile, bytes: &[u8]) -> Fields
-    ensures { λ r. ⌜ r ≡ fieldsIn profile (now (bytes .entry)) ⌝ }
+// The values of a panel of a profile whose record, of this form, goes on with these bytes.
+pub fn fields_of(form: Form, profile: Profile, bytes: &[u8]) -> Fields
+    ensures { λ r. ⌜ r ≡ fieldsIn form profile (now (bytes .entry)) ⌝ }
 {
     let mut values = settings::fresh(profile);
     let mut seen = [false; ROW_COUNT];
     let mut at = 0;
     loop {
-        let step = step_at(profile, &bytes[at..], &seen);
+        let step = step_at(form, profile, &bytes[at..], &seen, &values);
         match step {
             Step::Field(row) => {
                 let from = at + 2;

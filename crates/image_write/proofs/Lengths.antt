@@ -1,62 +1,69 @@
 -- How long a record and its parts are. Assumes nothing.
 use mathlib.Core.Path.{_≡_, refl, sym, ap, ap₂, _∙_}
+use mathlib.Core.Bool.{Bool, true, false, cond}
 use mathlib.Core.List.{List, [], _++_, flatten}
 use Prim.Native.Nat.{ℕ, zero, suc, _+_, _*_, _≤_, _<_}
 use native.Mathlib.Omega.{arith}
-use borrow.Author.Tests.{leb-true}
-use mathlib.Core.Bool.{true}
-use lib.Dec.{leb}
-use lib.ListN.{length, getD, take, length-append, length-map, List·getD-map}
+use lib.ListN.{length, getD, take, replicate, length-append, length-map, length-replicate, List·getD-map}
 use lib.Seq.{take-all}
 use Rattle.panels.proofs.Values.{length-values}
-use Rattle.settings.specs.Settings.{settings, byteCount, valueCount, rowCount}
+use Rattle.settings.specs.Settings.{settings, byteCount, valueCount, rowCount, valuesOf}
 use Rattle.forms.specs.declared.Form.{Form}
 use Rattle.forms.specs.declared.Form.the-variants.{One, Two}
-use Rattle.forms.specs.Forms.{headOf}
-use Rattle.forms.proofs.Laws.{head-length}
+use Rattle.forms.specs.Forms.{headOf, hasField}
+use Rattle.forms.proofs.Laws.{head-length, head-some}
 use Rattle.lists.specs.Lists.{startOf, each}
-use Rattle.lists.proofs.Each.{in-each, alike, length-each, each-alike}
+use Rattle.lists.proofs.Each.{in-each, length-each, each-alike}
 use Rattle.panels.specs.declared.Panel.{Panel}
-use Rattle.panels.specs.Wall.{Wall, valuesOf, blank}
+use Rattle.panels.specs.Wall.{Wall, blank}
 use Rattle.panels.specs.WellFormed.{GoodWall}
 use Rattle.lists.proofs.Places.{getD-inside}
 use Rattle.panels.proofs.Formed.{good-at}
-use Rattle.image_write.specs.Written.{field, fieldsOf, recordOf, recordsOf, highLow, startsOf, imageOf, recordSize, fieldsSize}
-use Rattle.lists.proofs.Flat.{flat-more, alike-long}
+use Rattle.image_write.specs.Written.{field, fieldIn, fieldsOf, recordOf, recordsOf, highLow, startsOf, imageOf, recordSize, fieldsSize}
+use Rattle.lists.proofs.Flat.{alike-long}
 
-pub field-at : (values : List ℕ) (row : ℕ) → row < rowCount → getD (fieldsOf values) row [] ≡ field row (valuesOf row values)
-unfolding fieldsOf
-field-at values row h = in-each (λ row. field row (valuesOf row values)) rowCount [] h
+-- lists as long as others, one behind the other
+as-long : (f g : ℕ → List ℕ) (n : ℕ) → ((k : ℕ) → k < n → length (f k) ≡ length (g k)) → length (flatten (each f n)) ≡ length (flatten (each g n))
+unfolding flatten
+as-long f g zero h = refl
+as-long f g (suc n) h =
+    let rest = as-long (λ k. f (suc k)) (λ k. g (suc k)) n (λ k l. h (suc k) (omega arith)) in
+    rw (length-append (f 0) _, length-append (g 0) _, h 0 (omega arith), rest)
 
-pub fields-count : (values : List ℕ) → length (fieldsOf values) ≡ rowCount
-unfolding fieldsOf
-fields-count values = refl
+-- how many bytes a form has for a row's field
+abbrev pub fieldBytes : Form → ℕ → ℕ
+fieldBytes form row = cond (hasField form row) (2 + byteCount row) 0
 
--- how many bytes the fields of the first rows have
-unfoldable pub fieldBytes : ℕ → ℕ
-fieldBytes zero = 0
-fieldBytes (suc row) = fieldBytes row + (2 + byteCount row)
+bytes-of-all : (form : Form) → length {A = ℕ} (flatten (each (λ row. replicate (fieldBytes form row) 0) rowCount)) ≡ fieldsSize form
+unfolding settings flatten
+bytes-of-all One = refl
+bytes-of-all Two = refl
 
-pub fields-before : (values : List ℕ) → length values ≡ valueCount → (row : ℕ) → row ≤ rowCount → length (flatten (take row (fieldsOf values))) ≡ fieldBytes row
-unfolding fieldBytes flatten
-fields-before values e zero h = refl
-fields-before values e (suc row) h =
-    let more = flat-more (fieldsOf values) row (omega (arith, fields-count values)) in
-    let n = length-values row values e in
-    rw (more, length-append (flatten (take row (fieldsOf values))) _, fields-before values e row (omega arith), field-at values row h, n)
-    (omega arith)
+-- all fields of a panel
+module _ (form : Form) (values : List ℕ) where
+  pub field-at : {row : ℕ} → row < rowCount → getD (fieldsOf form values) row [] ≡ fieldIn form values row
+  unfolding fieldsOf
+  field-at h = in-each (fieldIn form values) rowCount [] h
 
-pub bytes-of-all : fieldBytes rowCount ≡ fieldsSize
-unfolding fieldBytes settings
-bytes-of-all = refl
+  pub fields-count : length (fieldsOf form values) ≡ rowCount
+  unfolding fieldsOf
+  fields-count = refl
 
--- those of a row fit behind the ones before it
-pub bytes-fit : {row : ℕ} → row < rowCount → fieldBytes row + (2 + byteCount row) ≤ fieldsSize
-unfolding fieldBytes settings
-bytes-fit {row} h = leb-true _ _ (alike (λ k. leb (fieldBytes k + (2 + byteCount k)) fieldsSize) (λ k. true) rowCount refl h)
+  pub fields-all : take rowCount (fieldsOf form values) ≡ fieldsOf form values
+  fields-all = take-all rowCount (fieldsOf form values) (omega (arith, fields-count))
 
-pub fields-all : (values : List ℕ) → take rowCount (fieldsOf values) ≡ fieldsOf values
-fields-all values = take-all rowCount (fieldsOf values) (omega (arith, fields-count values))
+  pub field-length : length values ≡ valueCount → (row : ℕ) → length (fieldIn form values row) ≡ fieldBytes form row
+  field-length full row = go (hasField form row)
+    where
+      go : (t : Bool) → length (cond t (field row (valuesOf row values)) []) ≡ cond t (2 + byteCount row) 0
+      go true = omega (arith, length-values row values full)
+      go false = refl
+
+  pub fields-length : length values ≡ valueCount → length (flatten (fieldsOf form values)) ≡ fieldsSize form
+  unfolding fieldsOf
+  fields-length full =
+      as-long (fieldIn form values) (λ row. replicate (fieldBytes form row) 0) rowCount (λ row h. field-length full row ∙ sym (length-replicate _ 0))
+      ∙ bytes-of-all form
 
 -- n starts of two bytes
 pub pairs-before : (f : ℕ → ℕ) (n k : ℕ) → k ≤ n → length (flatten (take k (each (λ j. highLow (f j)) n))) ≡ 2 * k
@@ -64,10 +71,6 @@ pairs-before f n k h =
     let ls = each (λ j. highLow (f j)) n in
     let count = length-each (λ j. highLow (f j)) n in
     alike-long 2 ls (λ j g. ap length (in-each (λ j. highLow (f j)) n [] (omega arith))) k (omega arith)
-
--- all fields of a panel
-pub fields-length : (values : List ℕ) → length values ≡ valueCount → length (flatten (fieldsOf values)) ≡ fieldsSize
-fields-length values full = ap (λ (ls : List (List ℕ)). length (flatten ls)) (sym (fields-all values)) ∙ fields-before values full rowCount (omega arith) ∙ bytes-of-all
 
 -- an image made of records
 pub starts-count : (records : List (List ℕ)) → length (flatten (startsOf records)) ≡ 2 * length records
@@ -86,11 +89,12 @@ module _ (form : Form) where
   unfolding recordOf recordSize
   record-length p full =
       let h = headOf form (p .id .0) (p .group .0) (p .profile) in
-      length-append h (flatten (fieldsOf (p .values))) ∙ ap₂ (λ (a b : ℕ). a + b) (head-length (p .id .0) (p .group .0) (p .profile) form) (fields-length (p .values) full)
+      length-append h (flatten (fieldsOf form (p .values)))
+      ∙ ap₂ (λ (a b : ℕ). a + b) (head-length (p .id .0) (p .group .0) (p .profile) form) (fields-length form (p .values) full)
 
   pub record-some : 0 < recordSize form
   unfolding recordSize
-  record-some = omega arith
+  record-some = omega (arith, head-some form)
 
   -- so that each record of a wall starts that much behind the one before it
   pub record-at : (w : Wall) (k : ℕ) → k < length w → getD (recordsOf form w) k [] ≡ recordOf form (getD w k blank)
@@ -115,11 +119,15 @@ module _ (form : Form) where
       (each-alike (λ k. highLow (startOf (recordsOf form w) k)) (λ k. highLow (recordSize form * k)) (length w)
       (λ k h. ap highLow (records-before w good k (omega arith))))
 
--- The products with a record's size that bounds need, which each form has for itself: a record has 33 bytes or 34.
+-- a record has 33 bytes or 43
+pub record-sizes : (recordSize One ≡ 33) × (recordSize Two ≡ 43)
+unfolding recordSize settings
+record-sizes = (refl, refl)
+
+-- The products with a record's size that bounds need, which each form has for itself.
 abbrev pub Products : ℕ → ℕ → ℕ → Type 0
-Products size k n = ((size + 2) * n ≡ size * n + 2 * n) × (k < n → size * k + size ≤ size * n) × (k ≤ n → size * k ≤ size * n) × (size * n ≤ 34 * n) × (size ≤ 34)
+Products size k n = ((size + 2) * n ≡ size * n + 2 * n) × (k < n → size * k + size ≤ size * n) × (k ≤ n → size * k ≤ size * n) × (size * n ≤ 43 * n) × (size ≤ 43)
 
 pub products : (form : Form) (k n : ℕ) → Products (recordSize form) k n
-unfolding recordSize
-products One k n = (omega arith, (λ h. omega arith), (λ h. omega arith), omega arith, omega arith)
-products Two k n = (omega arith, (λ h. omega arith), (λ h. omega arith), omega arith, omega arith)
+products One k n = rw (record-sizes .0) (omega arith, (λ h. omega arith), (λ h. omega arith), omega arith, omega arith)
+products Two k n = rw (record-sizes .1) (omega arith, (λ h. omega arith), (λ h. omega arith), omega arith, omega arith)

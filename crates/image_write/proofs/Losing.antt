@@ -11,7 +11,8 @@ use Rattle.panels.specs.declared.Panel.{Panel}
 use Rattle.panels.specs.Wall.{Wall}
 use Rattle.forms.specs.declared.Form.{Form}
 use Rattle.forms.specs.declared.Form.the-variants.{Two}
-use Rattle.forms.specs.Forms.{holds}
+use Rattle.forms.specs.Forms.{keeps}
+use Rattle.forms.proofs.Laws.{two-keeps}
 use Rattle.image_write.specs.declared.Written.{Written}
 use Rattle.image_write.specs.declared.Written.the-variants.{Bytes, WouldLose, NoRoom}
 use Rattle.image_write.specs.Written.{setupOf, sizeOf, losesNothing, writtenOf, outputOf}
@@ -22,18 +23,20 @@ use Rattle.lists.proofs.Both.{both}
 pub two-holds : (w : Wall) → losesNothing Two w ≡ true
 unfolding losesNothing
 two-holds [] = refl
-two-holds (p ∷ w) = two-holds w
+two-holds (p ∷ w) = rw (two-keeps (p .profile) (p .values)) (two-holds w)
 
 module _ (form : Form) where
   -- each panel
-  pub first-held : (p : Panel) (w : Wall) → losesNothing form (p ∷ w) ≡ true → (holds form (p .profile) ≡ true) × (losesNothing form w ≡ true)
+  pub first-held : (p : Panel) (w : Wall) → losesNothing form (p ∷ w) ≡ true
+      → (keeps form (p .profile) (p .values) ≡ true) × (losesNothing form w ≡ true)
   unfolding losesNothing
-  first-held p w e = both (holds form (p .profile)) (losesNothing form w) e
+  first-held p w e = both (keeps form (p .profile) (p .values)) (losesNothing form w) e
 
-  pub one-more : (w : Wall) (p : Panel) → losesNothing form w ≡ true → holds form (p .profile) ≡ true → losesNothing form (w ++ p ∷ []) ≡ true
+  pub one-more : (w : Wall) (p : Panel) → losesNothing form w ≡ true → keeps form (p .profile) (p .values) ≡ true
+      → losesNothing form (w ++ p ∷ []) ≡ true
   unfolding losesNothing
   one-more [] p e h = rw h
-  one-more (q ∷ w) p e h = let (a, b) = both (holds form (q .profile)) (losesNothing form w) e in rw (a, one-more w p b h)
+  one-more (q ∷ w) p e h = let (a, b) = both (keeps form (q .profile) (q .values)) (losesNothing form w) e in rw (a, one-more w p b h)
 
   -- where nothing is lost and there is room an image is written, and there alone
   pub is-written : (w : Wall) (out : List ℕ) → losesNothing form w ≡ true → sizeOf form w ≤ length out

@@ -1,15 +1,16 @@
--- The setup image of a wall, in either form. 01, "Setup image, form 1"; 02, A2, and refusal 31.
-use Prim.Native.Nat.{ℕ, _+_, _*_, _/_, _%_}
+-- The setup image of a wall, in either form. 01, "Setup image, form 1"; 02, A2, and refusal 31; A6.
+use Prim.Native.Nat.{ℕ, _+_, _-_, _*_, _/_, _%_}
 use mathlib.Core.Bool.{Bool, true, cond, _&&_}
 use mathlib.Core.List.{List, [], _∷_, _++_, map, flatten}
 use lib.Dec.{leb}
 use lib.ListN.{length}
-use Rattle.settings.specs.Settings.{setCode, byteCount, rowCount, valueCount}
+use Rattle.settings.specs.Settings.{setCode, byteCount, valuesOf, rowCount, valueCount, kindRow, tilingRow}
 use Rattle.forms.specs.declared.Form.{Form}
-use Rattle.forms.specs.Forms.{formByte, headSize, headOf, holds}
+use Rattle.forms.specs.declared.Form.the-variants.{One, Two}
+use Rattle.forms.specs.Forms.{formByte, headSize, headOf, hasField, keeps}
 use Rattle.lists.specs.Lists.{startOf, each, laidOver}
 use Rattle.panels.specs.declared.Panel.{Panel}
-use Rattle.panels.specs.Wall.{Wall, valuesOf}
+use Rattle.panels.specs.Wall.{Wall}
 use Rattle.image_write.specs.declared.Written.{Written}
 use Rattle.image_write.specs.declared.Written.the-variants.{Bytes, WouldLose, NoRoom}
 
@@ -17,12 +18,20 @@ use Rattle.image_write.specs.declared.Written.the-variants.{Bytes, Would
 abbrev pub fieldHead : ℕ
 fieldHead = 2
 
+-- how many the fields of all rows have, and those of the rows that form 1 has no field for
+abbrev pub allFields : ℕ
+allFields = fieldHead * rowCount + valueCount
+
+abbrev pub laterFields : ℕ
+laterFields = fieldHead + byteCount kindRow + (fieldHead + byteCount tilingRow)
+
 -- how many the fields of a record have, the record with its head, and a panel in all, with the two bytes of its start
-abbrev pub fieldsSize : ℕ
-fieldsSize = fieldHead * rowCount + valueCount
+abbrev pub fieldsSize : Form → ℕ
+fieldsSize One = allFields - laterFields
+fieldsSize Two = allFields
 
 unfoldable pub recordSize : Form → ℕ
-recordSize form = headSize form + fieldsSize
+recordSize form = headSize form + fieldsSize form
 
 abbrev pub panelSize : Form → ℕ
 panelSize form = recordSize form + 2
@@ -31,14 +40,18 @@ panelSize form = recordSize form + 2
 abbrev pub field : ℕ → List ℕ → List ℕ
 field row values = setCode row ∷ byteCount row ∷ values
 
--- all eight fields of a panel, by rising code, which is the order of the rows
-unfoldable pub fieldsOf : List ℕ → List (List ℕ)
-fieldsOf values = each (λ row. field row (valuesOf row values)) rowCount
+-- nothing, where the form has no field for the row
+abbrev pub fieldIn : Form → List ℕ → ℕ → List ℕ
+fieldIn form values row = cond (hasField form row) (field row (valuesOf row values)) []
+
+-- all fields of a panel that the form has, by rising code, which is the order of the rows
+unfoldable pub fieldsOf : Form → List ℕ → List (List ℕ)
+fieldsOf form values = each (fieldIn form values) rowCount
 
 -- a record: the head, then fields
 unfoldable pub recordOf : Form → Panel → List ℕ
 unfolding flatten
-recordOf form p = headOf form (p .id .0) (p .group .0) (p .profile) ++ flatten (fieldsOf (p .values))
+recordOf form p = headOf form (p .id .0) (p .group .0) (p .profile) ++ flatten (fieldsOf form (p .values))
 
 -- a start as two bytes, high byte first
 abbrev pub highLow : ℕ → List ℕ
@@ -64,10 +77,10 @@ setupOf form w = imageOf form (recordsOf form w)
 abbrev pub sizeOf : Form → Wall → ℕ
 sizeOf form w = panelSize form * length w + 2
 
--- a form holds all that a wall has: for each panel it has room
+-- a form keeps all that a wall has
 unfoldable pub losesNothing : Form → Wall → Bool
 losesNothing form [] = true
-losesNothing form (p ∷ w) = holds form (p .profile) && losesNothing form w
+losesNothing form (p ∷ w) = keeps form (p .profile) (p .values) && losesNothing form w
 
 -- what writing answers: 31 comes before 19
 unfoldable pub writtenOf : Form → Wall → List ℕ → Written

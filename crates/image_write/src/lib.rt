@@ -4,7 +4,7 @@ mod write;
 ghost use mathlib.Core.Path.{_≡_};
 ghost use Rattle.panels.specs.Wall.{panelsOf};
 ghost use Rattle.panels.specs.WellFormed.{WellFormed};
-ghost use Rattle.image_write.specs.Written.{recordSize, sizeOf, losesNothing, writtenOf, outputOf};
+ghost use Rattle.image_write.specs.Written.{fieldsSize, recordSize, sizeOf, losesNothing, writtenOf, outputOf};
 use forms::Form;
 use panels::Table;
 use settings::ROW_COUNT;
@@ -13,8 +13,11 @@ use settings::VALUE_COUNT;
 // The bytes before a field's values: set code and length.
 const FIELD_HEAD: usize = 2;
 
-// The bytes of all fields of a record.
-const FIELDS_SIZE: usize = FIELD_HEAD * ROW_COUNT + VALUE_COUNT;
+// The bytes of the fields of all rows.
+const ALL_FIELDS: usize = FIELD_HEAD * ROW_COUNT + VALUE_COUNT;
+
+// And of those that form 1 does not have: the kind's, of one value, and the tiling's, of four.
+const LATER_FIELDS: usize = FIELD_HEAD + 1 + (FIELD_HEAD + 4);
 
 // The bytes of a start.
 const START_SIZE: usize = 2;
@@ -29,11 +32,21 @@ pub enum Written {
     NoRoom,
 }
 
+// The bytes of all fields of a record.
+fn fields_size(form: Form) -> usize
+    ensures { λ r. ⌜ r ≡ fieldsSize form ⌝ }
+{
+    match form {
+        Form::One => ALL_FIELDS - LATER_FIELDS,
+        Form::Two => ALL_FIELDS,
+    }
+}
+
 // The bytes of a record with all its fields.
 fn record_size(form: Form) -> usize
     ensures { λ r. ⌜ r ≡ recordSize form ⌝ }
 {
-    forms::head_size(form) + FIELDS_SIZE
+    forms::head_size(form) + fields_size(form)
 }
 
 // The bytes of a table's image.
@@ -53,7 +66,8 @@ pub fn loses_nothing(form: Form, t: Table) -> bool
     while k < t.count {
         let p = t.panels[k];
         let profile = p.profile;
-        if !forms::holds(form, profile) {
+        let values = p.values;
+        if !forms::keeps(form, profile, &values) {
             return false;
         }
         k += 1;

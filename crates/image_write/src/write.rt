@@ -3,11 +3,11 @@ ghost use mathlib.Core.Path.{_≡_};
 ghost use mathlib.Core.List.{flatten};
 ghost use Prim.Native.Nat.{_+_, _*_, _≤_, _<_};
 ghost use lib.ListN.{length};
-ghost use Rattle.settings.specs.Settings.{byteCount, rowCount, valueCount};
+ghost use Rattle.settings.specs.Settings.{byteCount, valuesOf, rowCount, valueCount};
 ghost use Rattle.lists.specs.Lists.{each, laidAt};
-ghost use Rattle.panels.specs.Wall.{valuesOf, panelsOf, mostPanels};
+ghost use Rattle.panels.specs.Wall.{panelsOf, mostPanels};
 ghost use Rattle.panels.specs.WellFormed.{WellFormed};
-ghost use Rattle.image_write.specs.Written.{field, fieldsOf, recordOf, recordsOf, highLow, fieldHead, fieldsSize, recordSize, panelSize};
+ghost use Rattle.image_write.specs.Written.{field, fieldIn, fieldsOf, recordOf, recordsOf, highLow, fieldHead, fieldsSize, recordSize, panelSize};
 ghost use Rattle.forms.specs.Forms.{headSize, headOf};
 use crate::FIELD_HEAD;
 use crate::START_SIZE;
@@ -29,16 +29,28 @@ fn one_field(out: &mut [u8], at: usize, row: usize, values: [u8; VALUE_COUNT])
     bytes::copy(&values[first..first + count], &mut out[at + FIELD_HEAD..]);
 }
 
-// All eight fields, by rising code.
-fn all_fields(out: &mut [u8], at: usize, values: [u8; VALUE_COUNT])
-    requires { ⌜ at + fieldsSize ≤ length (now out) ⌝ }
-    ensures { λ _. ⌜ now (out .exit) ≡ laidAt at (flatten (fieldsOf values)) (now (out .entry)) ⌝ }
+// A row's field where the form has one, and where the next begins.
+fn field_in(form: Form, out: &mut [u8], at: usize, row: usize, values: [u8; VALUE_COUNT]) -> usize
+    requires { ⌜ (row < rowCount) × (at + length (fieldIn form values row) ≤ length (now out)) ⌝ }
+    ensures { λ r. ⌜ r ≡ at + length (fieldIn form values row) ⌝ }
+    ensures { λ _. ⌜ now (out .exit) ≡ laidAt at (fieldIn form values row) (now (out .entry)) ⌝ }
+{
+    if !forms::has_field(form, row) {
+        return at;
+    }
+    one_field(out, at, row, values);
+    at + FIELD_HEAD + settings::byte_count(row)
+}
+
+// All fields that the form has, by rising code.
+fn all_fields(form: Form, out: &mut [u8], at: usize, values: [u8; VALUE_COUNT])
+    requires { ⌜ at + fieldsSize form ≤ length (now out) ⌝ }
+    ensures { λ _. ⌜ now (out .exit) ≡ laidAt at (flatten (fieldsOf form values)) (now (out .entry)) ⌝ }
 {
     let mut next = at;
     let mut row = 0;
     while row < ROW_COUNT {
-        one_field(out, next, row, values);
-        next = next + FIELD_HEAD + settings::byte_count(row);
+        next = field_in(form, out, next, row, values);
         row += 1;
     }
 }
@@ -66,7 +78,7 @@ fn one_record(form: Form, out: &mut [u8], at: usize, p: Panel)
 {
     head(form, out, at, p);
     let values = p.values;
-    all_fields(out, at + forms::head_size(form), values);
+    all_fields(form, out, at + forms::head_size(form), values);
 }
 
 // The records, in table order.

@@ -12,7 +12,10 @@ use Rattle.settings.specs.declared.Profile.{Profile}
 use Rattle.profiles.specs.declared.Numbered.{Numbered}
 use Rattle.profiles.specs.declared.Numbered.the-variants.{Known, Unknown}
 use Rattle.profiles.specs.Numbers.{profileWith}
-use Rattle.settings.proofs.Laws.{fresh-allowed, fresh-count}
+use Rattle.tiling.specs.declared.Kind.{Kind}
+use Rattle.tiling.specs.Kinds.{kindWith, kindNumber}
+use Rattle.settings.specs.Settings.{freshValues, modelIn, kindRow}
+use Rattle.settings.proofs.Laws.{kind-allowed}
 use Rattle.packet.specs.declared.MonitorId.{MonitorId}
 use Rattle.packet.specs.declared.GroupId.{GroupId}
 use Rattle.panels.specs.declared.Panel.{Panel}
@@ -20,11 +23,12 @@ use Rattle.panels.specs.declared.Table.{Table}
 use Rattle.panels.specs.declared.Place.{Place}
 use Rattle.panels.specs.declared.Place.the-variants.{At, Nowhere}
 use Rattle.panels.specs.declared.Refusal.{Refusal}
-use Rattle.panels.specs.declared.Refusal.the-variants.{Nothing, Full, IdZero, IdTaken, GroupZero, UnknownProfile, NoPanel}
+use Rattle.panels.specs.declared.Refusal.the-variants.{Nothing, Full, IdZero, IdTaken, GroupZero, UnknownProfile, NoPanel, UnknownKind}
 use Rattle.panels.specs.Wall.{Wall, blank, freshPanel, tableOf, panelsOf, placeFrom, placeOf, mostPanels}
 use Rattle.panels.specs.Calls.{refusalOf, ifThere, freshOf, addRefusal, added, without, removed}
 use Rattle.panels.specs.WellFormed.{GoodPanel, Absent, GoodWall, WellFormed}
 use Rattle.panels.proofs.Laws.{panels-of-table}
+use Rattle.panels.proofs.Values.{fresh-in-range, with-in-range}
 
 pub formed : (w : Wall) → length w ≤ mostPanels → GoodWall w → WellFormed (tableOf w)
 formed w few good =
@@ -78,9 +82,11 @@ good-at [] good k h = absurd (not-suc-le-zero h)
 good-at (p ∷ w) (g, a, good) zero h = g
 good-at (p ∷ w) (g, a, good) (suc k) h = good-at w good k (le-of-suc-le-suc h)
 
-pub fresh-good : (i : MonitorId) (g : GroupId) (profile : Profile) → (i .0 ≡ 0 → ⊥) → (g .0 ≡ 0 → ⊥) → GoodPanel (freshPanel i g profile)
-fresh-good i g profile named grouped =
-    record { named = named; grouped = grouped; full = fresh-count profile; inRange = λ row h. fresh-allowed profile h }
+pub fresh-good : (i : MonitorId) (g : GroupId) (profile : Profile) (kind : Kind) → (i .0 ≡ 0 → ⊥) → (g .0 ≡ 0 → ⊥) → GoodPanel (freshPanel i g profile kind)
+fresh-good i g profile kind named grouped =
+    let fresh = modelIn profile (freshValues profile) in
+    let i = with-in-range (fresh-in-range profile) kindRow (kindNumber kind ∷ []) (kind-allowed fresh kind) (λ _. refl) in
+    record { named = named; grouped = grouped; full = i .full; inRange = i .rows }
 
 pub empty-formed : WellFormed (tableOf [])
 empty-formed = formed [] (omega arith) tt
@@ -92,9 +98,9 @@ pub record MayAdd (w : Wall) (i : MonitorId) (g : GroupId) : Type 0 where
   pub new : placeOf i w ≡ Nowhere
   pub grouped : g .0 ≡ 0 → ⊥
 
-pub may-add : (w : Wall) (i : MonitorId) (g : GroupId) (n : ℕ) → addRefusal w i g n ≡ Nothing → MayAdd w i g
+pub may-add : (w : Wall) (i : MonitorId) (g : GroupId) (n k : ℕ) → addRefusal w i g n k ≡ Nothing → MayAdd w i g
 unfolding addRefusal
-may-add w i g n e = go (leb mostPanels (length w)) (eqb (i .0) 0) (placeOf i w) (eqb (g .0) 0) _ refl refl refl refl e
+may-add w i g n k e = go (leb mostPanels (length w)) (eqb (i .0) 0) (placeOf i w) (eqb (g .0) 0) _ refl refl refl refl e
   where
     go : (a b : Bool) (q : Place) (c : Bool) (r : Refusal) → leb mostPanels (length w) ≡ a → eqb (i .0) 0 ≡ b → placeOf i w ≡ q → eqb (g .0) 0 ≡ c
         → cond a Full (cond b IdZero (ifThere q IdTaken (cond c GroupZero r))) ≡ Nothing → MayAdd w i g
@@ -106,25 +112,26 @@ may-add w i g n e = go (leb mostPanels (length w)) (eqb (i .0) 0) (placeOf i w) 
         record { room = leb-false _ _ ea; named = eqb-false _ _ eb; new = eq; grouped = eqb-false _ _ ec }
 
 -- a panel more, or none
-good-more : (w : Wall) (i : MonitorId) (g : GroupId) (numbered : Numbered) → length w ≤ mostPanels → GoodWall w → MayAdd w i g
-    → WellFormed (tableOf (w ++ freshOf numbered i g))
-good-more w i g (Known profile) few good m =
-    formed _ (simp length-append (omega arith)) (good-snoc w _ good (fresh-good i g profile (m .named) (m .grouped)) (nowhere-absent i 0 w (m .new)))
-good-more w i g Unknown few good m = rw append-nil (formed w few good)
+good-more : (w : Wall) (i : MonitorId) (g : GroupId) (numbered : Numbered) (kind : Kind) → length w ≤ mostPanels → GoodWall w → MayAdd w i g
+    → WellFormed (tableOf (w ++ freshOf numbered kind i g))
+good-more w i g (Known profile) kind few good m =
+    formed _ (simp length-append (omega arith)) (good-snoc w _ good (fresh-good i g profile kind (m .named) (m .grouped)) (nowhere-absent i 0 w (m .new)))
+good-more w i g Unknown kind few good m = rw append-nil (formed w few good)
 
-good-added : (w : Wall) (i : MonitorId) (g : GroupId) (n : ℕ) (r : Refusal) → length w ≤ mostPanels → GoodWall w → addRefusal w i g n ≡ r
-    → WellFormed (tableOf (cond (eqb (refusalOf r) 0) (w ++ freshOf (profileWith n) i g) w))
-good-added w i g n Nothing few good e = good-more w i g (profileWith n) few good (may-add w i g n e)
-good-added w i g n Full few good e = formed w few good
-good-added w i g n IdZero few good e = formed w few good
-good-added w i g n IdTaken few good e = formed w few good
-good-added w i g n GroupZero few good e = formed w few good
-good-added w i g n UnknownProfile few good e = formed w few good
-good-added w i g n NoPanel few good e = formed w few good
+good-added : (w : Wall) (i : MonitorId) (g : GroupId) (n k : ℕ) (r : Refusal) → length w ≤ mostPanels → GoodWall w → addRefusal w i g n k ≡ r
+    → WellFormed (tableOf (cond (eqb (refusalOf r) 0) (w ++ freshOf (profileWith n) (kindWith k) i g) w))
+good-added w i g n k Nothing few good e = good-more w i g (profileWith n) (kindWith k) few good (may-add w i g n k e)
+good-added w i g n k Full few good e = formed w few good
+good-added w i g n k IdZero few good e = formed w few good
+good-added w i g n k IdTaken few good e = formed w few good
+good-added w i g n k GroupZero few good e = formed w few good
+good-added w i g n k UnknownProfile few good e = formed w few good
+good-added w i g n k NoPanel few good e = formed w few good
+good-added w i g n k UnknownKind few good e = formed w few good
 
-pub added-formed : {t : Table} → WellFormed t → (i : MonitorId) (g : GroupId) (n : ℕ) → WellFormed (tableOf (added (panelsOf t) i g n))
+pub added-formed : {t : Table} → WellFormed t → (i : MonitorId) (g : GroupId) (n k : ℕ) → WellFormed (tableOf (added (panelsOf t) i g n k))
 unfolding added
-added-formed f i g n = good-added _ i g n _ (f .few) (f .good) refl
+added-formed f i g n k = good-added _ i g n k _ (f .few) (f .good) refl
 
 good-removed : (w : Wall) (q : Place) → length w ≤ mostPanels → GoodWall w → WellFormed (tableOf (without q w))
 good-removed w Nowhere few good = formed w few good

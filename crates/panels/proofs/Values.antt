@@ -1,4 +1,4 @@
--- A panel's 15 values, row by row. Assumes nothing.
+-- A panel's 20 values, row by row. Assumes nothing.
 use mathlib.Core.Path.{_≡_, refl, sym, ap, _∙_}
 use mathlib.Core.Bool.{Bool, true, false}
 use mathlib.Core.List.{List, flatten}
@@ -8,14 +8,15 @@ use native.Mathlib.Nat.{eq-or-lt-of-le}
 use native.Mathlib.Omega.{arith}
 use borrow.Author.Tests.{ltb-true, ltb-false, eqb-true, eqb-false}
 use lib.Dec.{ltb, eqb}
-use lib.ListN.{length, take, length-take, length-drop}
+use lib.ListN.{length, getD, take, length-take, length-drop}
 use lib.Seq.{take-add, take-all}
 use Rattle.settings.specs.declared.Profile.{Profile}
-use Rattle.settings.specs.Settings.{settings, allowedByRow, byteCount, place, allowedFor, freshValues, valuesWith, valueCount, rowCount}
-use Rattle.settings.proofs.Laws.{place-fits, places-apart, allowed-many, fresh-allowed, fresh-count}
+use Rattle.tiling.specs.Kinds.{kindWith}
+use Rattle.settings.specs.declared.Model.{Model}
+use Rattle.settings.specs.Settings.{settings, allowedByRow, byteCount, place, allowedFor, freshValues, valuesOf, valuesWith, kindIn, modelIn, valueCount, rowCount, kindRow, tilingRow}
+use Rattle.settings.proofs.Laws.{place-fits, places-apart, allowed-many, fresh-allowed, fresh-count, kind-free}
 use Rattle.lists.proofs.Each.{alike}
 use Rattle.lists.proofs.Laid.{length-laid, laid-itself, behind-laid, laid-own, ahead-of-laid}
-use Rattle.panels.specs.Wall.{valuesOf}
 
 -- the values of a row are as many as it has
 pub length-values : (row : ℕ) (values : List ℕ) → length values ≡ valueCount → length (valuesOf row values) ≡ byteCount row
@@ -49,7 +50,7 @@ module _ (row : ℕ) (vs values : List ℕ) (n : length vs ≡ byteCount row) (f
       go true e = below (ltb-true r row e)
       go false e = ⊎-elim (λ same. absurd (ne (sym same))) above (eq-or-lt-of-le (ltb-false r row e))
 
--- 15 values are known by their rows
+-- 20 values are known by their rows
 next-place : {row : ℕ} → row < rowCount → place (suc row) ≡ place row + byteCount row
 unfolding settings allowedByRow flatten
 next-place h = alike (λ k. place (suc k)) (λ k. place k + byteCount k) rowCount refl h
@@ -69,21 +70,40 @@ by-rows v w ev ew same =
     let e = first-rows v w same rowCount (omega arith) in
     sym (take-all (place rowCount) v (omega (arith, all-places))) ∙ e ∙ take-all (place rowCount) w (omega (arith, all-places))
 
--- values in range stay so
+-- values in range stay so: what is stored in another row leaves the kind, and a kind is stored only over a fresh tiling, which
+-- stands in a wall of every kind
 pub record InRange (profile : Profile) (values : List ℕ) : Type 0 where
   pub full : length values ≡ valueCount
-  pub rows : (row : ℕ) → row < rowCount → allowedFor profile row (valuesOf row values) ≡ true
+  pub rows : (row : ℕ) → row < rowCount → allowedFor (modelIn profile values) row (valuesOf row values) ≡ true
 
 pub fresh-in-range : (profile : Profile) → InRange profile (freshValues profile)
-fresh-in-range profile = record { full = fresh-count profile; rows = λ row h. fresh-allowed profile h }
+fresh-in-range profile = record { full = fresh-count profile; rows = λ row h. fresh-allowed (modelIn profile (freshValues profile)) h }
 
-pub with-in-range : {profile : Profile} {values : List ℕ} → InRange profile values → (row : ℕ) (vs : List ℕ) → allowedFor profile row vs ≡ true
-    → InRange profile (valuesWith row vs values)
-with-in-range {profile} {values} i row vs a = record { full = length-with row vs values n (i .full); rows = λ r h. go r h (eqb r row) refl }
+abbrev pub FreshTiling : Profile → List ℕ → Type 0
+FreshTiling profile values = valuesOf tilingRow values ≡ valuesOf tilingRow (freshValues profile)
+
+pub with-in-range : {profile : Profile} {values : List ℕ} → InRange profile values → (row : ℕ) (vs : List ℕ) → allowedFor (modelIn profile values) row vs ≡ true
+    → (row ≡ kindRow → FreshTiling profile values) → InRange profile (valuesWith row vs values)
+with-in-range {profile} {values} i row vs a fresh = record { full = length-with row vs values n (i .full); rows = λ r h. go r h (eqb r row) (eqb row kindRow) refl refl }
   where
     n : length vs ≡ byteCount row
-    n = allowed-many profile row vs a
+    n = allowed-many (modelIn profile values) row vs a
 
-    go : (r : ℕ) → r < rowCount → (t : Bool) → eqb r row ≡ t → allowedFor profile r (valuesOf r (valuesWith row vs values)) ≡ true
-    go r h true e = let same = eqb-true r row e in rw (same, set-row row vs values n (i .full)) a
-    go r h false e = rw (other-row row vs values n (i .full) r (eqb-false r row e)) (i .rows r h)
+    after : Model
+    after = modelIn profile (valuesWith row vs values)
+
+    same-kind : (row ≡ kindRow → ⊥) → kindIn (valuesWith row vs values) ≡ kindIn values
+    same-kind ne = ap (λ (l : List ℕ). kindWith (getD l 0 0)) (other-row row vs values n (i .full) kindRow (λ e. ne (sym e)))
+
+    kept : (r : ℕ) → r < rowCount → row ≡ kindRow → (t : Bool) → eqb r tilingRow ≡ t → allowedFor after r (valuesOf r values) ≡ true
+    kept r h e true s = let same = eqb-true r tilingRow s in rw (same, fresh e) (fresh-allowed after (unfold settings in omega arith))
+    kept r h e false s = kind-free after (modelIn profile values) (valuesOf r values) refl (eqb-false r tilingRow s) ∙ i .rows r h
+
+    go : (r : ℕ) → r < rowCount → (t k : Bool) → eqb r row ≡ t → eqb row kindRow ≡ k → allowedFor after r (valuesOf r (valuesWith row vs values)) ≡ true
+    go r h true false e ek = let same = eqb-true r row e in rw (same-kind (eqb-false row kindRow ek), same, set-row row vs values n (i .full)) a
+    go r h false false e ek = rw (same-kind (eqb-false row kindRow ek), other-row row vs values n (i .full) r (eqb-false r row e)) (i .rows r h)
+    go r h true true e ek =
+        let same = eqb-true r row e in
+        rw (same, set-row row vs values n (i .full))
+        (kind-free after (modelIn profile values) vs refl (λ t. omega (arith, eqb-true row kindRow ek)) ∙ a)
+    go r h false true e ek = rw (other-row row vs values n (i .full) r (eqb-false r row e)) (kept r h (eqb-true row kindRow ek) (eqb r tilingRow) refl)

@@ -1,9 +1,12 @@
--- Add and remove. 01, "Table calls and numbers": lower numbers first, and a refusal changes nothing. 02, A1: a profile, and 5.
+-- Add and remove. 01, "Table calls and numbers": lower numbers first, and a refusal changes nothing. 02, A1
+-- and A6: a profile and a kind, 5 and 7.
 use Prim.Native.Nat.{ℕ, suc}
 use mathlib.Core.Bool.{cond}
 use mathlib.Core.List.{[], _∷_, _++_}
 use lib.Dec.{eqb, leb}
 use lib.ListN.{length, take, drop}
+use Rattle.tiling.specs.declared.Kind.{Kind}
+use Rattle.tiling.specs.Kinds.{isKind, kindWith}
 use Rattle.profiles.specs.declared.Numbered.{Numbered}
 use Rattle.profiles.specs.Numbers.{profileWith, ifKnown}
 use Rattle.packet.specs.declared.MonitorId.{MonitorId}
@@ -11,7 +14,7 @@ use Rattle.packet.specs.declared.GroupId.{GroupId}
 use Rattle.panels.specs.declared.Place.{Place}
 use Rattle.panels.specs.declared.Place.the-variants.{At, Nowhere}
 use Rattle.panels.specs.declared.Refusal.{Refusal}
-use Rattle.panels.specs.declared.Refusal.the-variants.{Nothing, Full, IdZero, IdTaken, GroupZero, UnknownProfile, NoPanel}
+use Rattle.panels.specs.declared.Refusal.the-variants.{Nothing, Full, IdZero, IdTaken, GroupZero, UnknownProfile, NoPanel, UnknownKind}
 use Rattle.panels.specs.declared.Changed.{Changed}
 use Rattle.panels.specs.Wall.{Wall, freshPanel, tableOf, placeOf, mostPanels}
 
@@ -24,27 +27,29 @@ refusalOf IdTaken = 3
 refusalOf GroupZero = 4
 refusalOf UnknownProfile = 5
 refusalOf NoPanel = 6
+refusalOf UnknownKind = 7
 
 abbrev pub ifThere : {A : Type 0} → Place → A → A → A
 ifThere (At k) a b = a
 ifThere Nowhere a b = b
 
-unfoldable pub addRefusal : Wall → MonitorId → GroupId → ℕ → Refusal
-addRefusal w i g n =
+unfoldable pub addRefusal : Wall → MonitorId → GroupId → ℕ → ℕ → Refusal
+addRefusal w i g n k =
     cond (leb mostPanels (length w)) Full
     (cond (eqb (i .0) 0) IdZero
-    (ifThere (placeOf i w) IdTaken (cond (eqb (g .0) 0) GroupZero (ifKnown (profileWith n) (λ profile. Nothing) UnknownProfile))))
+    (ifThere (placeOf i w) IdTaken
+    (cond (eqb (g .0) 0) GroupZero (ifKnown (profileWith n) (λ profile. cond (isKind k) Nothing UnknownKind) UnknownProfile))))
 
--- the fresh panel of a profile, if there is one
-abbrev pub freshOf : Numbered → MonitorId → GroupId → Wall
-freshOf numbered i g = ifKnown numbered (λ profile. freshPanel i g profile ∷ []) []
+-- the fresh panel of a profile and a kind, if there is such a profile
+abbrev pub freshOf : Numbered → Kind → MonitorId → GroupId → Wall
+freshOf numbered kind i g = ifKnown numbered (λ profile. freshPanel i g profile kind ∷ []) []
 
 -- that panel at the end, unless it is refused
-unfoldable pub added : Wall → MonitorId → GroupId → ℕ → Wall
-added w i g n = cond (eqb (refusalOf (addRefusal w i g n)) 0) (w ++ freshOf (profileWith n) i g) w
+unfoldable pub added : Wall → MonitorId → GroupId → ℕ → ℕ → Wall
+added w i g n k = cond (eqb (refusalOf (addRefusal w i g n k)) 0) (w ++ freshOf (profileWith n) (kindWith k) i g) w
 
-abbrev pub addedTo : Wall → MonitorId → GroupId → ℕ → Changed
-addedTo w i g n = record { refusal = addRefusal w i g n; table = tableOf (added w i g n) }
+abbrev pub addedTo : Wall → MonitorId → GroupId → ℕ → ℕ → Changed
+addedTo w i g n k = record { refusal = addRefusal w i g n k; table = tableOf (added w i g n k) }
 
 -- later panels move up
 abbrev pub without : Place → Wall → Wall

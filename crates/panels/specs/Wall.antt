@@ -3,10 +3,13 @@ use Prim.Native.Nat.{ℕ, suc, _-_}
 use mathlib.Core.Bool.{cond}
 use mathlib.Core.List.{List, [], _∷_, _++_}
 use lib.Dec.{eqb}
-use lib.ListN.{length, take, drop, replicate}
+use lib.ListN.{length, take, replicate}
 use Rattle.settings.specs.declared.Profile.{Profile}
 use Rattle.settings.specs.declared.Profile.the-variants.{General, Phoenix}
-use Rattle.settings.specs.Settings.{byteCount, place, freshValues, valueCount, videoRow}
+use Rattle.tiling.specs.declared.Kind.{Kind}
+use Rattle.tiling.specs.Kinds.{kindNumber}
+use Rattle.settings.specs.declared.Model.{Model}
+use Rattle.settings.specs.Settings.{freshValues, valuesOf, valuesWith, modelIn, valueCount, kindRow, videoRow}
 use Rattle.profiles.specs.Video.{videoIn}
 use Rattle.packet.specs.declared.MonitorId.{MonitorId}
 use Rattle.packet.specs.declared.GroupId.{GroupId}
@@ -25,13 +28,14 @@ Wall = List Panel
 abbrev pub mostPanels : ℕ
 mostPanels = 32
 
--- a panel before anything is set
-abbrev pub freshPanel : MonitorId → GroupId → Profile → Panel
-freshPanel i g profile = record { id = i; group = g; profile = profile; values = freshValues profile }
+-- a panel before anything is set; 02, A1 and A6: profile and kind are given when it is added
+abbrev pub freshPanel : MonitorId → GroupId → Profile → Kind → Panel
+freshPanel i g profile kind =
+    record { id = i; group = g; profile = profile; values = valuesWith kindRow (kindNumber kind ∷ []) (freshValues profile) }
 
--- the values of a row among a panel's
-abbrev pub valuesOf : ℕ → List ℕ → List ℕ
-valuesOf row values = take (byteCount row) (drop (place row) values)
+-- what its ranges go by
+abbrev pub modelOf : Panel → Model
+modelOf p = modelIn (p .profile) (p .values)
 
 -- a Phoenix panel's video, with its tint's sign; of another panel nothing is said
 abbrev pub videoBy : Profile → List ℕ → Seen

@@ -1,21 +1,21 @@
 -- Tables come only from the empty one by add, remove, image reading and bursts. 01, "The settings": every setting of every
--- panel is in its allowed range at all times; 02, A1: in that of its own profile.
+-- panel is in its allowed range at all times; 02, A1 and A6: in that of its own profile and kind, so that its position is one of its wall.
 use Prim.Native.Nat.{ℕ, _≤_, _<_}
 use mathlib.Core.Bool.{true}
 use mathlib.Core.List.{[], _∷_}
 use mathlib.Core.Path.{_≡_}
 use lib.ListN.{length}
-use Rattle.settings.specs.Settings.{allowedFor, rowCount, valueCount}
+use Rattle.settings.specs.Settings.{allowedFor, valuesOf, rowCount, valueCount}
 use Rattle.packet.specs.declared.MonitorId.{MonitorId}
 use Rattle.panels.specs.declared.Panel.{Panel}
 use Rattle.panels.specs.declared.Table.{Table}
-use Rattle.panels.specs.Wall.{Wall, valuesOf, tableOf, panelsOf, mostPanels}
+use Rattle.panels.specs.Wall.{Wall, modelOf, tableOf, panelsOf, mostPanels}
 
 pub record GoodPanel (p : Panel) : Type 0 where
   pub named : p .id .0 ≡ 0 → ⊥
   pub grouped : p .group .0 ≡ 0 → ⊥
   pub full : length (p .values) ≡ valueCount
-  pub inRange : (row : ℕ) → row < rowCount → allowedFor (p .profile) row (valuesOf row (p .values)) ≡ true
+  pub inRange : (row : ℕ) → row < rowCount → allowedFor (modelOf p) row (valuesOf row (p .values)) ≡ true
 
 -- no panel has the ID
 abbrev pub Absent : MonitorId → Wall → Type 0

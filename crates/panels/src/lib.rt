@@ -2,7 +2,7 @@
 ghost use mathlib.Core.Path.{_≡_};
 ghost use mathlib.Core.List.{[]};
 ghost use Prim.Native.Nat.{_<_};
-ghost use Rattle.panels.specs.Wall.{freshPanel, blank, tableOf, panelsOf, placeOf, videoOf};
+ghost use Rattle.panels.specs.Wall.{freshPanel, modelOf, blank, tableOf, panelsOf, placeOf, videoOf};
 ghost use Rattle.panels.specs.Addressed.{reaches};
 ghost use Rattle.panels.specs.Calls.{refusalOf, addedTo, without, removedFrom};
 ghost use Rattle.panels.specs.WellFormed.{WellFormed};
@@ -10,8 +10,11 @@ use packet::GroupId;
 use packet::MonitorId;
 use profiles::Numbered;
 use profiles::Video;
+use settings::KIND_ROW;
+use settings::Model;
 use settings::Profile;
 use settings::VALUE_COUNT;
+use tiling::Kind;
 
 // How many panels a table has places for.
 pub const MOST_PANELS: usize = 32;
@@ -43,6 +46,7 @@ pub enum Refusal {
     GroupZero,
     UnknownProfile,
     NoPanel,
+    UnknownKind,
 }
 
 // A panel's video as a caller sees it: with the tint's sign, if it is a Phoenix panel's.
@@ -109,10 +113,12 @@ pub fn addresses(id: MonitorId, group: GroupId, p: Panel) -> bool
     group.0 != 255 && p.group.0 == group.0
 }
 
-fn fresh_panel(id: MonitorId, group: GroupId, profile: Profile) -> Panel
-    ensures { λ r. ⌜ r ≡ freshPanel id group profile ⌝ }
+fn fresh_panel(id: MonitorId, group: GroupId, profile: Profile, kind: Kind) -> Panel
+    ensures { λ r. ⌜ r ≡ freshPanel id group profile kind ⌝ }
 {
-    let values = settings::fresh(profile);
+    let mut values = settings::fresh(profile);
+    let number = [tiling::number_of(kind)];
+    settings::store(KIND_ROW, &number, &mut values);
     Panel {
         id,
         group,
@@ -121,10 +127,10 @@ fn fresh_panel(id: MonitorId, group: GroupId, profile: Profile) -> Panel
     }
 }
 
-// A fresh panel at the end, with the profile that has this number.
-pub fn add(t: Table, id: MonitorId, group: GroupId, number: u8) -> Changed
+// A fresh panel at the end, with the profile that has the first of two numbers and the kind that has the second.
+pub fn add(t: Table, id: MonitorId, group: GroupId, number: u8, kind: u8) -> Changed
     requires { ⌜ WellFormed t ⌝ }
-    ensures { λ r. ⌜ r ≡ addedTo (panelsOf t) id group number ⌝ }
+    ensures { λ r. ⌜ r ≡ addedTo (panelsOf t) id group number kind ⌝ }
 {
     let n = t.count;
     if MOST_PANELS <= n {
@@ -144,8 +150,11 @@ pub fn add(t: Table, id: MonitorId, group: GroupId, number: u8) -> Changed
     let Numbered::Known(profile) = numbered else {
         return refused(t, Refusal::UnknownProfile);
     };
+    if !tiling::is_kind(kind) {
+        return refused(t, Refusal::UnknownKind);
+    }
     let mut next = t;
-    let p = fresh_panel(id, group, profile);
+    let p = fresh_panel(id, group, profile, tiling::with_number(kind));
     next.panels[n] = p;
     next.count = n + 1;
     Changed {
@@ -166,6 +175,7 @@ pub fn refusal_number(r: Refusal) -> u8
         Refusal::GroupZero => 4,
         Refusal::UnknownProfile => 5,
         Refusal::NoPanel => 6,
+        Refusal::UnknownKind => 7,
     }
 }
 
@@ -203,6 +213,15 @@ pub fn remove(t: Table, id: MonitorId) -> Changed
     }
 }
 
+// What a panel's ranges go by.
+pub fn model_of(p: Panel) -> Model
+    ensures { λ r. ⌜ r ≡ modelOf p ⌝ }
+{
+    let profile = p.profile;
+    let values = p.values;
+    settings::model_in(profile, &values)
+}
+
 // A Phoenix panel's video.
 pub fn video_of(p: Panel) -> Seen
     ensures { λ r. ⌜ r ≡ videoOf p ⌝ }
@@ -212,6 +231,6 @@ pub fn video_of(p: Panel) -> Seen
         return Seen::General;
     };
     let v = p.values;
-    let video = profiles::video_in([v[1], v[2], v[3], v[4], v[5], v[6], v[7]]);
+    let video = profiles::video_in([v[6], v[7], v[8], v[9], v[10], v[11], v[12]]);
     Seen::Phoenix(video)
 }

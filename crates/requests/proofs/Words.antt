@@ -6,7 +6,7 @@ use Prim.Native.Nat.{ℕ, _+_, _≤_, _<_}
 use native.Mathlib.Omega.{arith}
 use lib.Dec.{eqb}
 use lib.ListN.{length, getD, drop}
-use Rattle.settings.specs.declared.Profile.{Profile}
+use Rattle.settings.specs.declared.Model.{Model}
 use Rattle.settings.specs.Settings.{foundBy, getCode, allowedFor, rowCount, mostValues}
 use Rattle.settings.specs.declared.Found.{Found}
 use Rattle.settings.specs.declared.Found.the-variants.{Set, Get, Nothing as NoSetting}
@@ -34,25 +34,25 @@ control-two w (x ∷ []) h = absurd (omega arith)
 control-two w (x ∷ y ∷ []) h = rw (and-true (eqb y (controlByte w)))
 control-two w (x ∷ y ∷ z ∷ d) h = absurd (omega arith)
 
-pub report-some : (profile : Profile) (k : ℕ) (d : List ℕ) → 0 < length d
-    → isReport profile k d ≡ eqb (getD d 0 0) (getCode k) && allowedFor profile k (drop 1 d)
+pub report-some : (model : Model) (k : ℕ) (d : List ℕ) → 0 < length d
+    → isReport model k d ≡ eqb (getD d 0 0) (getCode k) && allowedFor model k (drop 1 d)
 unfolding isReport
-report-some profile k [] h = absurd (omega arith)
-report-some profile k (c ∷ values) h = refl
+report-some model k [] h = absurd (omega arith)
+report-some model k (c ∷ values) h = refl
 
-pub word-found : (profile : Profile) (code : ℕ) (d : List ℕ) (f : Found)
-    → isControl NackWord d ≡ false → isControl NavWord d ≡ false → foundBy code ≡ f → wordIn profile code d ≡ endedBy profile f d
+pub word-found : (model : Model) (code : ℕ) (d : List ℕ) (f : Found)
+    → isControl NackWord d ≡ false → isControl NavWord d ≡ false → foundBy code ≡ f → wordIn model code d ≡ endedBy model f d
 unfolding wordIn
-word-found profile code d f nack nav e = rw (nack, nav, e)
+word-found model code d f nack nav e = rw (nack, nav, e)
 
 abbrev Fits : List ℕ → Type 0
 Fits d = (1 ≤ length d) × (length d ≤ mostValues + 1)
 
-report-fits : (profile : Profile) (row : ℕ) (d : List ℕ) → row < rowCount → isReport profile row d ≡ true → Fits d
+report-fits : (model : Model) (row : ℕ) (d : List ℕ) → row < rowCount → isReport model row d ≡ true → Fits d
 unfolding isReport
-report-fits profile row [] h e = absurd (false≢true e)
-report-fits profile row (c ∷ values) h e =
-    let n = allowed-many profile row values (both (eqb c (getCode row)) _ e .1) in
+report-fits model row [] h e = absurd (false≢true e)
+report-fits model row (c ∷ values) h e =
+    let n = allowed-many model row values (both (eqb c (getCode row)) _ e .1) in
     let most = byte-count-few h in
     (omega arith, omega arith)
 
@@ -61,10 +61,10 @@ only-report true h e = refl
 only-report false h e = absurd (h e)
 
 -- Data that is taken for a report has the code and at most seven values.
-pub report-length : (profile : Profile) (code : ℕ) (d : List ℕ) → wordIn profile code d ≡ Report → Fits d
+pub report-length : (model : Model) (code : ℕ) (d : List ℕ) → wordIn model code d ≡ Report → Fits d
 unfolding wordIn endedBy
-report-length profile code d e =
-    by-found (foundBy code) (found-right code) (by-word (isControl NackWord d) (isControl NavWord d) (endedBy profile (foundBy code) d) e)
+report-length model code d e =
+    by-found (foundBy code) (found-right code) (by-word (isControl NackWord d) (isControl NavWord d) (endedBy model (foundBy code) d) e)
   where
     by-word : (a b : Bool) (s : Said) → cond a Nack (cond b Nav s) ≡ Report → s ≡ Report
     by-word true b s e = let z : _≡_ {A = ℕ} 0 1 = cc in absurd (omega arith)
@@ -75,7 +75,7 @@ report-length profile code d e =
     no-ack true e = let z : _≡_ {A = ℕ} 0 1 = cc in omega arith
     no-ack false e = let z : _≡_ {A = ℕ} 0 1 = cc in omega arith
 
-    by-found : (f : Found) → IsFound code f → endedBy profile f d ≡ Report → Fits d
+    by-found : (f : Found) → IsFound code f → endedBy model f d ≡ Report → Fits d
     by-found (Set row) h e = absurd (no-ack (isControl AckWord d) e)
-    by-found (Get row) h e = report-fits profile row d (h .0) (only-report (isReport profile row d) (λ z. let y : _≡_ {A = ℕ} 0 1 = cc in omega arith) e)
+    by-found (Get row) h e = report-fits model row d (h .0) (only-report (isReport model row d) (λ z. let y : _≡_ {A = ℕ} 0 1 = cc in omega arith) e)
     by-found NoSetting h e = let z : _≡_ {A = ℕ} 0 1 = cc in absurd (omega arith)

@@ -1,4 +1,5 @@
--- A request and its packet. 01, "Host side"; 02, A1: the profile of the panel that it asks comes with it; A5: power off.
+-- A request and its packet. 01, "Host side"; 02, A1 and A6: the profile and the kind of the panel that it asks come
+-- with it; A5: power off.
 use Prim.Native.Nat.{ℕ}
 use mathlib.Core.Bool.{Bool, false, not, _&&_}
 use mathlib.Core.List.{List, _∷_}
@@ -6,7 +7,10 @@ use lib.ListN.{take}
 use lib.Dec.{leb, eqb}
 use Rattle.lists.specs.Lists.{same}
 use Rattle.settings.specs.declared.Profile.the-variants.{Phoenix}
-use Rattle.settings.specs.Settings.{foundBy, setCode, byteCount, allowedFor, mostValues, powerRow, videoRow, off}
+use Rattle.tiling.specs.declared.Kind.the-variants.{FiveByFive}
+use Rattle.tiling.specs.Kinds.{largest}
+use Rattle.settings.specs.Settings.{foundBy, setCode, byteCount, allowedFor, filled, mostValues, powerRow, videoRow, off}
+use Rattle.settings.specs.declared.Model.{Model}
 use Rattle.profiles.specs.declared.Video.{Video}
 use Rattle.profiles.specs.Video.{bytesOf}
 use Rattle.settings.specs.declared.Found.{Found}
@@ -27,18 +31,22 @@ requestData r = r .code ∷ valuesOf r
 unfoldable pub requestPacket : Request → List ℕ
 requestPacket r = packetOf (r .id) (r .group) (requestData r)
 
--- the set of a Phoenix panel's video
+-- the set of a Phoenix panel's video, for which the kind does not count
 unfoldable pub videoRequest : MonitorId → GroupId → Video → Request
 videoRequest i g v =
-    record { profile = Phoenix; id = i; group = g; code = setCode videoRow; values = bytesOf v; count = byteCount videoRow }
+    record { model = record { profile = Phoenix; kind = FiveByFive }; id = i; group = g; code = setCode videoRow; values = bytesOf v; count = byteCount videoRow }
 
 -- power off: the set 0x18 with the one value 1
 unfoldable pub isPowerOff : Request → Bool
 isPowerOff r = same (requestData r) (setCode powerRow ∷ off)
 
+-- what it sets may be held: where a tiling's byte 0 leaves the wall open, in the largest wall of the kind
+abbrev pub maySet : Model → ℕ → List ℕ → Bool
+maySet model row vs = allowedFor model row (filled row (largest (model .kind)) vs)
+
 -- a set to a group 0 to 254 with allowed values; a get, which has no values, where an answer is due
 unfoldable pub isTaken : Request → Found → Bool
-isTaken r (Set row) = not (eqb (r .group .0) 255) && allowedFor (r .profile) row (valuesOf r)
+isTaken r (Set row) = not (eqb (r .group .0) 255) && maySet (r .model) row (valuesOf r)
 isTaken r (Get row) = eqb (r .count) 0 && isHeard (r .id) (r .group)
 isTaken r Nothing = false
 

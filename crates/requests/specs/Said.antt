@@ -5,7 +5,7 @@ use mathlib.Core.Bool.{Bool, false, cond, _&&_}
 use mathlib.Core.List.{List, [], _∷_}
 use lib.Dec.{eqb}
 use Rattle.lists.specs.Lists.{same}
-use Rattle.settings.specs.declared.Profile.{Profile}
+use Rattle.settings.specs.declared.Model.{Model}
 use Rattle.settings.specs.Settings.{foundBy, getCode, allowedFor}
 use Rattle.settings.specs.declared.Found.{Found}
 use Rattle.settings.specs.declared.Found.the-variants.{Set, Get, Nothing as NoSetting}
@@ -19,17 +19,17 @@ use Rattle.requests.specs.declared.Said.the-variants.{Ack, Nack, Nav, Re
 unfoldable pub isControl : Control → List ℕ → Bool
 isControl word d = same d (controlData word)
 
--- a report of row k: its get code, then as many values as it has, each allowed by the profile of the panel that was asked
-unfoldable pub isReport : Profile → ℕ → List ℕ → Bool
-isReport profile k [] = false
-isReport profile k (c ∷ values) = eqb c (getCode k) && allowedFor profile k values
+-- a report of row k: its get code, then as many values as it has, allowed by the model of the panel that was asked
+unfoldable pub isReport : Model → ℕ → List ℕ → Bool
+isReport model k [] = false
+isReport model k (c ∷ values) = eqb c (getCode k) && allowedFor model k values
 
 -- an ACK ends a set, a report a get
-unfoldable pub endedBy : Profile → Found → List ℕ → Said
-endedBy profile (Set row) d = cond (isControl AckWord d) Ack Nothing
-endedBy profile (Get row) d = cond (isReport profile row d) Report Nothing
-endedBy profile NoSetting d = Nothing
+unfoldable pub endedBy : Model → Found → List ℕ → Said
+endedBy model (Set row) d = cond (isControl AckWord d) Ack Nothing
+endedBy model (Get row) d = cond (isReport model row d) Report Nothing
+endedBy model NoSetting d = Nothing
 
--- what data says to a host that asked a panel of this profile with this code
-unfoldable pub wordIn : Profile → ℕ → List ℕ → Said
-wordIn profile code d = cond (isControl NackWord d) Nack (cond (isControl NavWord d) Nav (endedBy profile (foundBy code) d))
+-- what data says to a host that asked a panel of this model with this code
+unfoldable pub wordIn : Model → ℕ → List ℕ → Said
+wordIn model code d = cond (isControl NackWord d) Nack (cond (isControl NavWord d) Nav (endedBy model (foundBy code) d))

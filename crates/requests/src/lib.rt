@@ -3,9 +3,9 @@ ghost use mathlib.Core.Path.{_≡_};
 ghost use Prim.Native.Nat.{_≤_, _<_, min};
 ghost use mathlib.Core.List.{_∷_};
 ghost use lib.ListN.{take};
-ghost use Rattle.settings.specs.Settings.{allowedFor, rowCount, mostValues};
+ghost use Rattle.settings.specs.Settings.{rowCount, mostValues};
 ghost use Rattle.packet.specs.Packet.{writtenOf, outputOf};
-ghost use Rattle.requests.specs.Request.{isRequest, requestData, videoRequest, isPowerOff};
+ghost use Rattle.requests.specs.Request.{isRequest, requestData, maySet, videoRequest, isPowerOff};
 ghost use Rattle.requests.specs.Said.{isControl, isReport, wordIn};
 use packet::Control;
 use packet::GroupId;
@@ -14,15 +14,17 @@ use packet::Written;
 use profiles::Video;
 use settings::Found;
 use settings::MOST_VALUES;
+use settings::Model;
 use settings::OFF;
 use settings::POWER_ROW;
 use settings::Profile;
 use settings::VIDEO_ROW;
+use tiling::Kind;
 
-// A set with its values or a get, and the profile of the panel that it is for, by the caller's word. The first count of the
+// A set with its values or a get, and the profile and kind of the panel that it is for, by the caller's word. The first count of the
 // values are the request's; the others mean nothing.
 pub struct Request {
-    pub profile: Profile,
+    pub model: Model,
     pub id: MonitorId,
     pub group: GroupId,
     pub code: u8,
@@ -39,12 +41,15 @@ pub enum Said {
     Nothing,
 }
 
-// Whether the first count of these values may be set in a row.
-fn may_set(profile: Profile, row: usize, v: [u8; MOST_VALUES], count: usize) -> bool
+// Whether the first count of these values may be set in a row; where a tiling leaves the wall open, in the kind's largest.
+fn may_set(model: Model, row: usize, v: [u8; MOST_VALUES], count: usize) -> bool
     requires { ⌜ (row < rowCount) × (count ≤ mostValues) ⌝ }
-    ensures { λ r. ⌜ r ≡ allowedFor profile row (take count v) ⌝ }
+    ensures { λ r. ⌜ r ≡ maySet model row (take count v) ⌝ }
 {
-    settings::allowed(profile, row, &v[..count])
+    let kind = model.kind;
+    let mut values = v;
+    settings::fill(row, tiling::largest(kind), &mut values[..count]);
+    settings::allowed(model, row, &values[..count])
 }
 
 // Whether the table has this request.
@@ -62,9 +67,9 @@ pub fn is_request(request: Request) -> bool
             if group.0 == 255 {
                 return false;
             }
-            let profile = request.profile;
+            let model = request.model;
             let values = request.values;
-            may_set(profile, row, values, count)
+            may_set(model, row, values, count)
         }
         Found::Get(_) => {
             if count != 0 {
@@ -92,8 +97,12 @@ pub fn phoenix_video_set(id: MonitorId, group: GroupId, video: Video) -> Request
     ensures { λ r. ⌜ r ≡ videoRequest id group video ⌝ }
 {
     let values = profiles::bytes_of(video);
-    Request {
+    let model = Model {
         profile: Profile::Phoenix,
+        kind: Kind::FiveByFive,
+    };
+    Request {
+        model,
         id,
         group,
         code: settings::set_code(VIDEO_ROW),
@@ -145,9 +154,9 @@ fn is_control(d: &[u8], word: Control) -> bool
 }
 
 // Whether the data is a report of this row: its get code, and behind it values that it allows.
-fn is_report(profile: Profile, row: usize, d: &[u8]) -> bool
+fn is_report(model: Model, row: usize, d: &[u8]) -> bool
     requires { ⌜ row < rowCount ⌝ }
-    ensures { λ r. ⌜ r ≡ isReport profile row (now (d .entry)) ⌝ }
+    ensures { λ r. ⌜ r ≡ isReport model row (now (d .entry)) ⌝ }
 {
     if d.len() == 0 {
         return false;
@@ -155,12 +164,12 @@ fn is_report(profile: Profile, row: usize, d: &[u8]) -> bool
     if d[0] != settings::get_code(row) {
         return false;
     }
-    settings::allowed(profile, row, &d[1..])
+    settings::allowed(model, row, &d[1..])
 }
 
 // What the data of a burst from the panel that was asked says: an ACK to a set, a report to a get, NACK or NAV to either.
-pub fn word_in(profile: Profile, code: u8, d: &[u8]) -> Said
-    ensures { λ r. ⌜ r ≡ wordIn profile code (now (d .entry)) ⌝ }
+pub fn word_in(model: Model, code: u8, d: &[u8]) -> Said
+    ensures { λ r. ⌜ r ≡ wordIn model code (now (d .entry)) ⌝ }
 {
     if is_control(d, Control::Nack) {
         return Said::Nack;
@@ -175,7 +184,7 @@ pub fn word_in(profile: Profile, code: u8, d: &[u8]) -> Said
         } else {
             Said::Nothing
         },
-        Found::Get(row) => if is_report(profile, row, d) {
+        Found::Get(row) => if is_report(model, row, d) {
             Said::Report
         } else {
             Said::Nothing

@@ -7,13 +7,18 @@ use native.Mathlib.Numerals.{add-one}
 use native.Mathlib.Omega.{arith}
 use borrow.Author.Tests.{eqb-true, leb-true, ltb-true, ne-eqb}
 use lib.Dec.{eqb, leb, ltb}
-use lib.ListN.{length, getD, take, drop, List·getD-map}
-use lib.Seq.{drop-cons, drop-length}
+use lib.ListN.{length, getD, drop, List·getD-map}
+use lib.Seq.{drop-cons, drop-length, getD-drop, getD-take}
 use Rattle.settings.specs.declared.Profile.{Profile}
 use Rattle.settings.specs.declared.Profile.the-variants.{General, Phoenix}
+use Rattle.tiling.specs.declared.Kind.{Kind}
+use Rattle.tiling.specs.declared.Kind.the-variants.{FiveByFive, FifteenByTen}
+use Rattle.tiling.specs.Walls.{upTo}
+use Rattle.tiling.specs.Kinds.{kindNumber, inWall}
+use Rattle.settings.specs.declared.Model.{Model}
 use Rattle.settings.specs.declared.Found.{Found}
 use Rattle.settings.specs.declared.Found.the-variants.{Set, Get, Nothing}
-use Rattle.settings.specs.Settings.{Range, Setting, settings, setting, foundFrom, foundBy, setCode, getCode, byteCount, place, within, allAllowed, allowedFor, allowedByRow, freshValues, rowCount, mostValues, valueCount, videoRow, row}
+use Rattle.settings.specs.Settings.{Range, Setting, settings, setting, foundFrom, foundBy, fieldBy, setCode, getCode, byteCount, place, within, allAllowed, inRanges, allowedFor, valuesOf, allowedByRow, freshValues, rowCount, mostValues, valueCount, kindRow, tilingRow, videoRow, row}
 use Rattle.settings.specs.Private.Numbers.{allowedValues, rangesOf, firstRange}
 use Rattle.lists.specs.Lists.{each}
 use Rattle.lists.proofs.Both.{both}
@@ -24,14 +29,22 @@ use Rattle.lists.proofs.Flat.{in-flat, flat-fits, flat-apart}
 abbrev noSetting : Setting
 noSetting = row 0 0 [] []
 
--- Codes are distinct, and no get code is a set code: each code of a row finds that row.
-pub set-found : {row : ℕ} → row < rowCount → foundBy (setCode row) ≡ Set row
+-- Codes are distinct, and no get code is a set code: each code of a setting finds its row, and a field's code its row too.
+pub set-found : {row : ℕ} → kindRow < row → row < rowCount → foundBy (setCode row) ≡ Set row
 unfolding settings foundFrom
-set-found h = alike (λ k. foundBy (setCode k)) Set rowCount refl h
+set-found {row} s h =
+    let k : suc (row - 1) ≡ row = omega arith in
+    rw k at (alike (λ k. foundBy (setCode (suc k))) (λ k. Set (suc k)) (rowCount - 1) refl {k = row - 1} (omega arith))
 
-pub get-found : {row : ℕ} → row < rowCount → foundBy (getCode row) ≡ Get row
+pub get-found : {row : ℕ} → kindRow < row → row < rowCount → foundBy (getCode row) ≡ Get row
 unfolding settings foundFrom
-get-found h = alike (λ k. foundBy (getCode k)) Get rowCount refl h
+get-found {row} s h =
+    let k : suc (row - 1) ≡ row = omega arith in
+    rw k at (alike (λ k. foundBy (getCode (suc k))) (λ k. Get (suc k)) (rowCount - 1) refl {k = row - 1} (omega arith))
+
+pub field-found : {row : ℕ} → row < rowCount → fieldBy (setCode row) ≡ Set row
+unfolding settings foundFrom fieldBy
+field-found h = alike (λ k. fieldBy (setCode k)) Set rowCount refl h
 
 -- Set codes rise with the rows.
 pub codes-rise : {row : ℕ} → suc row < rowCount → setCode row < setCode (suc row)
@@ -47,27 +60,42 @@ found-step : (c k : ℕ) → k < rowCount
 unfolding foundAfter foundFrom
 found-step c k h = rw (drop-cons settings k noSetting (unfold settings in h), add-one)
 
--- What is found is one of the eight rows, and the code is that row's.
+-- What is found is a row of the nine settings, and the code is that row's.
 abbrev pub IsFound : ℕ → Found → Type 0
-IsFound c (Set row) = (row < rowCount) × (setCode row ≡ c)
-IsFound c (Get row) = (row < rowCount) × (getCode row ≡ c)
+IsFound c (Set row) = (row < rowCount) × (setCode row ≡ c) × (kindRow < row)
+IsFound c (Get row) = (row < rowCount) × (getCode row ≡ c) × (kindRow < row)
 IsFound c Nothing = Unit {0}
 
 either : (P : Found → Type 0) (t : Bool) {x y : Found} → (t ≡ true → P x) → (t ≡ false → P y) → P (cond t x y)
 either P true f g = f refl
 either P false f g = g refl
 
-found-after : (c n k : ℕ) → n + k ≡ rowCount → IsFound c (foundAfter c k)
-found-after c zero k e = let all : k ≡ rowCount = omega arith in rw all (unfold foundAfter foundFrom settings in tt)
-found-after c (suc n) k e =
+found-after : (c n k : ℕ) → n + k ≡ rowCount → kindRow < k → IsFound c (foundAfter c k)
+found-after c zero k e s = let all : k ≡ rowCount = omega arith in rw all (unfold foundAfter foundFrom settings in tt)
+found-after c (suc n) k e s =
     let h : k < rowCount = omega arith in
     rw (found-step c k h)
-    (either (IsFound c) (eqb (setCode k) c) (λ s. (h, eqb-true _ _ s))
-    (λ _. either (IsFound c) (eqb (getCode k) c) (λ g. (h, eqb-true _ _ g)) (λ _. found-after c n (k + 1) (omega arith))))
+    (either (IsFound c) (eqb (setCode k) c) (λ set. (h, eqb-true _ _ set, s))
+    (λ _. either (IsFound c) (eqb (getCode k) c) (λ get. (h, eqb-true _ _ get, s)) (λ _. found-after c n (k + 1) (omega arith) (omega arith))))
 
 pub found-right : (c : ℕ) → IsFound c (foundBy c)
 unfolding foundAfter
-found-right c = found-after c rowCount 0 refl
+found-right c = found-after c (rowCount - 1) 1 refl (omega arith)
+
+-- The row of a field: also the kind's.
+abbrev pub IsField : ℕ → Found → Type 0
+IsField c (Set row) = (row < rowCount) × (setCode row ≡ c)
+IsField c (Get row) = Unit {0}
+IsField c Nothing = Unit {0}
+
+pub field-right : (c : ℕ) → IsField c (fieldBy c)
+unfolding fieldBy
+field-right c = either (IsField c) (eqb c (setCode kindRow)) (λ e. (unfold settings in omega arith, sym (eqb-true _ _ e))) (λ _. go (foundBy c) (found-right c))
+  where
+    go : (f : Found) → IsFound c f → IsField c f
+    go (Set row) (h, e, s) = (h, e)
+    go (Get row) f = tt
+    go Nothing f = tt
 
 -- A rule that holds at every place of either profile's table, by two tests.
 alike-by : {A : Type 0} (f g : Profile → ℕ → A) (n : ℕ) → each (f General) n ≡ each (g General) n → each (f Phoenix) n ≡ each (g Phoenix) n
@@ -75,12 +103,17 @@ alike-by : {A : Type 0} (f g : Profile → ℕ → A) (n : ℕ) → each (f Gene
 alike-by f g n e d General h = alike (f General) (g General) n e h
 alike-by f g n e d Phoenix h = alike (f Phoenix) (g Phoenix) n d h
 
-pub fresh-allowed : (profile : Profile) {row : ℕ} → row < rowCount
-    → allowedFor profile row (take (byteCount row) (drop (place row) (freshValues profile))) ≡ true
-unfolding settings freshValues allowedByRow flatten within allAllowed
-fresh-allowed profile h =
-    alike-by (λ profile k. allowedFor profile k (take (byteCount k) (drop (place k) (freshValues profile)))) (λ profile k. true) rowCount refl refl
-    profile h
+-- Fresh values are allowed, whatever the kind: every kind has the wall of one panel.
+pub fresh-allowed : (model : Model) {row : ℕ} → row < rowCount → allowedFor model row (valuesOf row (freshValues (model .profile))) ≡ true
+unfolding settings freshValues allowedByRow flatten within allAllowed inWall upTo
+fresh-allowed model {row} h = by-kind (model .kind)
+  where
+    by : Kind → Profile → ℕ → Bool
+    by kind profile k = allowedFor (record { profile = profile; kind = kind }) k (valuesOf k (freshValues profile))
+
+    by-kind : (kind : Kind) → by kind (model .profile) row ≡ true
+    by-kind FiveByFive = alike-by (by FiveByFive) (λ profile k. true) rowCount refl refl (model .profile) h
+    by-kind FifteenByTen = alike-by (by FifteenByTen) (λ profile k. true) rowCount refl refl (model .profile) h
 
 -- The sizes that the table is named by are its own.
 pub row-count : length settings ≡ rowCount
@@ -109,10 +142,10 @@ listed v [] = false
 listed v (x ∷ xs) = eqb x v || listed v xs
 
 -- of a byte, the ranges of colour temperature allow what 01 lists, and nothing else
-pub colour-temperatures : (profile : Profile) {v : ℕ} → v < 256 → allowedFor profile 2 (v ∷ []) ≡ listed v (0 ∷ 1 ∷ 3 ∷ 4 ∷ 5 ∷ 6 ∷ 9 ∷ 10 ∷ 13 ∷ [])
+pub colour-temperatures : (profile : Profile) {v : ℕ} → v < 256 → inRanges profile 4 (v ∷ []) ≡ listed v (0 ∷ 1 ∷ 3 ∷ 4 ∷ 5 ∷ 6 ∷ 9 ∷ 10 ∷ 13 ∷ [])
 unfolding settings within allAllowed listed
 colour-temperatures profile h =
-    alike-by (λ profile v. allowedFor profile 2 (v ∷ [])) (λ profile v. listed v (0 ∷ 1 ∷ 3 ∷ 4 ∷ 5 ∷ 6 ∷ 9 ∷ 10 ∷ 13 ∷ [])) 256 refl refl profile h
+    alike-by (λ profile v. inRanges profile 4 (v ∷ [])) (λ profile v. listed v (0 ∷ 1 ∷ 3 ∷ 4 ∷ 5 ∷ 6 ∷ 9 ∷ 10 ∷ 13 ∷ [])) 256 refl refl profile h
 
 allowed-of-row : (row : ℕ) → getD (allowedByRow General) row [] ≡ setting row .allowed General
 unfolding allowedByRow
@@ -125,10 +158,13 @@ as-many Phoenix row =
     sym (List·getD-map (λ (s : Setting). length (s .allowed Phoenix)) settings row noSetting)
     ∙ unfold settings in List·getD-map (λ (s : Setting). length (s .allowed General)) settings row noSetting
 
--- Places: a row's values are among the 15, no two rows' overlap, and what is allowed there is what the row allows.
+-- Places: a row's values are among the 20, no two rows' overlap, and what is allowed there is what the row allows.
 pub place-fits : (row : ℕ) → place row + byteCount row ≤ valueCount
 unfolding settings allowedByRow flatten
 place-fits row = rw (← allowed-of-row row) (flat-fits (allowedByRow General) row)
+
+pub value-of : (row k : ℕ) (values : List ℕ) → k < byteCount row → getD (valuesOf row values) k 0 ≡ getD values (place row + k) 0
+value-of row k values h = rw (getD-take, getD-drop)
 
 pub places-apart : (j k : ℕ) → j < k → place j + byteCount j ≤ place k
 places-apart j k h = rw (← allowed-of-row j) (flat-apart (allowedByRow General) j k h)
@@ -180,8 +216,20 @@ allowed-end rs vs k e d =
     let no-values = rw (← d) at (drop-length vs) in
     rw (no-ranges, no-values)
 
-pub allowed-many : (profile : Profile) (row : ℕ) (vs : List ℕ) → allowedFor profile row vs ≡ true → length vs ≡ byteCount row
-allowed-many profile row vs e = allowed-count (setting row .allowed profile) vs e ∙ as-many profile row
+pub ranges-many : (profile : Profile) (row : ℕ) (vs : List ℕ) → inRanges profile row vs ≡ true → length vs ≡ byteCount row
+ranges-many profile row vs e = allowed-count (setting row .allowed profile) vs e ∙ as-many profile row
 
-pub other-many : (profile : Profile) (row : ℕ) (vs : List ℕ) → (length vs ≡ byteCount row → ⊥) → allowedFor profile row vs ≡ false
+pub allowed-many : (model : Model) (row : ℕ) (vs : List ℕ) → allowedFor model row vs ≡ true → length vs ≡ byteCount row
+allowed-many model row vs e = ranges-many (model .profile) row vs (both _ _ e .0)
+
+-- Only what is allowed of a tiling goes by the kind, and every kind's number is allowed.
+pub kind-free : (m n : Model) {row : ℕ} (vs : List ℕ) → m .profile ≡ n .profile → (row ≡ tilingRow → ⊥) → allowedFor m row vs ≡ allowedFor n row vs
+kind-free m n {row} vs e ne = rw (ne-eqb row tilingRow ne, e)
+
+pub kind-allowed : (model : Model) (kind : Kind) → allowedFor model kindRow (kindNumber kind ∷ []) ≡ true
+unfolding settings within allAllowed
+kind-allowed model FiveByFive = refl
+kind-allowed model FifteenByTen = refl
+
+pub other-many : (profile : Profile) (row : ℕ) (vs : List ℕ) → (length vs ≡ byteCount row → ⊥) → inRanges profile row vs ≡ false
 other-many profile row vs h = other-count (setting row .allowed profile) vs (λ e. h (e ∙ as-many profile row))

@@ -1,2 +1,3 @@
--- `Laws` has what callers cite of the settings.
+-- `Laws` has what callers cite of the settings, `Filled` what they cite of a tiling whose wall is 0.
 pub mod Laws
+pub mod Filled

@@ -1,12 +1,15 @@
--- The eight settings as the paper has them, and what it says of a row. 01, "The settings"; 02, A1.
+-- The nine settings as the papers have them, with the kind, and what they say of a row. 01, "The settings"; 02, A1 and A6.
 use Prim.Native.Nat.{ℕ, suc}
-use mathlib.Core.Bool.{Bool, true, false, cond, _&&_, _||_}
+use mathlib.Core.Bool.{Bool, true, false, cond, not, _&&_, _||_}
 use mathlib.Core.List.{List, [], _∷_, _++_, map, flatten}
-use lib.ListN.{length, getD, replicate}
+use lib.ListN.{length, getD, set, take, drop, replicate}
 use lib.Dec.{leb, eqb}
 use Rattle.lists.specs.Lists.{startOf, laidAt}
+use Rattle.tiling.specs.declared.Kind.{Kind}
+use Rattle.tiling.specs.Kinds.{kindWith, inWall}
 use Rattle.settings.specs.declared.Profile.{Profile}
 use Rattle.settings.specs.declared.Profile.the-variants.{General, Phoenix}
+use Rattle.settings.specs.declared.Model.{Model}
 use Rattle.settings.specs.declared.Found.{Found}
 use Rattle.settings.specs.declared.Found.the-variants.{Set, Get, Nothing}
 
@@ -40,9 +43,15 @@ abbrev pub videoFresh : Profile → List ℕ
 videoFresh General = replicate 6 50 ++ 3 ∷ []
 videoFresh Phoenix = replicate 3 50 ++ 5 ∷ 0 ∷ 50 ∷ 3 ∷ []
 
+-- 0x00 is no command's code (01, "Answering a burst", step 4), and stands where a row has no get code
+abbrev pub noCode : ℕ
+noCode = 0x00
+
 unfoldable pub settings : List Setting
 settings =
-    row 0x18 0x19 (1 to 2 ∷ []) (2 ∷ [])  -- power
+    row 0x01 noCode (0 to 1 ∷ []) (0 ∷ [])  -- the kind, a field of images alone
+    ∷ row 0x18 0x19 (1 to 2 ∷ []) (2 ∷ [])  -- power
+    ∷ row 0x22 0x23 (0 to 1 ∷ 0 to 1 ∷ 0 to 255 ∷ 0 to 255 ∷ []) (0 ∷ 0 ∷ 1 ∷ 1 ∷ [])  -- tiling: enable, frame compensation, position, wall
     ∷ record { set = 0x32; get = 0x33; allowed = videoAllowed; fresh = videoFresh }  -- video
     ∷ row 0x34 0x35 ((0 to 1 ++ 3 to 6 ++ 9 to 10 ++ 13 to 13) ∷ []) (1 ∷ [])  -- colour temperature
     ∷ row 0x42 0x43 (0 to 100 ∷ 0 to 100 ∷ []) (50 ∷ 50 ∷ [])  -- treble, bass
@@ -54,20 +63,26 @@ settings =
 
 -- how many they are, how many value bytes they have in all, which are a panel's, and how many one has at most
 abbrev pub rowCount : ℕ
-rowCount = 8
+rowCount = 10
 
 abbrev pub valueCount : ℕ
-valueCount = 15
+valueCount = 20
 
 abbrev pub mostValues : ℕ
 mostValues = 7
 
--- the rows of power and of video
+-- the rows of the kind, of power, of tiling and of video
+abbrev pub kindRow : ℕ
+kindRow = 0
+
 abbrev pub powerRow : ℕ
-powerRow = 0
+powerRow = 1
+
+abbrev pub tilingRow : ℕ
+tilingRow = 2
 
 abbrev pub videoRow : ℕ
-videoRow = 1
+videoRow = 3
 
 -- the values of power off; 001, 4.1.3
 abbrev pub off : List ℕ
@@ -82,11 +97,16 @@ unfoldable pub foundFrom : ℕ → ℕ → List Setting → Found
 foundFrom c k [] = Nothing
 foundFrom c k (s ∷ rest) = cond (eqb (s .set) c) (Set k) (cond (eqb (s .get) c) (Get k) (foundFrom c (suc k) rest))
 
+-- on the line: no command sets or gets the kind
 abbrev pub foundBy : ℕ → Found
-foundBy c = foundFrom c 0 settings
+foundBy c = foundFrom c (suc kindRow) (drop (suc kindRow) settings)
 
 abbrev pub setCode : ℕ → ℕ
 setCode k = setting k .set
+
+-- in an image: the code of a setting's field is its set code, and the kind has one too
+unfoldable pub fieldBy : ℕ → Found
+fieldBy c = cond (eqb c (setCode kindRow)) (Set kindRow) (foundBy c)
 
 abbrev pub getCode : ℕ → ℕ
 getCode k = setting k .get
@@ -119,10 +139,29 @@ allAllowed [] (v ∷ vs) = false
 allAllowed (a ∷ rest) [] = false
 allAllowed (a ∷ rest) (v ∷ vs) = within a v && allAllowed rest vs
 
--- the bytes vs may be set in row k of a panel with this profile
-abbrev pub allowedFor : Profile → ℕ → List ℕ → Bool
-allowedFor profile k vs = allAllowed (setting k .allowed profile) vs
+-- the bytes vs are in the ranges of row k, for this profile
+abbrev pub inRanges : Profile → ℕ → List ℕ → Bool
+inRanges profile k vs = allAllowed (setting k .allowed profile) vs
 
--- a panel's values with those of a row stored
+-- and may be set in row k of a panel of this model: a tiling's position is one of its wall, and the wall one of the kind's
+abbrev pub allowedFor : Model → ℕ → List ℕ → Bool
+allowedFor model k vs =
+    inRanges (model .profile) k vs && (not (eqb k tilingRow) || inWall (model .kind) (getD vs 2 0) (getD vs 3 0))
+
+-- the values of a row among a panel's, and a panel's values with those of a row stored
+abbrev pub valuesOf : ℕ → List ℕ → List ℕ
+valuesOf k values = take (byteCount k) (drop (place k) values)
+
 abbrev pub valuesWith : ℕ → List ℕ → List ℕ → List ℕ
 valuesWith k vs values = laidAt (place k) vs values
+
+-- what a panel's ranges go by: its profile, and the kind among its values
+abbrev pub kindIn : List ℕ → Kind
+kindIn values = kindWith (getD (valuesOf kindRow values) 0 0)
+
+abbrev pub modelIn : Profile → List ℕ → Model
+modelIn profile values = record { profile = profile; kind = kindIn values }
+
+-- A set of tiling whose wall is 0 means don't care (02, A6): the byte of another wall then stands there. All else is as it was.
+unfoldable pub filled : ℕ → ℕ → List ℕ → List ℕ
+filled k wall vs = cond (eqb k tilingRow && eqb (getD vs 3 0) 0) (set vs 3 wall) vs

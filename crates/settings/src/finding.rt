@@ -1,24 +1,29 @@
-// A setting by its code, as the manual has it.
+// A setting by its code, as the manual has it; and a field by its code.
 ghost use mathlib.Core.Path.{_≡_};
-ghost use Rattle.settings.specs.Settings.{foundBy};
+ghost use Rattle.settings.specs.Settings.{foundBy, fieldBy};
 use crate::Found;
+use crate::KIND_CODE;
 
-// The settings' rows, by rising code.
-pub const POWER_ROW: usize = 0;
+// The rows of the kind and of the settings, by rising code.
+pub const KIND_ROW: usize = 0;
 
-pub const VIDEO_ROW: usize = 1;
+pub const POWER_ROW: usize = 1;
 
-const COLOUR_TEMPERATURE_ROW: usize = 2;
+pub const TILING_ROW: usize = 2;
 
-const AUDIO_ROW: usize = 3;
+pub const VIDEO_ROW: usize = 3;
 
-const FAN_ROW: usize = 4;
+const COLOUR_TEMPERATURE_ROW: usize = 4;
 
-const COLD_START_ROW: usize = 5;
+const AUDIO_ROW: usize = 5;
 
-const APM_ROW: usize = 6;
+const FAN_ROW: usize = 6;
 
-const POWER_SAVING_ROW: usize = 7;
+const COLD_START_ROW: usize = 7;
+
+const APM_ROW: usize = 8;
+
+const POWER_SAVING_ROW: usize = 9;
 
 // The setting that a code gets or sets, in the order of the manual's sections, those of 000 (SICP 2.01). 001 is SICP 1.85, and
 // 002 SICP 1.6.
@@ -39,10 +44,22 @@ pub fn find_setting(code: u8) -> Found
         0x42 => Found::Set(AUDIO_ROW), // treble, bass: 6.1.7.3 | 7.3.3 | 7.1.3
         0xDE => Found::Get(POWER_SAVING_ROW), // power saving: 7.2.1 | 8.2.1 | none
         0xDD => Found::Set(POWER_SAVING_ROW), // power saving: 7.2.3 | 8.2.3 | 8.2.1
+        0x23 => Found::Get(TILING_ROW), // tiling: 7.6.1 | 8.6.1 | 8.6.1
+        0x22 => Found::Set(TILING_ROW), // tiling: 7.6.3 | 8.6.3 | 8.6.3
         0x62 => Found::Get(FAN_ROW), // fan: 7.20.1 | none | none
         0x61 => Found::Set(FAN_ROW), // fan: 7.20.3 | none | none
         0xD1 => Found::Get(APM_ROW), // APM: 7.21.1 | none | none
         0xD0 => Found::Set(APM_ROW), // APM: 7.21.3 | none | none
         _ => Found::Nothing,
     }
+}
+
+// The row whose field in a setup image has this code: that of a setting's set code, or the kind, which no command sets.
+pub fn find_field(code: u8) -> Found
+    ensures { λ r. ⌜ r ≡ fieldBy code ⌝ }
+{
+    if code == KIND_CODE {
+        return Found::Set(KIND_ROW);
+    }
+    find_setting(code)
 }

@@ -1,22 +1,27 @@
-// The eight settings as one fixed table of numbers, which box, host and image all read.
+// The nine settings and the kind as one fixed table of numbers, which box, host and image all read.
 mod finding;
 mod ranges;
 
 ghost use mathlib.Core.Path.{_≡_};
 ghost use Prim.Native.Nat.{_<_};
 ghost use lib.ListN.{length};
-ghost use Rattle.settings.specs.Settings.{setCode, getCode, byteCount, place, freshValues, valuesWith, rowCount, valueCount};
+ghost use Rattle.settings.specs.Settings.{setCode, getCode, byteCount, place, freshValues, valuesWith, modelIn, filled, rowCount, valueCount};
 ghost use Rattle.settings.specs.Private.Numbers.{paperTable};
+pub use finding::KIND_ROW;
 pub use finding::POWER_ROW;
+pub use finding::TILING_ROW;
 pub use finding::VIDEO_ROW;
+pub use finding::find_field;
 pub use finding::find_setting;
 pub use ranges::allowed;
+pub use ranges::in_ranges;
+use tiling::Kind;
 
-// How many settings there are.
-pub const ROW_COUNT: usize = 8;
+// How many rows there are: the kind's and those of the settings.
+pub const ROW_COUNT: usize = 10;
 
 // How many value bytes they have in all, which are a panel's.
-pub const VALUE_COUNT: usize = 15;
+pub const VALUE_COUNT: usize = 20;
 
 // How many one has at most.
 pub const MOST_VALUES: usize = 7;
@@ -26,6 +31,11 @@ pub const OFF: u8 = 1;
 
 const ON: u8 = 2;
 
+// The code of the kind's field; no command has it, and none gets the kind.
+const KIND_CODE: u8 = 0x01;
+
+const NO_CODE: u8 = 0x00;
+
 // How many ranges there are beyond the first of each value byte.
 const MORE_COUNT: usize = 3;
 
@@ -33,6 +43,12 @@ const MORE_COUNT: usize = 3;
 pub enum Profile {
     General,
     Phoenix,
+}
+
+// What a panel's ranges go by: its profile, and its kind.
+pub struct Model {
+    pub profile: Profile,
+    pub kind: Kind,
 }
 
 // A setting's set code and its get code.
@@ -67,7 +83,9 @@ struct Table {
 
 const TABLE: Table = Table {
     codes: [
+        Codes(KIND_CODE, NO_CODE), // kind
         Codes(0x18, 0x19), // power
+        Codes(0x22, 0x23), // tiling
         Codes(0x32, 0x33), // video
         Codes(0x34, 0x35), // colour temperature
         Codes(0x42, 0x43), // treble, bass
@@ -77,17 +95,24 @@ const TABLE: Table = Table {
         Codes(0xDD, 0xDE), // power saving
     ],
     values: [
-        Values(1, 0), // power
-        Values(7, 1), // video
-        Values(1, 8), // colour temperature
-        Values(2, 9), // treble, bass
-        Values(1, 11), // fan
-        Values(1, 12), // cold start
-        Values(1, 13), // APM
-        Values(1, 14), // power saving
+        Values(1, 0), // kind
+        Values(1, 1), // power
+        Values(4, 2), // tiling
+        Values(7, 6), // video
+        Values(1, 13), // colour temperature
+        Values(2, 14), // treble, bass
+        Values(1, 16), // fan
+        Values(1, 17), // cold start
+        Values(1, 18), // APM
+        Values(1, 19), // power saving
     ],
     ranges: [
+        Span(0, 1), // kind
         Span(OFF, ON), // power
+        Span(0, 1), // tiling: enable, frame compensation, position, wall
+        Span(0, 1),
+        Span(0, 255),
+        Span(0, 255),
         Span(0, 100), // video: six, and gamma
         Span(0, 100),
         Span(0, 100),
@@ -104,12 +129,17 @@ const TABLE: Table = Table {
         Span(0, 3), // power saving
     ],
     more: [
-        More(8, 3, 6), // colour temperature
-        More(8, 9, 10),
-        More(8, 13, 13),
+        More(13, 3, 6), // colour temperature
+        More(13, 9, 10),
+        More(13, 13, 13),
     ],
     fresh: [
+        0, // kind
         ON, // power
+        0, // tiling: enable, frame compensation, position, wall
+        0,
+        1,
+        1,
         50, // video: six, and gamma
         50,
         50,
@@ -225,4 +255,28 @@ pub fn fresh(profile: Profile) -> [u8; VALUE_COUNT]
         store(VIDEO_ROW, &video, &mut values);
     }
     values
+}
+
+// What the ranges of a panel of this profile go by that has these values.
+pub fn model_in(profile: Profile, values: &[u8]) -> Model
+    requires { ⌜ length (now values) ≡ valueCount ⌝ }
+    ensures { λ r. ⌜ r ≡ modelIn profile (now (values .entry)) ⌝ }
+{
+    let kind = tiling::with_number(values[place_of(KIND_ROW)]);
+    Model { profile, kind }
+}
+
+// The values of a set, in which the byte of a wall stands where a tiling has 0, which means don't care.
+pub fn fill(row: usize, wall: u8, vs: &mut [u8])
+    ensures { λ _. ⌜ now (vs .exit) ≡ filled row wall (now (vs .entry)) ⌝ }
+{
+    if row != TILING_ROW {
+        return;
+    }
+    if vs.len() < 4 {
+        return;
+    }
+    if vs[3] == 0 {
+        vs[3] = wall;
+    }
 }

@@ -4,13 +4,15 @@ ghost use Prim.Native.Nat.{_<_};
 ghost use lib.ListN.{drop};
 ghost use mathlib.Core.Bool.{_||_};
 ghost use Rattle.settings.specs.declared.Profile.the-variants.{General, Phoenix};
-ghost use Rattle.settings.specs.Settings.{within, allowedFor, rowCount, valueCount, videoRow};
+ghost use Rattle.settings.specs.Settings.{within, inRanges, allowedFor, rowCount, valueCount, videoRow};
 ghost use Rattle.settings.specs.Private.Numbers.{inRange, rangeOf, rangesOf, firstRange, isMore};
 use crate::MORE_COUNT;
 use crate::MOST_VALUES;
+use crate::Model;
 use crate::More;
 use crate::Profile;
 use crate::Span;
+use crate::TILING_ROW;
 use crate::VIDEO_ROW;
 
 fn in_range(range: Span, v: u8) -> bool
@@ -59,7 +61,7 @@ fn allowed_at(p: usize, range: Span, v: u8) -> bool
 // by itself: most rows have no other.
 fn general_allowed(row: usize, values: &[u8]) -> bool
     requires { ⌜ row < rowCount ⌝ }
-    ensures { λ r. ⌜ r ≡ allowedFor General row (now (values .entry)) ⌝ }
+    ensures { λ r. ⌜ r ≡ inRanges General row (now (values .entry)) ⌝ }
 {
     let at = crate::values_at(row);
     let first = at.1 as usize;
@@ -93,7 +95,7 @@ fn video_allowed_at(k: usize, range: Span, below: More, v: u8) -> bool
 
 // Whether these bytes may be a Phoenix panel's video.
 fn video_allowed(values: &[u8]) -> bool
-    ensures { λ r. ⌜ r ≡ allowedFor Phoenix videoRow (now (values .entry)) ⌝ }
+    ensures { λ r. ⌜ r ≡ inRanges Phoenix videoRow (now (values .entry)) ⌝ }
 {
     if values.len() != MOST_VALUES {
         return false;
@@ -110,10 +112,10 @@ fn video_allowed(values: &[u8]) -> bool
     true
 }
 
-// Whether these bytes may be set in a row of a panel with this profile. All but the video of a Phoenix panel is as general.
-pub fn allowed(profile: Profile, row: usize, values: &[u8]) -> bool
+// Whether these bytes are in a row's ranges, for this profile. All but the video of a Phoenix panel is as general.
+pub fn in_ranges(profile: Profile, row: usize, values: &[u8]) -> bool
     requires { ⌜ row < rowCount ⌝ }
-    ensures { λ r. ⌜ r ≡ allowedFor profile row (now (values .entry)) ⌝ }
+    ensures { λ r. ⌜ r ≡ inRanges profile row (now (values .entry)) ⌝ }
 {
     if let Profile::Phoenix = profile {
         if row == VIDEO_ROW {
@@ -121,4 +123,20 @@ pub fn allowed(profile: Profile, row: usize, values: &[u8]) -> bool
         }
     }
     general_allowed(row, values)
+}
+
+// Whether these bytes may be set in a row of a panel of this model: in the row's ranges, and a tiling in a wall of the kind.
+pub fn allowed(model: Model, row: usize, values: &[u8]) -> bool
+    requires { ⌜ row < rowCount ⌝ }
+    ensures { λ r. ⌜ r ≡ allowedFor model row (now (values .entry)) ⌝ }
+{
+    let profile = model.profile;
+    let kind = model.kind;
+    if !in_ranges(profile, row, values) {
+        return false;
+    }
+    if row != TILING_ROW {
+        return true;
+    }
+    tiling::in_wall(kind, values[2], values[3])
 }

@@ -4,7 +4,7 @@ use mathlib.Core.Bool.{Bool}
 use mathlib.Core.List.{List, [], _∷_}
 use lib.ListN.{getD, set}
 use Rattle.settings.specs.declared.Profile.the-variants.{General, Phoenix}
-use Rattle.settings.specs.Settings.{allowedFor}
+use Rattle.settings.specs.Settings.{inRanges}
 use Rattle.panels.specs.Wall.{Wall, blank, tableOf}
 use Rattle.answers.specs.declared.Order.{Order}
 use Rattle.answers.specs.declared.Order.the-variants.{Report, Store, NotAvailable}
@@ -18,9 +18,9 @@ orderOf (getOf row) = Report row
 orderOf (setOf row values) = Store row
 orderOf unavailable = NotAvailable
 
--- For each profile, by its number, whether it allows the values of a set.
+-- For each profile, by its number, whether its ranges allow the values of a set.
 abbrev pub allowedBy : ℕ → List ℕ → List Bool
-allowedBy row values = allowedFor General row values ∷ allowedFor Phoenix row values ∷ []
+allowedBy row values = inRanges General row values ∷ inRanges Phoenix row values ∷ []
 
 -- an outcome with its wall in a table
 abbrev pub inTable : Outcome → Turned

@@ -1,8 +1,8 @@
--- What a start asks for: ID, group, code, then the values, of a panel with the profile that is told beside.
+-- What a start asks for: ID, group, code, then the values, of a panel of the model that is told beside.
 use Prim.Native.Nat.{ℕ, _-_}
 use mathlib.Core.List.{List}
 use lib.ListN.{length, getD, take, drop, replicate}
-use Rattle.settings.specs.declared.Profile.{Profile}
+use Rattle.settings.specs.declared.Model.{Model}
 use Rattle.settings.specs.Settings.{mostValues}
 use Rattle.packet.specs.Packet.{monitorId, groupId}
 use Rattle.lists.specs.Lists.{laidOver}
@@ -13,9 +13,9 @@ abbrev pub startHead : ℕ
 startHead = 3
 
 -- of the values those are kept that a request has room for, and all are counted
-unfoldable pub requestOf : Profile → List ℕ → Request
-requestOf profile s = record {
-  profile = profile;
+unfoldable pub requestOf : Model → List ℕ → Request
+requestOf model s = record {
+  model = model;
   id = monitorId (getD s 0 0);
   group = groupId (getD s 1 0);
   code = getD s 2 0;

@@ -31,6 +31,6 @@ unfoldable pub panelBy : Form → List Bool → List ℕ → ReadPanel
 panelBy form seen bytes =
     cond (headFitsBy form seen bytes)
     (ifKnown (profileIn form bytes)
-    (λ profile. record { refusal = fieldsIn profile (drop (headSize form) bytes) .refusal; panel = panelWith form bytes profile })
+    (λ profile. record { refusal = fieldsIn form profile (drop (headSize form) bytes) .refusal; panel = panelWith form bytes profile })
     noPanel)
     noPanel

@@ -5,10 +5,12 @@ use mathlib.Core.Bool.{false, cond}
 use Prim.Native.Nat.{ℕ}
 use native.Mathlib.Omega.{arith}
 use borrow.Author.Needs.{needs}
-use borrow.Author.Tests.{le-leb, lt-leb, eq-eqb, ne-eqb}
+use borrow.Author.Tests.{le-leb, lt-leb, eq-eqb, ne-eqb, not-true, not-false}
 use lib.Dec.{leb, eqb}
 use lib.ListN.{length}
+use Rattle.tiling.specs.Kinds.{isKind, kindWith}
 use Rattle.profiles.specs.declared.Numbered.{Numbered}
+use Rattle.profiles.specs.declared.Numbered.the-variants.{Known}
 use Rattle.profiles.specs.Numbers.{profileWith}
 use Rattle.packet.specs.declared.MonitorId.{MonitorId}
 use Rattle.packet.specs.declared.GroupId.{GroupId}
@@ -16,17 +18,18 @@ use Rattle.panels.specs.declared.Panel.{Panel}
 use Rattle.panels.specs.declared.Table.{Table}
 use Rattle.panels.specs.declared.Changed.{Changed}
 use Rattle.panels.specs.declared.Refusal.{Refusal}
-use Rattle.panels.specs.Wall.{panelsOf, tableOf, mostPanels}
+use Rattle.panels.specs.declared.Refusal.the-variants.{Nothing, UnknownKind}
+use Rattle.panels.specs.Wall.{freshPanel, panelsOf, tableOf, mostPanels}
 use Rattle.panels.specs.Calls.{refusalOf, freshOf, addRefusal, added, addedTo}
 use Rattle.panels.proofs.Laws.{count-is, grown}
 use Rattle.panels.proofs.add.Statement.{statement}
 use Rattle.panels.proofs.add.Tie as tie
 
-answered : (t : Table) {u : Table} (i : MonitorId) (g : GroupId) (n : ℕ) (r : Refusal) → addRefusal (panelsOf t) i g n ≡ r
-    → u ≡ tableOf (cond (eqb (refusalOf r) 0) (panelsOf t ++ freshOf (profileWith n) i g) (panelsOf t))
-    → _≡_ {A = Changed} (record { refusal = r; table = u }) (addedTo (panelsOf t) i g n)
+answered : (t : Table) {u : Table} (i : MonitorId) (g : GroupId) (n k : ℕ) (r : Refusal) → addRefusal (panelsOf t) i g n k ≡ r
+    → u ≡ tableOf (cond (eqb (refusalOf r) 0) (panelsOf t ++ freshOf (profileWith n) (kindWith k) i g) (panelsOf t))
+    → _≡_ {A = Changed} (record { refusal = r; table = u }) (addedTo (panelsOf t) i g n k)
 unfolding added
-answered t i g n r e k = rw (e, k)
+answered t i g n k r e after = rw (e, after)
 
 refused-requires : tie.Need-refused-requires
 refused-requires c κs = search needs
@@ -36,7 +39,7 @@ unfolding addRefusal
 returns c =
     let start = c .before .before in
     let t = start .args .t in
-    c .refused .ensures ∙ answered t _ _ _ _ (simp (le-leb mostPanels (length (panelsOf t)) (omega (arith, count-is (start .pre))))) (start .pre .held)
+    c .refused .ensures ∙ answered t _ _ _ _ _ (simp (le-leb mostPanels (length (panelsOf t)) (omega (arith, count-is (start .pre))))) (start .pre .held)
 
 -- there is room
 room : (c : tie.Else1) → leb mostPanels (length (panelsOf (c .before .args .t))) ≡ false
@@ -49,7 +52,7 @@ returns-2 : tie.Need-returns-2
 unfolding addRefusal
 returns-2 c =
     let else1 = c .before .before .before in
-    c .refused2 .ensures ∙ answered (else1 .before .args .t) _ _ _ _ (simp (room else1, eq-eqb _ _ (c .before .if2 .taken))) (else1 .before .pre .held)
+    c .refused2 .ensures ∙ answered (else1 .before .args .t) _ _ _ _ _ (simp (room else1, eq-eqb _ _ (c .before .if2 .taken))) (else1 .before .pre .held)
 
 find-panel-requires : tie.Need-find-panel-requires
 find-panel-requires c κs = search needs
@@ -66,7 +69,7 @@ returns-3 c =
     let found = c .before .before .before in
     let else1 = found .before .before .before in
     let there = sym (found .find-panel .ensures) ∙ c .before .enum-told .given .1 in
-    c .refused3 .ensures ∙ answered (else1 .before .args .t) _ _ _ _ (simp (room else1, ne-eqb _ _ (found .before .if2 .left), there)) (else1 .before .pre .held)
+    c .refused3 .ensures ∙ answered (else1 .before .args .t) _ _ _ _ _ (simp (room else1, ne-eqb _ _ (found .before .if2 .left), there)) (else1 .before .pre .held)
 
 enum-told-2 : tie.Need-enum-told-2
 enum-told-2 c = search needs
@@ -82,7 +85,7 @@ returns-4 c =
     let else1 = found .before .before .before in
     let nowhere = sym (found .find-panel .ensures) ∙ told .enum-told2 .given .1 in
     c .refused4 .ensures
-    ∙ answered (else1 .before .args .t) _ _ _ _
+    ∙ answered (else1 .before .args .t) _ _ _ _ _
     (simp (room else1, ne-eqb _ _ (found .before .if2 .left), nowhere, eq-eqb _ _ (c .before .if3 .taken)))
     (else1 .before .pre .held)
 
@@ -107,9 +110,40 @@ returns-5 c =
     let nowhere = sym (found .find-panel .ensures) ∙ told .enum-told2 .given .1 in
     let unknown = sym (c .before .before .before .with-number .ensures) ∙ c .before .enum-told3 .given .1 in
     c .refused5 .ensures
-    ∙ answered (else1 .before .args .t) _ _ _ _
+    ∙ answered (else1 .before .args .t) _ _ _ _ _
     (simp (room else1, ne-eqb _ _ (found .before .if2 .left), nowhere, ne-eqb _ _ (c .before .before .before .before .if3 .left), unknown))
     (else1 .before .pre .held)
+
+is-kind-requires : tie.Need-is-kind-requires
+is-kind-requires c κs = search needs
+
+refused-requires-6 : tie.Need-refused-requires-6
+refused-requires-6 c κs = search needs
+
+-- nothing that comes before the kind was refused
+abbrev first : tie.After-known-told → tie.Else1
+first k = k .before .before .before .before .before .before .before .before .before .before .before
+
+known : (k : tie.After-known-told) → profileWith (first k .before .args .number) ≡ Known (k .before .numbered .given .0 .0)
+known k = sym (k .before .before .before .with-number .ensures) ∙ k .before .numbered .given .1
+
+by-kind : (k : tie.After-known-told)
+    → let a = first k .before .args in addRefusal (panelsOf (a .t)) (a .id) (a .group) (a .number) (a .kind) ≡ cond (isKind (a .kind)) Nothing UnknownKind
+unfolding addRefusal
+by-kind k =
+    let told = k .before .before .before .before .before .before in
+    let found = told .before .before in
+    let nowhere = sym (found .find-panel .ensures) ∙ told .enum-told2 .given .1 in
+    simp (room (first k), ne-eqb _ _ (found .before .if2 .left), nowhere, ne-eqb _ _ (k .before .before .before .before .if3 .left), known k)
+
+returns-6 : tie.Need-returns-6
+returns-6 c =
+    let k = c .before .before .before in
+    let unknown = sym (c .before .before .is-kind .ensures) ∙ not-true _ (c .before .if4 .taken) in
+    c .refused6 .ensures ∙ answered (first k .before .args .t) _ _ _ _ _ (by-kind k ∙ rw unknown) (first k .before .pre .held)
+
+with-number-requires-2 : tie.Need-with-number-requires-2
+with-number-requires-2 c κs = search needs
 
 fresh-panel-requires : tie.Need-fresh-panel-requires
 fresh-panel-requires c κs = search needs
@@ -123,19 +157,16 @@ element-set-from-p c = search needs
 add-next : tie.Need-add-next
 add-next c = search needs
 
-returns-6 : tie.Need-returns-6
-unfolding addRefusal
-returns-6 c =
-    let told = c .before .before .before .before .before .before .before in
-    let found = told .before .before in
-    let else1 = found .before .before .before in
-    let nowhere = sym (found .find-panel .ensures) ∙ told .enum-told2 .given .1 in
-    let known = sym (c .before .before .before .before .with-number .ensures) ∙ c .before .before .numbered .given .1 in
-    let a = else1 .before .args in
+returns-7 : tie.Need-returns-7
+returns-7 c =
+    let k = c .before .before .before .before in
+    let a = first k .before .args in
     let w = panelsOf (a .t) in
-    answered (else1 .before .args .t) _ _ _ _
-    (simp (room else1, ne-eqb _ _ (found .before .if2 .left), nowhere, ne-eqb _ _ (c .before .before .before .before .before .if3 .left), known))
-    (grown (else1 .before .pre) (omega arith) _ ∙ ap (λ (p : Panel). tableOf (w ++ p ∷ [])) (c .fresh-panel .ensures) ∙ ap (λ (n : Numbered). tableOf (w ++ freshOf n (a .id) (a .group))) (sym known))
+    let kind = sym (c .before .before .before .is-kind .ensures) ∙ not-false _ (c .before .before .if4 .left) in
+    let fresh = c .fresh-panel .ensures ∙ ap (freshPanel (a .id) (a .group) (k .before .numbered .given .0 .0)) (c .before .with-number2 .ensures) in
+    answered (a .t) _ _ _ _ _ (by-kind k ∙ rw kind)
+    (grown (first k .before .pre) (omega arith) _ ∙ ap (λ (p : Panel). tableOf (w ++ p ∷ [])) fresh
+    ∙ ap (λ (n : Numbered). tableOf (w ++ freshOf n (kindWith (a .kind)) (a .id) (a .group))) (sym (known k)))
 
 pub add-spec : {M : Type 1} → statement M
 add-spec =
@@ -157,8 +188,12 @@ add-spec =
     enum-told-3
     refused-requires-5
     returns-5
+    is-kind-requires
+    refused-requires-6
+    returns-6
+    with-number-requires-2
     fresh-panel-requires
     mul-p
     element-set-from-p
     add-next
-    returns-6)
+    returns-7)

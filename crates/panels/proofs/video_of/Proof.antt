@@ -6,18 +6,18 @@ use borrow.Author.Needs.{needs}
 use lib.Dec.{T, ltb, ltb→lt}
 use lib.ListN.{getD, take, drop}
 use lib.Seq.{getD-take, getD-drop}
-use Rattle.settings.specs.Settings.{settings, allowedByRow, videoRow}
+use Rattle.settings.specs.Settings.{settings, allowedByRow, videoRow, valuesOf}
 use Rattle.profiles.specs.Video.{videoIn}
-use Rattle.panels.specs.Wall.{valuesOf, videoOf}
+use Rattle.panels.specs.Wall.{videoOf}
 use Rattle.panels.proofs.video_of.Statement.{statement}
 use Rattle.panels.proofs.video_of.Tie as tie
 
--- a panel's seven values from place 1 on, one by one
+-- a panel's seven values from place 6 on, one by one
 seven : List ℕ → List ℕ
-seven v = getD v 1 0 ∷ getD v 2 0 ∷ getD v 3 0 ∷ getD v 4 0 ∷ getD v 5 0 ∷ getD v 6 0 ∷ getD v 7 0 ∷ []
+seven v = getD v 6 0 ∷ getD v 7 0 ∷ getD v 8 0 ∷ getD v 9 0 ∷ getD v 10 0 ∷ getD v 11 0 ∷ getD v 12 0 ∷ []
 
-at : (v : List ℕ) (k : ℕ) → T (ltb k 7) → getD (take 7 (drop 1 v)) k 0 ≡ getD v (1 + k) 0
-at v k t = getD-take 7 (drop 1 v) k 0 (ltb→lt k 7 t) ∙ getD-drop 1 v k 0
+at : (v : List ℕ) (k : ℕ) → T (ltb k 7) → getD (take 7 (drop 6 v)) k 0 ≡ getD v (6 + k) 0
+at v k t = getD-take 7 (drop 6 v) k 0 (ltb→lt k 7 t) ∙ getD-drop 6 v k 0
 
 same-video : (v : List ℕ) → videoIn (seven v) ≡ videoIn (valuesOf videoRow v)
 unfolding videoIn seven settings allowedByRow flatten

@@ -6,7 +6,7 @@ use Prim.Native.Nat.{ℕ}
 use native.Mathlib.Omega.{arith}
 use borrow.Author.Tests.{eq-eqb, ne-eqb}
 use lib.ListN.{length}
-use Rattle.settings.specs.declared.Profile.{Profile}
+use Rattle.settings.specs.declared.Model.{Model}
 use Rattle.settings.specs.Settings.{allowedFor}
 use Rattle.requests.specs.Said.{isReport}
 use Rattle.requests.proofs.Words.{report-some}
@@ -15,10 +15,10 @@ use borrow.Author.Needs.{needs}
 use Rattle.requests.proofs.is_report.Statement.{statement}
 use Rattle.requests.proofs.is_report.Tie as tie
 
-none : (profile : Profile) (k : ℕ) (d : List ℕ) → length d ≡ 0 → false ≡ isReport profile k d
+none : (model : Model) (k : ℕ) (d : List ℕ) → length d ≡ 0 → false ≡ isReport model k d
 unfolding isReport
-none profile k [] e = refl
-none profile k (x ∷ d) e = absurd (omega arith)
+none model k [] e = refl
+none model k (x ∷ d) e = absurd (omega arith)
 
 returns : tie.Need-returns
 returns c = none _ _ _ (c .if1 .taken)
@@ -32,7 +32,7 @@ get-code-requires c κs = search needs
 returns-2 : tie.Need-returns-2
 returns-2 c =
     let a = c .before .before .before .before .before .args in
-    sym (report-some (a .profile) (a .row) (a .d .now) (omega arith) ∙ simp (ne-eqb _ _ (λ e. c .if2 .taken (e ∙ sym (c .before .get-code .ensures)))))
+    sym (report-some (a .model) (a .row) (a .d .now) (omega arith) ∙ simp (ne-eqb _ _ (λ e. c .if2 .taken (e ∙ sym (c .before .get-code .ensures)))))
 
 sub-allowed : tie.Need-sub-allowed
 sub-allowed c = search needs
@@ -50,7 +50,7 @@ returns-3 : tie.Need-returns-3
 returns-3 c =
     let a = c .before .before .before .before .before .before .before .args in
     let code = eq-eqb _ _ (c .before .before .if2 .left ∙ c .before .before .before .get-code .ensures) in
-    c .allowed .ensures ∙ ap (allowedFor (a .profile) (a .row)) (rest (a .d .now)) ∙ sym (report-some (a .profile) (a .row) (a .d .now) (omega arith) ∙ rw code)
+    c .allowed .ensures ∙ ap (allowedFor (a .model) (a .row)) (rest (a .d .now)) ∙ sym (report-some (a .model) (a .row) (a .d .now) (omega arith) ∙ rw code)
 
 pub is-report-spec : {M : Type 1} → statement M
 is-report-spec =

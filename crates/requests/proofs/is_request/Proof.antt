@@ -38,7 +38,7 @@ returns-2 c =
 
 may-set-requires : tie.Need-may-set-requires
 may-set-requires c κs =
-    let found = c .before .before .before .before in
+    let found = c .before .before .before .before .before in
     (subst (IsFound _) (sym (found .before .before .find-setting .ensures) ∙ found .found .given .1) (found-right _) .0, omega arith)
 
 enum-told : tie.Need-enum-told
@@ -57,8 +57,8 @@ enum-told-2 c = search needs
 returns-4 : tie.Need-returns-4
 unfolding isTaken
 returns-4 c =
-    let found = c .before .before .before .before .before in
-    sym (past (found .before .before) _ (found .found .given .1) ∙ simp (ne-eqb _ _ (c .before .before .if2 .left), sym (c .may-set .ensures)))
+    let found = c .before .before .before .before .before .before in
+    sym (past (found .before .before) _ (found .found .given .1) ∙ simp (ne-eqb _ _ (c .before .before .before .if2 .left), sym (c .may-set .ensures)))
 
 returns-5 : tie.Need-returns-5
 unfolding isTaken

@@ -10,7 +10,7 @@ use Rattle.requests.proofs.word_in.Tie as tie
 
 -- past both tests the code decides
 past : (c : tie.After-find-setting) (f : Found) → c .find-setting .result ≡ f
-    → let a = c .before .before .before .before .before .before .args in wordIn (a .profile) (a .code) (a .d .now) ≡ endedBy (a .profile) f (a .d .now)
+    → let a = c .before .before .before .before .before .before .args in wordIn (a .model) (a .code) (a .d .now) ≡ endedBy (a .model) f (a .d .now)
 past c f e =
     let second = c .before .before in
     let first = second .before .before in

@@ -1,4 +1,4 @@
--- Power off is two bytes, and power is a panel's first value. Assumes nothing.
+-- Power off is two bytes, and power is one value of a panel. Assumes nothing.
 use mathlib.Core.Path.{_≡_, refl, sym, ap, _∙_}
 use mathlib.Core.Bool.{true, false}
 use mathlib.Core.List.{List, flatten}
@@ -29,19 +29,19 @@ sets-other : (d : List ℕ) → (length d ≡ 2 → ⊥) → same (drop 1 d) off
 sets-other d n = same-other (drop 1 d) 1 (λ e. n (omega (arith, rw length-drop at e)))
 
 module _ (row : ℕ) (vs : List ℕ) (p : Panel) where
-  other-row : (row ≡ 0 → ⊥) → offAlready row vs p ≡ false
+  other-row : (row ≡ powerRow → ⊥) → offAlready row vs p ≡ false
   unfolding offAlready
-  other-row n = rw (ne-eqb row 0 n)
+  other-row n = rw (ne-eqb row powerRow n)
 
-  other-values : row ≡ 0 → same vs off ≡ false → offAlready row vs p ≡ false
+  other-values : row ≡ powerRow → same vs off ≡ false → offAlready row vs p ≡ false
   unfolding offAlready
   other-values e f = rw (e, f)
 
-  power : row ≡ 0 → same vs off ≡ true → offAlready row vs p ≡ eqb (getD (p .values) (place powerRow) 0) 1
+  power : row ≡ powerRow → same vs off ≡ true → offAlready row vs p ≡ eqb (getD (p .values) (place powerRow) 0) 1
   unfolding offAlready
   power e f = rw (e, f) (is-off (p .values))
 
-first : place powerRow ≡ 0
+first : place powerRow ≡ 1
 unfolding settings allowedByRow flatten
 first = refl
 

@@ -10,10 +10,9 @@ use lib.ListN.{length, getD, drop, set, replicate, length-take, length-drop}
 use lib.Seq.{paste, paste-zero, paste-suc, getD-take, getD-drop, take-all}
 use Rattle.lists.proofs.Places.{drop-replicate}
 use Rattle.panels.proofs.Values.{length-values}
-use Rattle.settings.specs.Settings.{byteCount, place, mostValues, valueCount, rowCount}
+use Rattle.settings.specs.Settings.{byteCount, place, mostValues, valueCount, rowCount, valuesOf}
 use Rattle.settings.proofs.Laws.{place-fits, byte-count-few}
 use Rattle.packet.specs.Packet.{monitorId}
-use Rattle.panels.specs.Wall.{valuesOf}
 use Rattle.answers.specs.declared.Answer.the-variants.{Report}
 use Rattle.answers.specs.declared.Reply.{Reply}
 use Rattle.answers.specs.Reply.{reportFrom, mostReported}

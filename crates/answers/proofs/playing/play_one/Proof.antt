@@ -7,18 +7,18 @@ use borrow.Author.Needs.{needs}
 use borrow.Author.Tests.{not-true, not-false}
 use lib.ListN.{getD, set, drop}
 use lib.Seq.{set-getD}
-use Rattle.settings.specs.Settings.{getCode}
+use Rattle.settings.specs.Settings.{getCode, valuesOf}
 use Rattle.packet.specs.declared.Control.the-variants.{Ack, Nav}
 use Rattle.panels.specs.declared.Panel.{Panel}
 use Rattle.panels.specs.declared.Table.{Table}
-use Rattle.panels.specs.Wall.{valuesOf, blank, tableOf, panelsOf}
+use Rattle.panels.specs.Wall.{blank, tableOf, panelsOf}
 use Rattle.panels.specs.WellFormed.{WellFormed}
 use Rattle.panels.proofs.Laws.{count-few, in-wall, replaced}
 use Rattle.answers.specs.declared.Order.{Order}
 use Rattle.answers.specs.declared.Reply.{Reply}
 use Rattle.answers.specs.declared.Turned.{Turned}
 use Rattle.answers.specs.Reply.{wordFrom, reportFrom}
-use Rattle.answers.specs.Judged.{Command, Judged, command, judge, stored, takes, panelAfter, replyBy}
+use Rattle.answers.specs.Judged.{Command, Judged, command, judge, stored, heldThen, takes, panelAfter, replyBy}
 use Rattle.answers.specs.Private.Orders.{asked}
 use Rattle.answers.proofs.Orders.{OrderIs, order-right, taken-many, judge-get, judge-set, judge-not}
 use Rattle.answers.proofs.playing.play_one.Statement.{statement}
@@ -132,7 +132,7 @@ returns-3 c =
     let o = told read _ (row .1) in
     let vs = drop 1 (a .d .now) in
     ap₂ {C = Turned} (λ (q : Panel) (r : Reply). record { table = record { panels = set (a .t1 .panels) (a .k) q; count = a .t1 .count }; reply = r })
-    (c .before .with-values .ensures ∙ ap (stored (row .0 .0) vs) (here read _))
+    (c .before .with-values .ensures ∙ ap (λ (q : Panel). stored (row .0 .0) (heldThen (row .0 .0) vs q) q) (here read _))
     (c .word-from2 .ensures ∙ ap (λ (q : Panel). wordFrom (q .id) Ack) (here read _))
     ∙ asked-is (a .t1) (a .k) _ _ _
     (judge-set (command (a .d .now)) (row .0 .0) vs _ (o .2) (own judged ∙ not-false _ (c .before .before .if1 .left)))

@@ -9,7 +9,7 @@ use Rattle.packet.specs.declared.MonitorId.{MonitorId}
 use Rattle.packet.specs.declared.GroupId.{GroupId}
 use Rattle.panels.specs.declared.Panel.{Panel}
 use Rattle.panels.specs.Addressed.{reaches}
-use Rattle.answers.specs.Judged.{setOf, stored, takes}
+use Rattle.answers.specs.Judged.{setOf, stored, heldThen, takes}
 use Rattle.answers.specs.Played.{turned}
 use Rattle.answers.proofs.Orders.{taken-many, judge-set, judge-not}
 use Rattle.answers.proofs.Turns.{stays}
@@ -17,7 +17,7 @@ use Rattle.answers.proofs.playing.store_in.Statement.{statement}
 use Rattle.answers.proofs.playing.store_in.Tie as tie
 
 module _ (i : MonitorId) (g : GroupId) (row : ℕ) (vs : List ℕ) (p : Panel) (r : reaches i g p ≡ true) where
-  took : takes row vs p ≡ true → turned i g (setOf row vs) p ≡ stored row vs p
+  took : takes row vs p ≡ true → turned i g (setOf row vs) p ≡ stored row (heldThen row vs p) p
   unfolding turned
   took t = rw (r, judge-set (setOf row vs) row vs p refl t)
 

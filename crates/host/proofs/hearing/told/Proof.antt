@@ -18,12 +18,12 @@ use Rattle.host.proofs.hearing.told.Statement.{statement}
 use Rattle.host.proofs.hearing.told.Tie as tie
 
 word : (c : tie.After-word-in) (w : Said) → c .word-in .result ≡ w
-    → let a = c .before .before .before .before .args in wordIn (a .host .request .profile) (a .host .request .code) (a .d .now) ≡ w
+    → let a = c .before .before .before .before .before .args in wordIn (a .host .request .model) (a .host .request .code) (a .d .now) ≡ w
 word c w e = sym (c .word-in .ensures) ∙ e
 
 -- what was taken for a report has a code and at most seven values
 report : (c : tie.At-match-keys4) (e : c .before .word-in .result ≡ Report)
-    → let d = c .before .before .before .before .before .args .d .now in (1 ≤ length d) × (length d ≤ mostValues + 1)
+    → let d = c .before .before .before .before .before .before .args .d .now in (1 ≤ length d) × (length d ≤ mostValues + 1)
 report c e = report-length _ _ _ (word (c .before) _ e)
 
 word-in-requires : tie.Need-word-in-requires
@@ -64,7 +64,7 @@ part-reported-end c = search needs
 
 reported-requires : tie.Need-reported-requires
 reported-requires c κs =
-    let d = c .before .before .before .before .before .before .before .args .d .now in
+    let d = c .before .before .before .before .before .before .before .before .args .d .now in
     rw (rest d) (simp length-drop (omega (arith, report (c .before .before) (c .before .enum-told4 .given .1))))
 
 enum-told-5 : tie.Need-enum-told-5
@@ -98,7 +98,7 @@ returns-4 : tie.Need-returns-4
 unfolding ending
 returns-4 c =
     let said = c .before .before in
-    let a = said .before .before .before .before .before .before .args in
+    let a = said .before .before .before .before .before .before .before .args in
     reports (Reported (a .host .sendings)) (drop 1 (a .d .now)) _
     (rw (word (said .before .before) _ (said .enum-told4 .given .1), length-replicate))
     (c .reported .ensures ∙ rw (rest (a .d .now)))

@@ -46,13 +46,14 @@ room c = omega (arith, c .head-size .ensures, whole (passed (c .before)))
 -- and the fields are those behind the head
 fields : (c : tie.After-fields-of) → let told = c .before .before .before in
     let a = start (passed told .before) .args in
-    c .fields-of .result ≡ fieldsIn (told .before .numbered .given .0 .0) (drop (headSize (a .form)) (a .bytes .now))
+    c .fields-of .result ≡ fieldsIn (a .form) (told .before .numbered .given .0 .0) (drop (headSize (a .form)) (a .bytes .now))
 fields c =
     let sized = c .before .before in
     let told = sized .before in
-    let bytes = start (passed told .before) .args .bytes .now in
+    let a = start (passed told .before) .args in
+    let bytes = a .bytes .now in
     c .fields-of .ensures
-    ∙ ap (fieldsIn (told .before .numbered .given .0 .0))
+    ∙ ap (fieldsIn (a .form) (told .before .numbered .given .0 .0))
     (take-all (length bytes - sized .head-size .result) (drop (sized .head-size .result) bytes) (rw length-drop (omega arith)) ∙ rw (sized .head-size .ensures))
 
 head-fits-requires : tie.Need-head-fits-requires

@@ -20,56 +20,59 @@ use Rattle.image_read.proofs.walk.fields_of.Statement.{statement}
 use Rattle.image_read.proofs.walk.fields_of.Tie as tie
 
 abbrev Inv-loop : tie.InvT-loop
-Inv-loop profile bytes values₀ seen₀ at₀ values seen at =
-    (at ≤ length bytes) × (length values ≡ valueCount) × (length seen ≡ rowCount) × (fieldsIn profile bytes ≡ fieldsFrom profile seen values (drop at bytes))
+Inv-loop form profile bytes values₀ seen₀ at₀ values seen at =
+    (at ≤ length bytes) × (length values ≡ valueCount) × (length seen ≡ rowCount) × (fieldsIn form profile bytes ≡ fieldsFrom form profile seen values (drop at bytes))
 
 abbrev μ-loop : tie.MeasureT-loop
-μ-loop profile bytes values₀ seen₀ at₀ values seen at = length bytes - at
+μ-loop form profile bytes values₀ seen₀ at₀ values seen at = length bytes - at
 
 -- what the step says of the bytes that are left, and what they come to
-stepped : (c : tie.After-step-at Inv-loop μ-loop) → let loop = c .before .before .before in
-    stepAt (loop .before .before .before .args .profile) (loop .loop .seen) (drop (loop .loop .at) (loop .before .before .before .args .bytes .now)) ≡ c .step-at .result
+stepped : (c : tie.After-step-at Inv-loop μ-loop) → let loop = c .before .before .before .before in
+    let a = loop .before .before .before .args in
+    stepAt (a .form) (a .profile) (loop .loop .seen) (loop .loop .values) (drop (loop .loop .at) (a .bytes .now)) ≡ c .step-at .result
 stepped c =
-    let loop = c .before .before .before in
-    let bytes = loop .before .before .before .args .bytes .now in
+    let loop = c .before .before .before .before in
+    let a = loop .before .before .before .args in
+    let bytes = a .bytes .now in
     let at = loop .loop .at in
     let all = take-all (length bytes - at) (drop at bytes) (rw length-drop (omega arith)) in
-    sym (c .step-at .ensures ∙ ap (stepAt (loop .before .before .before .args .profile) (loop .loop .seen)) all)
+    sym (c .step-at .ensures ∙ ap (stepAt (a .form) (a .profile) (loop .loop .seen) (loop .loop .values)) all)
 
-goes-on : (c : tie.After-step-at Inv-loop μ-loop) (s : Step) → c .step-at .result ≡ s → let loop = c .before .before .before in
+goes-on : (c : tie.After-step-at Inv-loop μ-loop) (s : Step) → c .step-at .result ≡ s → let loop = c .before .before .before .before in
     let a = loop .before .before .before .args in
     let left = drop (loop .loop .at) (a .bytes .now) in
     let values = loop .loop .values in
-    fieldsIn (a .profile) (a .bytes .now)
-    ≡ afterStep s values (λ row. fieldsFrom (a .profile) (seenWith row (loop .loop .seen)) (valuesWith row (valuesIn row left) values) (behind row left))
+    fieldsIn (a .form) (a .profile) (a .bytes .now)
+    ≡ afterStep s values (λ row. fieldsFrom (a .form) (a .profile) (seenWith row (loop .loop .seen)) (valuesWith row (valuesIn row left) values) (behind row left))
 goes-on c s e =
-    let loop = c .before .before .before in
-    loop .loop .inv .3 ∙ fields-step _ (loop .loop .seen) (loop .loop .values) _ s (stepped c ∙ e)
+    let loop = c .before .before .before .before in
+    loop .loop .inv .3 ∙ fields-step _ _ (loop .loop .seen) (loop .loop .values) _ s (stepped c ∙ e)
 
 -- what stands there where a field is taken
-found : (c : tie.After-known-told Inv-loop μ-loop) → let loop = c .before .before .before .before .before .before in
-    Takes (loop .before .before .before .args .profile) (loop .loop .seen) (drop (loop .loop .at) (loop .before .before .before .args .bytes .now)) (c .before .step .given .0 .0)
+found : (c : tie.After-known-told Inv-loop μ-loop) → let loop = c .before .before .before .before .before .before .before in
+    let a = loop .before .before .before .args in
+    Takes (a .form) (a .profile) (loop .loop .seen) (loop .loop .values) (drop (loop .loop .at) (a .bytes .now)) (c .before .step .given .0 .0)
 found c =
     let call = c .before .before .before in
-    takes _ _ _ _ (stepped call ∙ c .before .step .given .1)
+    takes _ _ _ _ _ _ (stepped call ∙ c .before .step .given .1)
 
-room : (c : tie.After-known-told Inv-loop μ-loop) → let loop = c .before .before .before .before .before .before in
+room : (c : tie.After-known-told Inv-loop μ-loop) → let loop = c .before .before .before .before .before .before .before in
     loop .loop .at + 2 + byteCount (c .before .step .given .0 .0) ≤ length (loop .before .before .before .args .bytes .now)
 room c =
-    let loop = c .before .before .before .before .before .before in
+    let loop = c .before .before .before .before .before .before .before in
     omega (arith, length-drop (loop .loop .at) (loop .before .before .before .args .bytes .now), found c .whole, loop .loop .inv .0)
 
 -- the part of the bytes that holds its values
-part : (c : tie.After-byte-count Inv-loop μ-loop) → let loop = c .before .before .before .before .before .before .before in
+part : (c : tie.After-byte-count Inv-loop μ-loop) → let loop = c .before .before .before .before .before .before .before .before in
     let bytes = loop .before .before .before .args .bytes .now in
     let from = loop .loop .at + 2 in
     take (from + c .byte-count .result - from) (drop from bytes) ≡ valuesIn (c .before .before .step .given .0 .0) (drop (loop .loop .at) bytes)
 part c =
-    let loop = c .before .before .before .before .before .before .before in
+    let loop = c .before .before .before .before .before .before .before .before in
     let n : loop .loop .at + 2 + c .byte-count .result - (loop .loop .at + 2) ≡ byteCount (c .before .before .step .given .0 .0) = omega (arith, c .byte-count .ensures) in
     rw (n, drop-drop 2 (loop .loop .at) (loop .before .before .before .args .bytes .now))
 
-as-many : (c : tie.After-byte-count Inv-loop μ-loop) → let loop = c .before .before .before .before .before .before .before in
+as-many : (c : tie.After-byte-count Inv-loop μ-loop) → let loop = c .before .before .before .before .before .before .before .before in
     let row = c .before .before .step .given .0 .0 in
     length (valuesIn row (drop (loop .loop .at) (loop .before .before .before .args .bytes .now))) ≡ byteCount row
 as-many c = simp (length-take, length-drop) (omega (arith, room (c .before)))
@@ -81,7 +84,8 @@ loop-holds : tie.Need-loop-holds Inv-loop μ-loop
 loop-holds c =
     let a = c .before .before .args in
     let fresh = c .fresh .ensures in
-    (omega arith, ap length fresh ∙ fresh-count (a .profile), refl, ap (λ (vs : List ℕ). fieldsFrom (a .profile) (replicate rowCount false) vs (a .bytes .now)) (sym fresh))
+    let same = ap (λ (vs : List ℕ). fieldsFrom (a .form) (a .profile) (replicate rowCount false) vs (a .bytes .now)) (sym fresh) in
+    (omega arith, ap length fresh ∙ fresh-count (a .profile), refl, same)
 
 sub-step-at : tie.Need-sub-step-at Inv-loop μ-loop
 sub-step-at c = omega (arith, c .loop .inv)
@@ -95,8 +99,11 @@ part-step-at-end c = omega (arith, c .loop .inv)
 slice-aggregate-step-at : tie.Need-slice-aggregate-step-at Inv-loop μ-loop
 slice-aggregate-step-at c = sym (c .before .before .loop .inv .2)
 
+slice-aggregate-step-at-2 : tie.Need-slice-aggregate-step-at-2 Inv-loop μ-loop
+slice-aggregate-step-at-2 c = sym (c .before .before .before .loop .inv .1)
+
 step-at-requires : tie.Need-step-at-requires Inv-loop μ-loop
-step-at-requires c κs = c .before .before .loop .inv .2
+step-at-requires c κs = let loop = c .before .before .before in (loop .loop .inv .2, loop .loop .inv .1)
 
 enum-known-step : tie.Need-enum-known-step Inv-loop μ-loop
 enum-known-step c = search needs
@@ -120,12 +127,12 @@ part-store-end : tie.Need-part-store-end Inv-loop μ-loop
 part-store-end c = omega (arith, c .byte-count .ensures, room (c .before))
 
 slice-aggregate-store : tie.Need-slice-aggregate-store Inv-loop μ-loop
-slice-aggregate-store c = sym (c .before .before .before .before .before .before .before .before .before .loop .inv .1)
+slice-aggregate-store c = sym (c .before .before .before .before .before .before .before .before .before .before .loop .inv .1)
 
 store-requires : tie.Need-store-requires Inv-loop μ-loop
 store-requires c κs =
     let counted = c .before .before in
-    let loop = counted .before .before .before .before .before .before .before in
+    let loop = counted .before .before .before .before .before .before .before .before in
     (found (counted .before) .in-table, ap length (part counted) ∙ as-many counted, loop .loop .inv .1)
 
 array-write-seen : tie.Need-array-write-seen Inv-loop μ-loop
@@ -141,7 +148,7 @@ loop-again c =
     let counted = c .before .before .before .before in
     let known = counted .before in
     let call = known .before .before .before in
-    let loop = call .before .before .before in
+    let loop = call .before .before .before .before in
     let bytes = loop .before .before .before .args .bytes .now in
     let at = loop .loop .at in
     let row = known .before .step .given .0 .0 in
@@ -186,6 +193,7 @@ fields-of-spec =
     part-step-at-start
     part-step-at-end
     slice-aggregate-step-at
+    slice-aggregate-step-at-2
     step-at-requires
     enum-known-step
     add-from

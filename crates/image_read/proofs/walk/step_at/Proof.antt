@@ -1,5 +1,5 @@
 -- Each test decides a case of `stepAt`. Assumes nothing.
-use mathlib.Core.Path.{_≡_, refl, sym, ap, subst, _∙_}
+use mathlib.Core.Path.{_≡_, refl, sym, ap₂, subst, _∙_}
 use mathlib.Core.Bool.{Bool, true, false, cond}
 use mathlib.Core.Logic.{⊎-elim}
 use mathlib.Core.List.{List, [], _∷_}
@@ -11,61 +11,66 @@ use denote.Enum.Declared.{tagOf}
 use lib.Dec.{eqb}
 use lib.ListN.{length, getD, take, drop}
 use Rattle.settings.specs.declared.Profile.{Profile}
+use Rattle.settings.specs.declared.Model.{Model}
 use Rattle.settings.specs.declared.Found.{Found}
 use Rattle.settings.specs.declared.Found.the-variants.{Set, Get, Nothing}
 use Rattle.settings.proofs.Found.{the-type}
-use Rattle.settings.specs.Settings.{foundBy, byteCount, allowedFor, rowCount}
-use Rattle.settings.proofs.Laws.{IsFound, found-right, place-fits}
+use Rattle.settings.specs.Settings.{fieldBy, byteCount, allowedFor, modelIn, rowCount}
+use Rattle.settings.proofs.Laws.{IsField, field-right, place-fits}
+use Rattle.forms.specs.declared.Form.{Form}
 use Rattle.image_read.specs.declared.Step.the-variants.{Field, NotAllowed, Broken}
-use Rattle.image_read.specs.Fields.{valuesIn, fieldBy, stepAt}
+use Rattle.image_read.specs.Fields.{valuesIn, misplaced, fieldOf, stepAt}
 use borrow.Author.Needs.{needs}
 use Rattle.image_read.proofs.walk.step_at.Statement.{statement}
 use Rattle.image_read.proofs.walk.step_at.Tie as tie
 
-not-set : (profile : Profile) (f : Found) (seen : List Bool) (left : List ℕ) → OneOf (1 ∷ 2 ∷ []) (tagOf the-type f) → Broken ≡ fieldBy profile f seen left
-not-set profile (Set row) seen left h = absurd (⊎-elim (λ e. omega arith) (λ e. omega arith) h)
-not-set profile (Get row) seen left h = refl
-not-set profile Nothing seen left h = refl
+-- the tests, in order
+module _ (form : Form) (profile : Profile) (seen : List Bool) (values left : List ℕ) where
+  not-set : (f : Found) → OneOf (1 ∷ 2 ∷ []) (tagOf the-type f) → Broken ≡ fieldOf form profile f seen values left
+  not-set (Set row) h = absurd (⊎-elim (λ e. omega arith) (λ e. omega arith) h)
+  not-set (Get row) h = refl
+  not-set Nothing h = refl
 
--- the tests on a row's field, in order
-module _ (profile : Profile) (seen : List Bool) (left : List ℕ) (row : ℕ) (n : eqb (length left) 0 ≡ false) (found : foundBy (getD left 0 0) ≡ Set row) where
-  when-seen : getD seen row false ≡ true → Broken ≡ stepAt profile seen left
-  unfolding stepAt
-  when-seen s = simp (n, found, s)
-
-  when-cut : getD seen row false ≡ false → length left < 2 + byteCount row → Broken ≡ stepAt profile seen left
-  unfolding stepAt
-  when-cut s h = simp (n, found, s, lt-ltb (length left) (2 + byteCount row) h)
-
-  module _ (s : getD seen row false ≡ false) (h : 2 + byteCount row ≤ length left) where
-    when-other : (getD left 1 0 ≡ byteCount row → ⊥) → Broken ≡ stepAt profile seen left
+  module _ (row : ℕ) (n : eqb (length left) 0 ≡ false) (found : fieldBy (getD left 0 0) ≡ Set row) where
+    when-misplaced : misplaced form seen row ≡ true → Broken ≡ stepAt form profile seen values left
     unfolding stepAt
-    when-other d = simp (n, found, s, le-ltb (length left) (2 + byteCount row) h, ne-eqb (getD left 1 0) (byteCount row) d)
+    when-misplaced s = simp (n, found) (rw s)
 
-    when-whole : getD left 1 0 ≡ byteCount row → (t : Bool) → allowedFor profile row (valuesIn row left) ≡ t
-        → cond t (Field row) NotAllowed ≡ stepAt profile seen left
-    unfolding stepAt
-    when-whole d t a = simp (n, found, s, le-ltb (length left) (2 + byteCount row) h, eq-eqb (getD left 1 0) (byteCount row) d, a)
+    module _ (s : misplaced form seen row ≡ false) where
+      when-cut : length left < 2 + byteCount row → Broken ≡ stepAt form profile seen values left
+      unfolding stepAt
+      when-cut h = simp (n, found) (rw (s, lt-ltb (length left) (2 + byteCount row) h))
+
+      module _ (h : 2 + byteCount row ≤ length left) where
+        when-other : (getD left 1 0 ≡ byteCount row → ⊥) → Broken ≡ stepAt form profile seen values left
+        unfolding stepAt
+        when-other d = simp (n, found) (rw (s, le-ltb (length left) (2 + byteCount row) h, ne-eqb (getD left 1 0) (byteCount row) d))
+
+        when-whole : getD left 1 0 ≡ byteCount row → (t : Bool) → allowedFor (modelIn profile values) row (valuesIn row left) ≡ t
+            → cond t (Field row) NotAllowed ≡ stepAt form profile seen values left
+        unfolding stepAt
+        when-whole d t a = simp (n, found) (rw (s, le-ltb (length left) (2 + byteCount row) h, eq-eqb (getD left 1 0) (byteCount row) d, a))
 
 -- past the first two tests the bytes begin with the set code of a row
-some : (c : tie.After-find-setting) → eqb (length (c .before .before .before .before .before .args .left .now)) 0 ≡ false
+some : (c : tie.After-find-field) → eqb (length (c .before .before .before .before .before .before .args .left .now)) 0 ≡ false
 some c = ne-eqb _ _ (c .before .before .if1 .left)
 
-found : (c : tie.After-known-told) → foundBy (getD (c .before .before .before .before .before .before .before .before .args .left .now) 0 0) ≡ Set (c .before .found .given .0 .0)
-found c = sym (c .before .before .before .find-setting .ensures) ∙ c .before .found .given .1
+found : (c : tie.After-known-told) → let a = c .before .before .before .before .before .before .before .before .before .args in
+    fieldBy (getD (a .left .now) 0 0) ≡ Set (c .before .found .given .0 .0)
+found c = sym (c .before .before .before .find-field .ensures) ∙ c .before .found .given .1
 
 in-table : (c : tie.After-known-told) → c .before .found .given .0 .0 < rowCount
-in-table c = subst (IsFound _) (found c) (found-right _) .0
+in-table c = subst (IsField _) (found c) (field-right _) .0
 
 returns : tie.Need-returns
 unfolding stepAt
 returns c = simp (eq-eqb _ _ (c .if1 .taken))
 
-shared-slice-read-find-setting : tie.Need-shared-slice-read-find-setting
-shared-slice-read-find-setting c = search needs
+shared-slice-read-find-field : tie.Need-shared-slice-read-find-field
+shared-slice-read-find-field c = search needs
 
-find-setting-requires : tie.Need-find-setting-requires
-find-setting-requires c κs = search needs
+find-field-requires : tie.Need-find-field-requires
+find-field-requires c κs = search needs
 
 enum-known-found : tie.Need-enum-known-found
 enum-known-found c = search needs
@@ -74,17 +79,25 @@ returns-2 : tie.Need-returns-2
 unfolding stepAt
 returns-2 c =
     let call = c .before in
-    let a = call .before .before .before .before .before .args in
-    rw (some call, ← call .find-setting .ensures) (not-set (a .profile) (call .find-setting .result) (a .seen .now) (a .left .now) (c .match .keys2))
+    let a = call .before .before .before .before .before .before .args in
+    rw (some call, ← call .find-field .ensures) (not-set (a .form) (a .profile) (a .seen .now) (a .values .now) (a .left .now) (call .find-field .result) (c .match .keys2))
 
 byte-count-requires : tie.Need-byte-count-requires
 byte-count-requires c κs = in-table c
 
-shared-slice-read-if2 : tie.Need-shared-slice-read-if2
-shared-slice-read-if2 c = omega (arith, in-table (c .before .before), c .before .before .before .before .before .before .before .before .before .before .pre)
+is-misplaced-requires : tie.Need-is-misplaced-requires
+is-misplaced-requires c κs = (in-table (c .before), c .before .before .before .before .before .before .before .before .before .before .pre .0)
+
+-- the row has a field here or not
+here : (c : tie.After-is-misplaced) (t : Bool) → c .is-misplaced .result ≡ t → let known = c .before .before in
+    let a = known .before .before .before .before .before .before .before .before .before .args in
+    misplaced (a .form) (a .seen .now) (known .before .found .given .0 .0) ≡ t
+here c t e = sym (c .is-misplaced .ensures) ∙ e
 
 returns-3 : tie.Need-returns-3
-returns-3 c = let known = c .before .before .before in when-seen _ _ _ _ (some (known .before .before .before)) (found known) (c .if2 .taken)
+returns-3 c =
+    let known = c .before .before .before in
+    when-misplaced _ _ _ _ _ _ (some (known .before .before .before)) (found known) (here (c .before) true (c .if2 .taken))
 
 add-if3 : tie.Need-add-if3
 add-if3 c = omega (arith, place-fits (c .before .before .before .before .found .given .0 .0))
@@ -93,7 +106,8 @@ returns-4 : tie.Need-returns-4
 returns-4 c =
     let else2 = c .before in
     let known = else2 .before .before .before in
-    when-cut _ _ _ _ (some (known .before .before .before)) (found known) (else2 .if2 .left) (omega (arith, c .if3 .taken, else2 .before .before .byte-count .ensures))
+    when-cut _ _ _ _ _ _ (some (known .before .before .before)) (found known) (here (else2 .before) false (else2 .if2 .left))
+    (omega (arith, c .if3 .taken, else2 .before .before .byte-count .ensures))
 
 shared-slice-read-if4 : tie.Need-shared-slice-read-if4
 shared-slice-read-if4 c = search needs
@@ -107,7 +121,11 @@ returns-5 c =
     let else2 = else3 .before in
     let known = else2 .before .before .before in
     let n = else2 .before .before .byte-count .ensures in
-    when-other _ _ _ _ (some (known .before .before .before)) (found known) (else2 .if2 .left) (omega (arith, else3 .if3 .left)) (λ e. c .if4 .taken (e ∙ sym n))
+    when-other _ _ _ _ _ _ (some (known .before .before .before)) (found known) (here (else2 .before) false (else2 .if2 .left))
+    (omega (arith, else3 .if3 .left)) (λ e. c .if4 .taken (e ∙ sym n))
+
+model-in-requires : tie.Need-model-in-requires
+model-in-requires c κs = search needs
 
 add-allowed : tie.Need-add-allowed
 add-allowed c = search needs
@@ -122,24 +140,26 @@ part-allowed-end : tie.Need-part-allowed-end
 part-allowed-end c = search needs
 
 allowed-requires : tie.Need-allowed-requires
-allowed-requires c κs = in-table (c .before .before .before .before .before .before .before)
+allowed-requires c κs = in-table (c .before .before .before .before .before .before .before .before)
 
 -- a whole field, as its values are allowed or not
-whole : (c : tie.After-allowed) (t : Bool) → c .allowed .result ≡ t → let known = c .before .before .before .before .before .before .before .before in
+whole : (c : tie.After-allowed) (t : Bool) → c .allowed .result ≡ t → let known = c .before .before .before .before .before .before .before .before .before in
     let row = known .before .found .given .0 .0 in
-    let a = known .before .before .before .before .before .before .before .before .args in
-    cond t (Field row) NotAllowed ≡ stepAt (a .profile) (a .seen .now) (a .left .now)
+    let a = known .before .before .before .before .before .before .before .before .before .args in
+    cond t (Field row) NotAllowed ≡ stepAt (a .form) (a .profile) (a .seen .now) (a .values .now) (a .left .now)
 whole c t e =
-    let else4 = c .before .before in
+    let model = c .before .before in
+    let else4 = model .before in
     let else3 = else4 .before .before in
     let else2 = else3 .before in
     let known = else2 .before .before .before in
-    let a = known .before .before .before .before .before .before .before .before .args in
+    let a = known .before .before .before .before .before .before .before .before .before .args in
     let row = known .before .found .given .0 .0 in
     let n = else2 .before .before .byte-count .ensures in
     let m : 2 + else2 .before .before .byte-count .result - 2 ≡ byteCount row = omega arith in
-    let answer = c .allowed .ensures ∙ ap (λ (k : ℕ). allowedFor (a .profile) row (take k (drop 2 (a .left .now)))) m in
-    when-whole _ _ _ _ (some (known .before .before .before)) (found known) (else2 .if2 .left) (omega (arith, else3 .if3 .left)) (else4 .if4 .left ∙ n) t (sym answer ∙ e)
+    let answer = c .allowed .ensures ∙ ap₂ (λ (o : Model) (k : ℕ). allowedFor o row (take k (drop 2 (a .left .now)))) (model .model-in .ensures) m in
+    when-whole _ _ _ _ _ _ (some (known .before .before .before)) (found known) (here (else2 .before) false (else2 .if2 .left))
+    (omega (arith, else3 .if3 .left)) (else4 .if4 .left ∙ n) t (sym answer ∙ e)
 
 returns-6 : tie.Need-returns-6
 returns-6 c = whole (c .before) false (not-true _ (c .if5 .taken))
@@ -152,18 +172,19 @@ step-at-spec =
     tie.close
     (tie.spec
     returns
-    shared-slice-read-find-setting
-    find-setting-requires
+    shared-slice-read-find-field
+    find-field-requires
     enum-known-found
     returns-2
     byte-count-requires
-    shared-slice-read-if2
+    is-misplaced-requires
     returns-3
     add-if3
     returns-4
     shared-slice-read-if4
     cast-if4
     returns-5
+    model-in-requires
     add-allowed
     sub-allowed
     part-allowed-start

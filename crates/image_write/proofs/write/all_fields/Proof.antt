@@ -1,53 +1,47 @@
 -- The invariant: the fields of the rows passed stand one behind the other. Assumes nothing.
 use mathlib.Core.Path.{_≡_, sym, ap, _∙_}
 use mathlib.Core.List.{[], flatten}
-use Prim.Native.Nat.{_+_, _-_, _≤_}
+use Prim.Native.Nat.{_+_, _-_, _≤_, _<_}
 use native.Mathlib.Numerals.{add-one}
 use native.Mathlib.Omega.{arith}
-use lib.ListN.{length, getD, take}
-use Rattle.settings.specs.Settings.{byteCount, rowCount}
-use Rattle.lists.specs.Lists.{laidAt}
+use lib.ListN.{length, getD, take, length-append}
+use Rattle.settings.specs.Settings.{rowCount}
+use Rattle.lists.specs.Lists.{startOf, laidAt}
+use Rattle.lists.proofs.Flat.{flat-fits, flat-more}
 use Rattle.lists.proofs.Laid.{length-laid, laid-none, laid-more}
-use Rattle.image_write.specs.Written.{fieldsOf, fieldsSize}
-use Rattle.image_write.proofs.Lengths.{field-at, fields-count, fieldBytes, fields-before, bytes-fit, bytes-of-all, fields-all}
-use Rattle.panels.proofs.Values.{length-values}
+use Rattle.image_write.specs.Written.{fieldsOf}
+use Rattle.image_write.proofs.Lengths.{field-at, fields-count, fields-all, fields-length}
 use Rattle.image_write.proofs.write.all_fields.Statement.{statement}
 use Rattle.image_write.proofs.write.all_fields.Tie as tie
 
 abbrev Inv-loop : tie.InvT-loop
-Inv-loop out₀ at values next₀ row₀ out next row =
-    (row ≤ rowCount) × (next ≡ at + length (flatten (take row (fieldsOf values)))) × (out ≡ laidAt at (flatten (take row (fieldsOf values))) out₀)
+Inv-loop form out₀ at values next₀ row₀ out next row =
+    (row ≤ rowCount) × (next ≡ at + startOf (fieldsOf form values) row) × (out ≡ laidAt at (flatten (take row (fieldsOf form values))) out₀)
 
 abbrev μ-loop : tie.MeasureT-loop
-μ-loop out₀ at values next₀ row₀ out next row = rowCount - row
+μ-loop form out₀ at values next₀ row₀ out next row = rowCount - row
 
--- the bytes written so far, and that there is room for one more field
-so-far : (c : tie.In-loop Inv-loop μ-loop) → let at-loop = c .before in
-    (length (flatten (take (at-loop .loop .row) (fieldsOf (at-loop .before .before .args .values)))) ≡ fieldBytes (at-loop .loop .row))
-    × (at-loop .loop .next + (2 + byteCount (at-loop .loop .row)) ≤ at-loop .before .before .args .at + fieldsSize)
-    × (length (at-loop .loop .out) ≡ length (at-loop .before .before .args .out .now))
+-- there is room for one more field, and the output is as long as it was
+so-far : (c : tie.At-loop Inv-loop μ-loop) → let a = c .before .before .args in
+    (c .loop .next + length (getD (fieldsOf (a .form) (a .values)) (c .loop .row) []) ≤ length (a .out .now)) × (length (c .loop .out) ≡ length (a .out .now))
+unfolding flatten
 so-far c =
-    let loop = c .before in
-    let a = loop .before .before .args in
-    let n = fields-before (a .values) (omega (arith, loop .before .before .good)) (loop .loop .row) (omega arith) in
-    let m = bytes-fit {row = loop .loop .row} (omega arith) in
-    (n, omega arith, ap length (loop .loop .inv .2) ∙ length-laid _ _ _ (omega arith))
+    let a = c .before .before .args in
+    let fits = flat-fits (fieldsOf (a .form) (a .values)) (c .loop .row) in
+    let n = fields-length (a .form) (a .values) (omega (arith, c .before .before .good)) in
+    let room : c .loop .next + length (getD (fieldsOf (a .form) (a .values)) (c .loop .row) []) ≤ length (a .out .now) = omega arith in
+    (room, ap length (c .loop .inv .2) ∙ length-laid _ _ _ (omega arith))
 
 loop-holds : tie.Need-loop-holds Inv-loop μ-loop
 unfolding flatten
 loop-holds c = (omega arith, omega arith, sym (laid-none _ _))
 
-one-field-requires : tie.Need-one-field-requires Inv-loop μ-loop
-one-field-requires c κs = omega (arith, so-far (c .before))
-
-add-next : tie.Need-add-next Inv-loop μ-loop
-add-next c = omega (arith, so-far (c .before .before .before .before))
-
-byte-count-requires : tie.Need-byte-count-requires Inv-loop μ-loop
-byte-count-requires c κs = omega arith
-
-add-next-2 : tie.Need-add-next-2 Inv-loop μ-loop
-add-next-2 c = omega (arith, so-far (c .before .before .before .before .before))
+field-in-requires : tie.Need-field-in-requires Inv-loop μ-loop
+field-in-requires c κs =
+    let loop = c .before .before in
+    let a = loop .before .before .args in
+    let e = field-at (a .form) (a .values) {row = loop .loop .row} (omega arith) in
+    (omega arith, rw (← e) (omega (arith, so-far loop)))
 
 add-row : tie.Need-add-row Inv-loop μ-loop
 add-row c = omega arith
@@ -56,37 +50,30 @@ loop-less : tie.Need-loop-less Inv-loop μ-loop
 loop-less c = omega arith
 
 loop-again : tie.Need-loop-again Inv-loop μ-loop
+unfolding flatten
 loop-again c =
-    let one = c .before .before .before in
-    let turn = one .before .before in
-    let loop = turn .before in
+    let one = c .before .before in
+    let loop = one .before .before .before in
     let a = loop .before .before .args in
     let row = loop .loop .row in
-    let (n, room, long) = so-far turn in
-    let e = field-at (a .values) row (omega arith) in
-    let len = length-values row (a .values) (omega (arith, loop .before .before .good)) in
-    let len′ : length (getD (fieldsOf (a .values)) row []) ≡ 2 + byteCount row = rw (e, len) (omega arith) in
-    let next = fields-before (a .values) (omega (arith, loop .before .before .good)) (row + 1) (omega arith) in
-    let laid = laid-more (a .at) (loop .loop .next) row (fieldsOf (a .values)) (a .out .now) (omega (arith, fields-count (a .values))) (loop .loop .inv .1) (rw len′ (omega arith)) in (
+    let fields = fieldsOf (a .form) (a .values) in
+    let here : row < length fields = omega (arith, fields-count (a .form) (a .values)) in
+    let e = field-at (a .form) (a .values) {row = row} (omega arith) in
+    let laid = laid-more (a .at) (loop .loop .next) row fields (a .out .now) here (loop .loop .inv .1) (so-far loop .0) in (
       omega arith,
-      rw next (unfold fieldBytes in rw add-one (omega arith)),
-      one .one-field .ensures ∙ rw (loop .loop .inv .2, ← e) laid,
+      one .field-in .ensures .0 ∙ rw (add-one, flat-more fields row here, length-append (flatten (take row fields)) _, e) (omega arith),
+      one .field-in .ensures .1 ∙ rw (loop .loop .inv .2, ← e) laid,
     )
 
 same-length : tie.Need-same-length Inv-loop μ-loop
-same-length c =
-    let loop = c .before in
-    let a = loop .before .before .args in
-    let n = fields-before (a .values) (omega (arith, loop .before .before .good)) (loop .loop .row) (omega arith) in
-    let all : loop .loop .row ≡ rowCount = omega arith in
-    ap length (loop .loop .inv .2) ∙ length-laid _ _ _ (rw (n, all) (omega (arith, bytes-of-all)))
+same-length c = so-far (c .before) .1
 
 returns : tie.Need-returns Inv-loop μ-loop
 returns c =
     let loop = c .before in
     let a = loop .before .before .args in
     let all : loop .loop .row ≡ rowCount = omega arith in
-    loop .loop .inv .2 ∙ rw (all, fields-all (a .values))
+    loop .loop .inv .2 ∙ rw (all, fields-all (a .form) (a .values))
 
 pub all-fields-spec : {M : Type 1} → statement M
 all-fields-spec =
@@ -95,10 +82,7 @@ all-fields-spec =
     Inv-loop
     μ-loop
     loop-holds
-    one-field-requires
-    add-next
-    byte-count-requires
-    add-next-2
+    field-in-requires
     add-row
     loop-less
     loop-again

@@ -6,11 +6,10 @@ use native.Mathlib.Omega.{arith}
 use borrow.Author.Needs.{needs}
 use lib.ListN.{length, take, drop, set, length-set, length-take, length-drop}
 use borrow.Rule.Slice.PartMut.{midOf, putMid, same-len-mid}
-use Rattle.settings.specs.Settings.{setCode, byteCount, place, valueCount}
+use Rattle.settings.specs.Settings.{setCode, byteCount, place, valueCount, valuesOf}
 use Rattle.settings.proofs.Laws.{place-fits}
 use Rattle.lists.specs.Lists.{laidAt}
 use Rattle.lists.proofs.Laid.{laid-copy, laid-then, laid-two}
-use Rattle.panels.specs.Wall.{valuesOf}
 use Rattle.image_write.specs.Written.{field}
 use Rattle.panels.proofs.Values.{length-values}
 use Rattle.image_write.proofs.write.one_field.Statement.{statement}

@@ -14,7 +14,7 @@ use borrow.Author.Needs.{needs}
 use Rattle.image_write.proofs.write.one_record.Statement.{statement}
 use Rattle.image_write.proofs.write.one_record.Tie as tie
 
-room : (c : tie.Start) → c .args .at + (headSize (c .args .form) + fieldsSize) ≤ length (c .args .out .now)
+room : (c : tie.Start) → c .args .at + (headSize (c .args .form) + fieldsSize (c .args .form)) ≤ length (c .args .out .now)
 unfolding recordSize
 room c = c .pre .1
 
@@ -35,7 +35,7 @@ all-fields-requires c κs = omega (arith, c .head-size .ensures, room (start c),
 
 laid : (c : tie.After-slice-known3) → let sized = c .before .before .before in
     let a = start sized .args in
-    c .before .before .all-fields .last .0 ≡ laidAt (a .at) (recordOf (a .form) (a .p)) (a .out .now)
+    c .before .before .all-fields .last .1 .0 ≡ laidAt (a .at) (recordOf (a .form) (a .p)) (a .out .now)
 unfolding recordOf
 laid c =
     let fields = c .before .before in
@@ -45,10 +45,11 @@ laid c =
     let p = a .p in
     let h = headOf (a .form) (p .id .0) (p .group .0) (p .profile) in
     let long = head-length (p .id .0) (p .group .0) (p .profile) (a .form) in
-    let n = fields-length (p .values) (s .pre .0) in
+    let n = fields-length (a .form) (p .values) (s .pre .0) in
     fields .all-fields .ensures
-    ∙ ap₂ (λ m l. laidAt (a .at + m) (flatten (fieldsOf (p .values))) l) (sized .head-size .ensures) (sized .before .before .before .before .before .head .ensures)
-    ∙ laid-then (a .at) (a .at + headSize (a .form)) h (flatten (fieldsOf (p .values))) (a .out .now) (ap (λ (m : ℕ). a .at + m) (sym long)) (rw n (omega (arith, room s)))
+    ∙ ap₂ (λ m l. laidAt (a .at + m) (flatten (fieldsOf (a .form) (p .values))) l) (sized .head-size .ensures) (sized .before .before .before .before .before .head .ensures)
+    ∙ laid-then (a .at) (a .at + headSize (a .form)) h
+    (flatten (fieldsOf (a .form) (p .values))) (a .out .now) (ap (λ (m : ℕ). a .at + m) (sym long)) (rw n (omega (arith, room s)))
 
 same-length : tie.Need-same-length
 same-length c =

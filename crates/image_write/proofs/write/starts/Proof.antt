@@ -46,7 +46,7 @@ long c =
 
 -- where a record starts is below what two bytes hold
 below : (c : tie.In-loop Inv-loop μ-loop) → let loop = c .before in
-    (loop .before .record-size .result * loop .loop .k ≤ 1088) × (loop .before .record-size .result * start loop .args .n ≤ 1088)
+    (loop .before .record-size .result * loop .loop .k ≤ 1376) × (loop .before .record-size .result * start loop .args .n ≤ 1376)
 below c =
     let loop = c .before in
     let (_, more, _, most, _) = product (loop .before) (loop .loop .k) in

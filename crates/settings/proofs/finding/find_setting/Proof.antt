@@ -16,7 +16,7 @@ arm e = ap foundBy (sym e)
 
 -- the arms' codes, the last first
 abbrev codes : List ℕ
-codes = 0xD0 ∷ 0xD1 ∷ 0x61 ∷ 0x62 ∷ 0xDD ∷ 0xDE ∷ 0x42 ∷ 0x43 ∷ 0x34 ∷ 0x35 ∷ 0x32 ∷ 0x33 ∷ 0xA3 ∷ 0xA4 ∷ 0x18 ∷ 0x19 ∷ []
+codes = 0xD0 ∷ 0xD1 ∷ 0x61 ∷ 0x62 ∷ 0x22 ∷ 0x23 ∷ 0xDD ∷ 0xDE ∷ 0x42 ∷ 0x43 ∷ 0x34 ∷ 0x35 ∷ 0x32 ∷ 0x33 ∷ 0xA3 ∷ 0xA4 ∷ 0x18 ∷ 0x19 ∷ []
 
 -- the code is none of ks, as `rest` says it
 abbrev NoneOf : ℕ → List ℕ → Type 0
@@ -54,4 +54,6 @@ find-setting-spec =
     (λ c. arm (c .match .keys14))
     (λ c. arm (c .match .keys15))
     (λ c. arm (c .match .keys16))
+    (λ c. arm (c .match .keys17))
+    (λ c. arm (c .match .keys18))
     (λ c. no-more (c .before .fits .code .fits) (c .match .rest)))

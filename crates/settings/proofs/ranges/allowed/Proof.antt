@@ -1,44 +1,57 @@
--- All but the video of a Phoenix panel is as general. Assumes nothing.
-use mathlib.Core.Path.{_≡_, refl, sym, ap, _∙_}
-use mathlib.Core.Logic.{⊎-elim}
-use mathlib.Core.List.{List}
+-- The ranges are tried, and then, of a tiling, its wall. Assumes nothing.
+use mathlib.Core.Path.{_≡_, sym, ap, _∙_}
+use mathlib.Core.Bool.{Bool, true, false, _&&_}
 use Prim.Native.Nat.{ℕ, _<_}
+use native.Mathlib.Omega.{arith}
 use borrow.Author.Needs.{needs}
-use Rattle.settings.specs.declared.Profile.{Profile}
-use Rattle.settings.specs.declared.Profile.the-variants.{General, Phoenix}
-use Rattle.settings.specs.Settings.{Range, allAllowed, allowedFor, rowCount, videoRow}
-use Rattle.settings.proofs.Laws.{all-else}
+use borrow.Author.Tests.{not-true, not-false, eq-eqb, ne-eqb}
+use lib.ListN.{length}
+use Rattle.settings.specs.Settings.{settings, inRanges, allowedFor, byteCount, tilingRow}
+use Rattle.settings.proofs.Laws.{ranges-many}
 use Rattle.settings.proofs.ranges.allowed.Statement.{statement}
 use Rattle.settings.proofs.ranges.allowed.Tie as tie
 
-as-general : (profile : Profile) {row : ℕ} (vs : List ℕ) → row < rowCount → (row ≡ videoRow → ⊥) → allowedFor General row vs ≡ allowedFor profile row vs
-as-general General vs h ne = refl
-as-general Phoenix vs h ne = ap (λ (rs : List (List Range)). allAllowed rs vs) (sym (all-else h ne))
-
-enum-told : tie.Need-enum-told
-enum-told c = search needs
-
-video-allowed-requires : tie.Need-video-allowed-requires
-video-allowed-requires c κs = search needs
+in-ranges-requires : tie.Need-in-ranges-requires
+in-ranges-requires c κs = search needs
 
 returns : tie.Need-returns
-returns c = c .video-allowed .ensures ∙ rw (c .before .before .enum-told .given .1, c .before .if1 .taken)
-
-enum-told-2 : tie.Need-enum-told-2
-enum-told-2 c = search needs
-
-general-allowed-requires : tie.Need-general-allowed-requires
-general-allowed-requires c κs = search needs
+returns c = let out = sym (c .before .in-ranges .ensures) ∙ not-true _ (c .if1 .taken) in rw out
 
 returns-2 : tie.Need-returns-2
 returns-2 c =
-    let met = c .before in
-    let start = met .before .before in
-    c .general-allowed .ensures
-    ∙ ⊎-elim
-    (λ w. as-general _ _ (start .pre) (w .2 .left))
-    (λ w. ap (λ (profile : Profile). allowedFor profile (start .args .row) (start .args .values .now)) (sym (w .1 .given .1)))
-    (met .match .came)
+    let inside = sym (c .before .before .in-ranges .ensures) ∙ not-false _ (c .before .if1 .left) in
+    rw (inside, ne-eqb _ _ (c .if2 .taken))
+
+-- a tiling in its ranges has four values
+four : (c : tie.Else2) → length (c .before .before .before .before .args .values .now) ≡ 4
+unfolding settings
+four c =
+    let a = c .before .before .before .before .args in
+    ranges-many (a .model .profile) (a .row) (a .values .now) (sym (c .before .before .in-ranges .ensures) ∙ not-false _ (c .before .if1 .left)) ∙ ap byteCount (c .if2 .left)
+
+shared-slice-read-in-wall : tie.Need-shared-slice-read-in-wall
+shared-slice-read-in-wall c = omega (arith, four (c .before))
+
+shared-slice-read-in-wall-2 : tie.Need-shared-slice-read-in-wall-2
+shared-slice-read-in-wall-2 c = omega (arith, four (c .before .before))
+
+in-wall-requires : tie.Need-in-wall-requires
+in-wall-requires c κs = search needs
+
+returns-3 : tie.Need-returns-3
+returns-3 c =
+    let met = c .before .before .before in
+    let inside = sym (met .before .before .in-ranges .ensures) ∙ not-false _ (met .before .if1 .left) in
+    c .in-wall .ensures ∙ rw (inside, eq-eqb _ _ (met .if2 .left))
 
 pub allowed-spec : {M : Type 1} → statement M
-allowed-spec = tie.close (tie.spec enum-told video-allowed-requires returns enum-told-2 general-allowed-requires returns-2)
+allowed-spec =
+    tie.close
+    (tie.spec
+    in-ranges-requires
+    returns
+    returns-2
+    shared-slice-read-in-wall
+    shared-slice-read-in-wall-2
+    in-wall-requires
+    returns-3)

@@ -5,8 +5,8 @@ use native.Mathlib.Omega.{arith}
 use Rattle.panels.specs.Wall.{mostPanels}
 use Rattle.panels.proofs.Laws.{count-is, count-few, place-there}
 use borrow.Author.Needs.{needs}
-use Rattle.mixed_wall.proofs.show_tint.Statement.{statement}
-use Rattle.mixed_wall.proofs.show_tint.Tie as tie
+use Rattle.mixed_wall.proofs.show.Statement.{statement}
+use Rattle.mixed_wall.proofs.show.Tie as tie
 
 find-panel-requires : tie.Need-find-panel-requires
 find-panel-requires c κs = search needs
@@ -28,43 +28,31 @@ inside c =
     let there = place-there _ _ _ (sym (found .find-panel .ensures) ∙ c .before .place .given .1) .0 in
     omega (arith, count-is f, count-few f)
 
-mul-video-of : tie.Need-mul-video-of
-mul-video-of c = omega (arith, inside c)
+mul-p : tie.Need-mul-p
+mul-p c = omega (arith, inside c)
 
-element-copy-out-video-of : tie.Need-element-copy-out-video-of
-element-copy-out-video-of c = inside c
+element-copy-out-p : tie.Need-element-copy-out-p
+element-copy-out-p c = inside c
 
-video-of-requires : tie.Need-video-of-requires
-video-of-requires c κs = search needs
+show-tint-requires : tie.Need-show-tint-requires
+show-tint-requires c κs = search needs
 
-enum-known-seen : tie.Need-enum-known-seen
-enum-known-seen c = search needs
-
-print-tint-requires : tie.Need-print-tint-requires
-print-tint-requires c κs = search needs
-
-enum-told-2 : tie.Need-enum-told-2
-enum-told-2 c = search needs
+show-place-requires : tie.Need-show-place-requires
+show-place-requires c κs = search needs
 
 returns-2 : tie.Need-returns-2
 returns-2 c = search needs
 
-returns-3 : tie.Need-returns-3
-returns-3 c = search needs
-
-pub show-tint-spec : {M : Type 1} → statement M
-show-tint-spec =
+pub show-spec : {M : Type 1} → statement M
+show-spec =
     tie.close
     (tie.spec
     find-panel-requires
     enum-known-place
     enum-told
     returns
-    mul-video-of
-    element-copy-out-video-of
-    video-of-requires
-    enum-known-seen
-    print-tint-requires
-    enum-told-2
-    returns-2
-    returns-3)
+    mul-p
+    element-copy-out-p
+    show-tint-requires
+    show-place-requires
+    returns-2)

@@ -1,0 +1,37 @@
+-- The kind is the one value of its row. Assumes nothing.
+use mathlib.Core.Path.{sym, ap, _∙_}
+use mathlib.Core.List.{flatten}
+use Prim.Native.Nat.{ℕ}
+use native.Mathlib.Omega.{arith}
+use borrow.Author.Needs.{needs}
+use lib.ListN.{getD}
+use Rattle.tiling.specs.declared.Kind.{Kind}
+use Rattle.tiling.specs.Kinds.{kindWith}
+use Rattle.settings.specs.declared.Model.{Model}
+use Rattle.settings.specs.Settings.{settings, allowedByRow, kindRow}
+use Rattle.settings.proofs.Laws.{value-of}
+use Rattle.settings.proofs.model_in.Statement.{statement}
+use Rattle.settings.proofs.model_in.Tie as tie
+
+place-of-requires : tie.Need-place-of-requires
+place-of-requires c κs = search needs
+
+shared-slice-read-with-number : tie.Need-shared-slice-read-with-number
+unfolding settings allowedByRow flatten
+shared-slice-read-with-number c = omega (arith, c .before .place-of .ensures)
+
+with-number-requires : tie.Need-with-number-requires
+with-number-requires c κs = search needs
+
+returns : tie.Need-returns
+unfolding settings allowedByRow flatten
+returns c =
+    let a = c .before .before .before .before .args in
+    let place = ap (λ (p : ℕ). getD (a .values .now) p 0) (c .before .before .place-of .ensures) in
+    let number = place ∙ sym (value-of kindRow 0 (a .values .now) (omega arith)) in
+    ap {B = Model} (λ (kind : Kind). record { profile = a .profile; kind = kind }) (c .with-number .ensures ∙ ap kindWith number)
+
+pub model-in-spec : {M : Type 1} → statement M
+model-in-spec =
+    tie.close
+    (tie.spec place-of-requires shared-slice-read-with-number with-number-requires returns)

@@ -1,0 +1,16 @@
+-- The two numbers are tried one after the other. Assumes nothing.
+use borrow.Author.Tests.{eq-eqb, ne-eqb}
+use Rattle.tiling.specs.Kinds.{isKind}
+use Rattle.tiling.proofs.is_kind.Statement.{statement}
+use Rattle.tiling.proofs.is_kind.Tie as tie
+
+returns : tie.Need-returns
+unfolding isKind
+returns c = simp (eq-eqb _ _ (c .if1 .taken))
+
+returns-2 : tie.Need-returns-2
+unfolding isKind
+returns-2 c = simp (ne-eqb _ _ (c .if1 .left))
+
+pub is-kind-spec : {M : Type 1} → statement M
+is-kind-spec = tie.close (tie.spec returns returns-2)

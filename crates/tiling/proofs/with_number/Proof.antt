@@ -1,0 +1,16 @@
+-- The first kind's number is tried. Assumes nothing.
+use borrow.Author.Tests.{eq-eqb, ne-eqb}
+use Rattle.tiling.specs.Kinds.{kindWith}
+use Rattle.tiling.proofs.with_number.Statement.{statement}
+use Rattle.tiling.proofs.with_number.Tie as tie
+
+returns : tie.Need-returns
+unfolding kindWith
+returns c = simp (eq-eqb _ _ (c .if1 .taken))
+
+returns-2 : tie.Need-returns-2
+unfolding kindWith
+returns-2 c = simp (ne-eqb _ _ (c .if1 .left))
+
+pub with-number-spec : {M : Type 1} → statement M
+with-number-spec = tie.close (tie.spec returns returns-2)

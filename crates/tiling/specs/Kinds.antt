@@ -1,0 +1,46 @@
+-- The kinds of panel, by the walls that they can stand in. 02, A6: 5 by 5, or 15 wide by 10 high; numbers 0 and 1.
+use Prim.Native.Nat.{ℕ, _*_}
+use mathlib.Core.Bool.{Bool, cond, _&&_, _||_}
+use lib.Dec.{eqb}
+use Rattle.tiling.specs.declared.Kind.{Kind}
+use Rattle.tiling.specs.declared.Kind.the-variants.{FiveByFive, FifteenByTen}
+use Rattle.tiling.specs.declared.Coded.{Coded}
+use Rattle.tiling.specs.declared.Coded.the-variants.{Byte, NoWall}
+use Rattle.tiling.specs.declared.Size.{Size}
+use Rattle.tiling.specs.declared.Size.the-variants.{HighWide, Nothing}
+use Rattle.tiling.specs.Walls.{byteOf, heightOf, widthOf, upTo}
+
+abbrev pub kindNumber : Kind → ℕ
+kindNumber FiveByFive = 0
+kindNumber FifteenByTen = 1
+
+-- a number that is a kind's, and which kind's it then is
+unfoldable pub isKind : ℕ → Bool
+isKind n = eqb n (kindNumber FiveByFive) || eqb n (kindNumber FifteenByTen)
+
+unfoldable pub kindWith : ℕ → Kind
+kindWith n = cond (eqb n (kindNumber FiveByFive)) FiveByFive FifteenByTen
+
+abbrev pub widest : Kind → ℕ
+widest FiveByFive = 5
+widest FifteenByTen = 15
+
+abbrev pub highest : Kind → ℕ
+highest FiveByFive = 5
+highest FifteenByTen = 10
+
+-- the byte of the largest wall, and how many panels stand in it
+abbrev pub largest : Kind → ℕ
+largest kind = widest kind * highest kind
+
+-- the byte of a height and a width that the kind has
+unfoldable pub codedAs : Kind → ℕ → ℕ → Coded
+codedAs kind v h = cond (upTo (highest kind) v && upTo (widest kind) h) (Byte (byteOf (widest kind) v h)) NoWall
+
+-- the height and the width that a byte says: exactly the bytes from 1 to the largest are walls
+unfoldable pub sizeIn : Kind → ℕ → Size
+sizeIn kind byte = cond (upTo (largest kind) byte) (HighWide (heightOf (widest kind) byte) (widthOf (widest kind) byte)) Nothing
+
+-- a wall's positions run from 1 to H times V, from left to right and then down (002, 8.6.2, note 1)
+unfoldable pub inWall : Kind → ℕ → ℕ → Bool
+inWall kind position byte = upTo (largest kind) byte && upTo (heightOf (widest kind) byte * widthOf (widest kind) byte) position
