@@ -10,9 +10,10 @@ use lib.ListN.{length, getD, length-map}
 use Rattle.lists.specs.Lists.{same}
 use Rattle.lists.proofs.Both.{both}
 use Rattle.lists.proofs.Same.{same-is}
-use Rattle.settings.specs.Settings.{byteCount, allowedFor, valuesOf, valuesWith, valueCount, kindRow, powerRow, off}
-use Rattle.settings.proofs.Laws.{allowed-many}
-use Rattle.settings.proofs.Filled.{filled-other}
+use Rattle.settings.specs.Settings.{byteCount, valuesOf, valuesWith, valueCount, kindRow, powerRow, off}
+use Rattle.models.specs.Models.{allowedFor}
+use Rattle.models.proofs.Laws.{allowed-many}
+use Rattle.models.proofs.Filled.{filled-other}
 use Rattle.packet.specs.declared.MonitorId.{MonitorId}
 use Rattle.packet.specs.declared.GroupId.{GroupId}
 use Rattle.packet.specs.declared.Verdict.{Verdict}

@@ -11,9 +11,11 @@ use Rattle.lists.proofs.Both.{both}
 use Rattle.lists.proofs.Same.{same-first}
 use Rattle.settings.specs.declared.Found.{Found}
 use Rattle.settings.specs.declared.Found.the-variants.{Set, Get, Nothing}
-use Rattle.settings.specs.Settings.{settings, foundBy, getCode, byteCount, place, allowedByRow, allowedFor, valuesOf, rowCount, kindRow, powerRow, off}
-use Rattle.settings.proofs.Laws.{IsFound, found-right, allowed-many}
-use Rattle.settings.proofs.Filled.{length-filled}
+use Rattle.settings.specs.Settings.{settings, foundBy, getCode, byteCount, place, allowedByRow, valuesOf, rowCount, kindRow, powerRow, off}
+use Rattle.models.specs.Models.{allowedFor}
+use Rattle.settings.proofs.Laws.{IsFound, found-right}
+use Rattle.models.proofs.Laws.{allowed-many}
+use Rattle.models.proofs.Filled.{length-filled}
 use Rattle.panels.specs.declared.Panel.{Panel}
 use Rattle.panels.specs.Wall.{modelOf}
 use Rattle.answers.specs.declared.Order.{Order}

@@ -8,7 +8,8 @@ use lib.ListN.{getD}
 use Rattle.lists.specs.Lists.{same}
 use Rattle.settings.specs.declared.Found.{Found}
 use Rattle.settings.specs.declared.Found.the-variants.{Set, Get, Nothing}
-use Rattle.settings.specs.Settings.{foundBy, getCode, allowedFor, valuesOf, valuesWith, filled, powerRow, off}
+use Rattle.settings.specs.Settings.{foundBy, getCode, valuesOf, valuesWith, powerRow, off}
+use Rattle.models.specs.Models.{allowedFor, filled}
 use Rattle.packet.specs.declared.MonitorId.{MonitorId}
 use Rattle.packet.specs.declared.Control.the-variants.{Ack, Nav}
 use Rattle.panels.specs.declared.Panel.{Panel}

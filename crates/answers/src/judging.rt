@@ -74,7 +74,7 @@ fn tiling_then(p: Panel, d: &[u8]) -> [u8; TILING_COUNT]
     let values = p.values;
     let wall = values[settings::place_of(TILING_ROW) + 3];
     let mut held = [d[1], d[2], d[3], d[4]];
-    settings::fill(TILING_ROW, wall, &mut held);
+    models::fill(TILING_ROW, wall, &mut held);
     held
 }
 
@@ -87,7 +87,7 @@ fn takes_tiling(p: Panel, d: &[u8]) -> bool
     }
     let held = tiling_then(p, d);
     let model = panels::model_of(p);
-    settings::allowed(model, TILING_ROW, &held)
+    models::allowed(model, TILING_ROW, &held)
 }
 
 // Whether a panel takes them: its own profile and kind allow them, and they do not turn it off while it is off.

@@ -5,8 +5,9 @@ use mathlib.Core.Path.{_≡_, refl, sym, ap, _∙_}
 use mathlib.Core.List.{List, [], _∷_, map, map-map, map-id}
 use lib.ListN.{length, getD}
 use Rattle.lists.proofs.Mapped.{map-alike}
-use Rattle.settings.specs.Settings.{valuesOf, filled}
-use Rattle.settings.proofs.Filled.{filled-again}
+use Rattle.settings.specs.Settings.{valuesOf}
+use Rattle.models.specs.Models.{filled}
+use Rattle.models.proofs.Filled.{filled-again}
 use Rattle.packet.specs.declared.MonitorId.{MonitorId}
 use Rattle.packet.specs.declared.GroupId.{GroupId}
 use Rattle.packet.specs.declared.Verdict.{Verdict}

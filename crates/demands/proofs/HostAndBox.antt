@@ -8,13 +8,15 @@ use borrow.Author.Tests.{eqb-true, eqb-false, eq-eqb, ne-eqb, lt-ltb}
 use lib.Dec.{eqb, leb, ltb}
 use lib.ListN.{length, getD, replicate, length-take, length-replicate}
 use lib.Seq.{take-append-seam}
-use Rattle.settings.specs.declared.Model.{Model}
+use Rattle.models.specs.declared.Model.{Model}
 use Rattle.settings.specs.declared.Found.{Found}
 use Rattle.settings.specs.declared.Found.the-variants.{Set, Get, Nothing}
-use Rattle.settings.specs.Settings.{settings, foundBy, setCode, getCode, allowedFor, byteCount, valuesOf, filled, rowCount, mostValues, kindRow, powerRow, tilingRow, off}
+use Rattle.settings.specs.Settings.{settings, foundBy, setCode, getCode, byteCount, valuesOf, rowCount, mostValues, kindRow, powerRow, tilingRow, off}
+use Rattle.models.specs.Models.{allowedFor, filled}
 use Rattle.lists.proofs.Both.{both}
-use Rattle.settings.proofs.Laws.{IsFound, found-right, allowed-many, byte-count-few}
-use Rattle.settings.proofs.Filled.{filled-other, filled-there, length-filled}
+use Rattle.settings.proofs.Laws.{IsFound, found-right, byte-count-few}
+use Rattle.models.proofs.Laws.{allowed-many}
+use Rattle.models.proofs.Filled.{filled-other, filled-there, length-filled}
 use Rattle.tiling.specs.Kinds.{largest, inWall}
 use Rattle.lists.proofs.Each.{alike}
 use Rattle.packet.specs.declared.Control.the-variants.{Ack as AckWord, Nav as NavWord}
@@ -78,7 +80,7 @@ open-wall p (enable ∷ frame ∷ position ∷ byte ∷ []) n may none =
     let (frames, _) = both (leb frame 1) _ rest in
     held-allowed p enable frame position byte
     ∙ rw (flag, frames, zeroed)
-    (in-own-wall p position (getD (p .values) 5 0) ∙ ap (inWall (modelOf p .kind) position) (sym (value-at p 3 (omega arith))) ∙ sym (not-not _))
+    (in-own-wall (p .values) position (getD (p .values) 5 0) ∙ ap (inWall (modelOf p .kind) position) (sym (value-at (p .values) 3 (omega arith))) ∙ sym (not-not _))
 open-wall p [] n may none = absurd (omega arith)
 open-wall p (a ∷ []) n may none = absurd (omega arith)
 open-wall p (a ∷ b ∷ []) n may none = absurd (omega arith)

@@ -9,8 +9,9 @@ use lib.Dec.{leb, eqb}
 use lib.ListN.{getD}
 use Rattle.lists.specs.Lists.{same}
 use Rattle.lists.proofs.Both.{both}
-use Rattle.settings.specs.declared.Model.{Model}
-use Rattle.settings.specs.Settings.{settings, foundFrom, allowedByRow, _to_, within, allAllowed, allowedFor, valuesOf, filled, powerRow, off}
+use Rattle.models.specs.declared.Model.{Model}
+use Rattle.settings.specs.Settings.{settings, foundFrom, allowedByRow, _to_, within, allAllowed, valuesOf, powerRow, off}
+use Rattle.models.specs.Models.{allowedFor, filled}
 use Rattle.packet.specs.declared.MonitorId.{MonitorId}
 use Rattle.packet.specs.declared.Control.the-variants.{Ack, Nav}
 use Rattle.panels.specs.declared.Panel.{Panel}

@@ -14,7 +14,8 @@ use mir.Val.{SFits}
 use Rattle.lists.proofs.Each.{alike}
 use Rattle.lists.proofs.Places.{getD-inside}
 use Rattle.profiles.specs.declared.Video.{Video}
-use Rattle.settings.specs.Settings.{settings, _to_, within, allAllowed, allowedFor, byteCount, videoRow}
+use Rattle.settings.specs.Settings.{settings, _to_, within, allAllowed, byteCount, videoRow}
+use Rattle.models.specs.Models.{allowedFor}
 use Rattle.profiles.specs.Video.{tintOf, videoIn, bytesOf}
 use Rattle.profiles.proofs.Tints.{byte-back, tint-back}
 use Rattle.panels.specs.declared.Panel.{Panel}

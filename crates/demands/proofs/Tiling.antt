@@ -14,8 +14,9 @@ use Rattle.tiling.specs.Walls.{upTo}
 use Rattle.tiling.specs.Kinds.{kindNumber, kindWith, largest, inWall}
 use Rattle.tiling.proofs.Walls.{in-bounds, height-back, width-back, byte-fits, byte-back, height-fits, width-fits}
 use Rattle.tiling.proofs.Sizes.{largest-few, panels-few}
-use Rattle.settings.specs.declared.Model.{Model}
-use Rattle.settings.specs.Settings.{settings, allowedByRow, foundFrom, within, _to_, allAllowed, inRanges, allowedFor, valuesOf, filled, kindRow, tilingRow}
+use Rattle.models.specs.declared.Model.{Model}
+use Rattle.settings.specs.Settings.{settings, allowedByRow, foundFrom, within, _to_, allAllowed, inRanges, valuesOf, kindRow, tilingRow}
+use Rattle.models.specs.Models.{allowedFor, kindIn, filled}
 use Rattle.settings.proofs.Laws.{value-of}
 use Rattle.packet.specs.Packet.{groupId, packetOf}
 use Rattle.panels.specs.declared.Panel.{Panel}
@@ -84,18 +85,18 @@ allowed-is model enable frame position wall =
     rw (up-to 1 enable, up-to 1 frame, up-to 255 position, up-to 255 wall)
     (four (leb enable 1) (leb frame 1) (inWall (model .kind) position wall) (leb position 255) (leb wall 255) (wall-few (model .kind) position wall))
 
--- A panel's kind, position and wall.
-module _ (p : Panel) where
-  kind-is : getD (p .values) 0 0 ≡ getD (valuesOf kindRow (p .values)) 0 0
+-- Kind, position and wall among a panel's values.
+module _ (values : List ℕ) where
+  kind-is : getD values 0 0 ≡ getD (valuesOf kindRow values) 0 0
   unfolding settings allowedByRow flatten
-  kind-is = sym (value-of kindRow 0 (p .values) (omega arith))
+  kind-is = sym (value-of kindRow 0 values (omega arith))
 
-  pub in-own-wall : (position byte : ℕ) → sits (getD (p .values) 0 0) position byte ≡ inWall (modelOf p .kind) position byte
-  in-own-wall position byte = sits-in-wall (getD (p .values) 0 0) position byte ∙ ap (λ (n : ℕ). inWall (kindWith n) position byte) kind-is
+  pub in-own-wall : (position byte : ℕ) → sits (getD values 0 0) position byte ≡ inWall (kindIn values) position byte
+  in-own-wall position byte = sits-in-wall (getD values 0 0) position byte ∙ ap (λ (n : ℕ). inWall (kindWith n) position byte) kind-is
 
-  pub value-at : (k : ℕ) → k < 4 → getD (valuesOf tilingRow (p .values)) k 0 ≡ getD (p .values) (2 + k) 0
+  pub value-at : (k : ℕ) → k < 4 → getD (valuesOf tilingRow values) k 0 ≡ getD values (2 + k) 0
   unfolding settings allowedByRow flatten
-  value-at k h = value-of tilingRow k (p .values) h
+  value-at k h = value-of tilingRow k values h
 
 -- What a panel then holds.
 module _ (p : Panel) (enable frame position byte : ℕ) where
@@ -113,13 +114,13 @@ module _ (p : Panel) (enable frame position byte : ℕ) where
   held-is = go (eqb byte 0)
     where
       go : (t : Bool) → cond t (set vs 3 (getD (valuesOf tilingRow (p .values)) 3 0)) vs ≡ enable ∷ frame ∷ position ∷ cond t (getD (p .values) 5 0) byte ∷ []
-      go true = ap (λ (w : ℕ). enable ∷ frame ∷ position ∷ w ∷ []) (value-at p 3 (omega arith))
+      go true = ap (λ (w : ℕ). enable ∷ frame ∷ position ∷ w ∷ []) (value-at (p .values) 3 (omega arith))
       go false = refl
 
   pub held-allowed : allowedFor (modelOf p) tilingRow (heldThen tilingRow vs p) ≡ good
   held-allowed =
       ap (allowedFor (modelOf p) tilingRow) held-is ∙ allowed-is (modelOf p) enable frame position wall
-      ∙ ap (λ (s : Bool). leb enable 1 && (leb frame 1 && s)) (sym (in-own-wall p position wall))
+      ∙ ap (λ (s : Bool). leb enable 1 && (leb frame 1 && s)) (sym (in-own-wall (p .values) position wall))
 
   takes-it : takes tilingRow vs p ≡ good
   unfolding takes offAlready
@@ -164,8 +165,8 @@ kind-few model (n ∷ values) e = sym (up-to 1 n) ∙ both (within (0 to 1) n) t
 sits-there : (p : Panel) → allowedFor (modelOf p) tilingRow (valuesOf tilingRow (p .values)) ≡ true
     → sits (getD (p .values) 0 0) (getD (p .values) 4 0) (getD (p .values) 5 0) ≡ true
 sits-there p e =
-    in-own-wall p (getD (p .values) 4 0) (getD (p .values) 5 0)
-    ∙ ap₂ (inWall (modelOf p .kind)) (sym (value-at p 2 (omega arith))) (sym (value-at p 3 (omega arith))) ∙ both (inRanges (p .profile) tilingRow (valuesOf tilingRow (p .values))) _ e .1
+    in-own-wall (p .values) (getD (p .values) 4 0) (getD (p .values) 5 0)
+    ∙ ap₂ (inWall (modelOf p .kind)) (sym (value-at (p .values) 2 (omega arith))) (sym (value-at (p .values) 3 (omega arith))) ∙ both (inRanges (p .profile) tilingRow (valuesOf tilingRow (p .values))) _ e .1
 
 pub always-sits : AlwaysSits
 always-sits t c k h =

@@ -10,7 +10,8 @@ use lib.Signed.{mag, leZ}
 use Rattle.tiling.specs.declared.Kind.{Kind}
 use Rattle.settings.specs.declared.Profile.the-variants.{Phoenix}
 use Rattle.profiles.specs.declared.Video.{Video}
-use Rattle.settings.specs.Settings.{allowedFor, videoRow}
+use Rattle.settings.specs.Settings.{videoRow}
+use Rattle.models.specs.Models.{allowedFor}
 use Rattle.profiles.specs.Video.{tintOf, tintByte, videoIn, bytesOf}
 use Rattle.packet.specs.declared.MonitorId.{MonitorId}
 use Rattle.packet.specs.declared.GroupId.{GroupId}

@@ -8,7 +8,7 @@ use lib.Dec.{leb, eqb}
 use lib.ListN.{length, getD, take, drop}
 use Rattle.tiling.specs.Walls.{byteOf, heightOf, widthOf, upTo}
 use Rattle.tiling.specs.Kinds.{kindNumber}
-use Rattle.settings.specs.declared.Model.{Model}
+use Rattle.models.specs.declared.Model.{Model}
 use Rattle.settings.specs.Settings.{tilingRow}
 use Rattle.packet.specs.declared.MonitorId.{MonitorId}
 use Rattle.packet.specs.declared.Control.the-variants.{Ack, Nav}

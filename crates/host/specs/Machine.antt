@@ -43,14 +43,7 @@ pub record Move : Type 0 where
 -- nothing waits, and a fixed blank stands in the place of a request
 abbrev pub idle : State
 idle = record {
-  request = record {
-    model = record { profile = General; kind = FiveByFive };
-    id = monitorId 0;
-    group = groupId 0;
-    code = 0;
-    values = replicate mostValues 0;
-    count = 0;
-  };
+  request = record { model = record { profile = General; kind = FiveByFive }; id = monitorId 0; group = groupId 0; code = 0; values = replicate mostValues 0; count = 0 };
   given = [];
 }
 

@@ -6,13 +6,13 @@ ghost use mathlib.Core.Path.{_≡_};
 ghost use Rattle.host.specs.Machine.{start, burst, mark, idle};
 ghost use Rattle.host.specs.Calls.{refusalOf, hostOf, stateOf, call, Answers};
 ghost use Rattle.host.specs.Private.Steps.{plainStep, tellingStep};
+use models::Model;
 use packet::Damage;
 use packet::GroupId;
 use packet::LONGEST;
 use packet::MonitorId;
 use requests::Request;
 use settings::MOST_VALUES;
-use settings::Model;
 use settings::Profile;
 use tiling::Kind;
 

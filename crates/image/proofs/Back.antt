@@ -9,7 +9,7 @@ use native.Mathlib.Omega.{arith}
 use borrow.Author.Tests.{eq-eqb, ne-eqb}
 use lib.ListN.{length, getD, take, length-map}
 use lib.Seq.{append-snoc, take-at}
-use Rattle.settings.specs.declared.Model.{Model}
+use Rattle.models.specs.declared.Model.{Model}
 use Rattle.settings.specs.Settings.{setCode, freshValues, valuesOf, rowCount, valueCount, kindRow}
 use Rattle.lists.specs.Lists.{each, laidOver}
 use Rattle.packet.specs.declared.MonitorId.{MonitorId}

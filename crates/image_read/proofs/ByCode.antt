@@ -7,7 +7,7 @@ use borrow.Author.Tests.{eqb-true, eqb-false}
 use lib.Dec.{eqb}
 use lib.ListN.{length}
 use Rattle.settings.specs.declared.Profile.{Profile}
-use Rattle.settings.specs.declared.Model.{Model}
+use Rattle.models.specs.declared.Model.{Model}
 use Rattle.settings.specs.Settings.{setCode, freshValues, valuesWith, valueCount, rowCount, valuesOf}
 use Rattle.settings.proofs.Laws.{fresh-count}
 use Rattle.panels.proofs.Values.{length-with, set-row, other-row, by-rows}

@@ -10,11 +10,13 @@ use lib.ListN.{length, getD, length-append, length-set}
 use lib.Seq.{take-at, drop-at, getD-set-other}
 use Rattle.tiling.specs.Kinds.{kindWith}
 use Rattle.settings.specs.declared.Profile.{Profile}
-use Rattle.settings.specs.declared.Model.{Model}
+use Rattle.models.specs.declared.Model.{Model}
 use Rattle.settings.specs.declared.Found.{Found}
 use Rattle.settings.specs.declared.Found.the-variants.{Set, Get, Nothing}
-use Rattle.settings.specs.Settings.{fieldBy, setCode, byteCount, allowedFor, valuesOf, valuesWith, modelIn, rowCount, valueCount, kindRow, tilingRow}
-use Rattle.settings.proofs.Laws.{field-found, allowed-many, kind-free}
+use Rattle.settings.specs.Settings.{fieldBy, setCode, byteCount, valuesOf, valuesWith, rowCount, valueCount, kindRow, tilingRow}
+use Rattle.models.specs.Models.{allowedFor, modelIn}
+use Rattle.settings.proofs.Laws.{field-found}
+use Rattle.models.proofs.Laws.{allowed-many, kind-free}
 use Rattle.forms.specs.declared.Form.{Form}
 use Rattle.forms.specs.Forms.{hasField}
 use Rattle.panels.proofs.Values.{length-with, other-row}

@@ -8,10 +8,12 @@ use borrow.Author.Tests.{ne-eqb, eqb-true}
 use lib.Dec.{eqb}
 use lib.ListN.{length, replicate}
 use Rattle.settings.specs.declared.Profile.{Profile}
-use Rattle.settings.specs.declared.Model.{Model}
+use Rattle.models.specs.declared.Model.{Model}
 use Rattle.settings.specs.declared.Found.the-variants.{Set}
-use Rattle.settings.specs.Settings.{fieldBy, setCode, freshValues, valuesOf, modelIn, rowCount, valueCount, kindRow, tilingRow}
-use Rattle.settings.proofs.Laws.{field-found, fresh-allowed, fresh-count}
+use Rattle.settings.specs.Settings.{fieldBy, setCode, freshValues, valuesOf, rowCount, valueCount, kindRow, tilingRow}
+use Rattle.models.specs.Models.{modelIn}
+use Rattle.settings.proofs.Laws.{field-found, fresh-count}
+use Rattle.models.proofs.Laws.{fresh-allowed}
 use Rattle.panels.specs.Wall.{Wall}
 use Rattle.forms.specs.declared.Form.{Form}
 use Rattle.forms.specs.Forms.{hasField}

@@ -13,8 +13,9 @@ use Rattle.settings.specs.declared.Profile.{Profile}
 use Rattle.profiles.specs.declared.Numbered.{Numbered}
 use Rattle.profiles.specs.declared.Numbered.the-variants.{Known, Unknown}
 use Rattle.profiles.specs.Numbers.{ifKnown}
-use Rattle.settings.specs.Settings.{freshValues, valuesOf, valuesWith, modelIn, rowCount, tilingRow}
-use Rattle.settings.proofs.Laws.{allowed-many}
+use Rattle.settings.specs.Settings.{freshValues, valuesOf, valuesWith, rowCount, tilingRow}
+use Rattle.models.specs.Models.{modelIn}
+use Rattle.models.proofs.Laws.{allowed-many}
 use Rattle.lists.specs.Lists.{each}
 use Rattle.lists.proofs.Both.{both}
 use Rattle.lists.proofs.Each.{in-each, length-each}

@@ -12,7 +12,8 @@ use lib.Seq.{getD-set-same, getD-set-other}
 use Rattle.settings.specs.declared.Profile.{Profile}
 use Rattle.settings.specs.declared.Found.{Found}
 use Rattle.settings.specs.declared.Found.the-variants.{Set, Get, Nothing}
-use Rattle.settings.specs.Settings.{fieldBy, setCode, byteCount, allowedFor, valuesWith, modelIn, rowCount, kindRow, tilingRow}
+use Rattle.settings.specs.Settings.{fieldBy, setCode, byteCount, valuesWith, rowCount, kindRow, tilingRow}
+use Rattle.models.specs.Models.{allowedFor, modelIn}
 use Rattle.settings.proofs.Laws.{IsField, field-right, field-found}
 use Rattle.forms.specs.declared.Form.{Form}
 use Rattle.forms.specs.Forms.{hasField}

@@ -8,7 +8,8 @@ use lib.ListN.{length, getD, take, drop, set, replicate}
 use Rattle.settings.specs.declared.Profile.{Profile}
 use Rattle.settings.specs.declared.Found.{Found}
 use Rattle.settings.specs.declared.Found.the-variants.{Set, Get, Nothing}
-use Rattle.settings.specs.Settings.{fieldBy, byteCount, allowedFor, freshValues, valuesWith, modelIn, rowCount, kindRow, tilingRow}
+use Rattle.settings.specs.Settings.{fieldBy, byteCount, freshValues, valuesWith, rowCount, kindRow, tilingRow}
+use Rattle.models.specs.Models.{allowedFor, modelIn}
 use Rattle.forms.specs.declared.Form.{Form}
 use Rattle.forms.specs.Forms.{hasField}
 use Rattle.image_read.specs.declared.Refusal.the-variants.{Nothing as Sound, Field as BadField, Value as BadValue}

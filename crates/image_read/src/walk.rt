@@ -51,8 +51,8 @@ fn step_at(form: Form, profile: Profile, left: &[u8], seen: &[bool], values: &[u
     if left[1] as usize != count {
         return Step::Broken;
     }
-    let model = settings::model_in(profile, values);
-    if !settings::allowed(model, row, &left[2..2 + count]) {
+    let model = models::model_in(profile, values);
+    if !models::allowed(model, row, &left[2..2 + count]) {
         return Step::NotAllowed;
     }
     Step::Field(row)

@@ -6,6 +6,7 @@ ghost use Prim.Native.Nat.{_<_};
 ghost use Rattle.panels.specs.Wall.{tableOf, panelsOf};
 ghost use Rattle.panels.specs.WellFormed.{WellFormed};
 ghost use Rattle.answers.specs.Played.{played};
+use models::Model;
 use packet::GroupId;
 use packet::LONGEST;
 use packet::MonitorId;
@@ -16,7 +17,6 @@ use panels::Seen;
 use panels::Table;
 use profiles::Video;
 use requests::Request;
-use settings::Model;
 use settings::Profile;
 use settings::TILING_ROW;
 use tiling::Coded;
@@ -67,7 +67,10 @@ fn set_tint(t: Table, tint: i8) -> Table
         black: 50,
         gamma: 3,
     };
-    send_request(t, requests::phoenix_video_set(MonitorId(2), GroupId(0), video))
+    send_request(
+        t,
+        requests::phoenix_video_set(MonitorId(2), GroupId(0), video),
+    )
 }
 
 // Panel 2 gets its place in a wall of this height and width.

@@ -14,8 +14,9 @@ use Rattle.profiles.specs.declared.Numbered.the-variants.{Known, Unknown}
 use Rattle.profiles.specs.Numbers.{profileWith}
 use Rattle.tiling.specs.declared.Kind.{Kind}
 use Rattle.tiling.specs.Kinds.{kindWith, kindNumber}
-use Rattle.settings.specs.Settings.{freshValues, modelIn, kindRow}
-use Rattle.settings.proofs.Laws.{kind-allowed}
+use Rattle.settings.specs.Settings.{freshValues, kindRow}
+use Rattle.models.specs.Models.{modelIn}
+use Rattle.models.proofs.Laws.{kind-allowed}
 use Rattle.packet.specs.declared.MonitorId.{MonitorId}
 use Rattle.packet.specs.declared.GroupId.{GroupId}
 use Rattle.panels.specs.declared.Panel.{Panel}

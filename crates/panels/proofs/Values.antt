@@ -12,9 +12,11 @@ use lib.ListN.{length, getD, take, length-take, length-drop}
 use lib.Seq.{take-add, take-all}
 use Rattle.settings.specs.declared.Profile.{Profile}
 use Rattle.tiling.specs.Kinds.{kindWith}
-use Rattle.settings.specs.declared.Model.{Model}
-use Rattle.settings.specs.Settings.{settings, allowedByRow, byteCount, place, allowedFor, freshValues, valuesOf, valuesWith, kindIn, modelIn, valueCount, rowCount, kindRow, tilingRow}
-use Rattle.settings.proofs.Laws.{place-fits, places-apart, allowed-many, fresh-allowed, fresh-count, kind-free}
+use Rattle.models.specs.declared.Model.{Model}
+use Rattle.settings.specs.Settings.{settings, allowedByRow, byteCount, place, freshValues, valuesOf, valuesWith, valueCount, rowCount, kindRow, tilingRow}
+use Rattle.models.specs.Models.{allowedFor, kindIn, modelIn}
+use Rattle.settings.proofs.Laws.{place-fits, places-apart, fresh-count}
+use Rattle.models.proofs.Laws.{allowed-many, fresh-allowed, kind-free}
 use Rattle.lists.proofs.Each.{alike}
 use Rattle.lists.proofs.Laid.{length-laid, laid-itself, behind-laid, laid-own, ahead-of-laid}
 

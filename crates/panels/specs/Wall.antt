@@ -8,8 +8,9 @@ use Rattle.settings.specs.declared.Profile.{Profile}
 use Rattle.settings.specs.declared.Profile.the-variants.{General, Phoenix}
 use Rattle.tiling.specs.declared.Kind.{Kind}
 use Rattle.tiling.specs.Kinds.{kindNumber}
-use Rattle.settings.specs.declared.Model.{Model}
-use Rattle.settings.specs.Settings.{freshValues, valuesOf, valuesWith, modelIn, valueCount, kindRow, videoRow}
+use Rattle.models.specs.declared.Model.{Model}
+use Rattle.settings.specs.Settings.{freshValues, valuesOf, valuesWith, valueCount, kindRow, videoRow}
+use Rattle.models.specs.Models.{modelIn}
 use Rattle.profiles.specs.Video.{videoIn}
 use Rattle.packet.specs.declared.MonitorId.{MonitorId}
 use Rattle.packet.specs.declared.GroupId.{GroupId}

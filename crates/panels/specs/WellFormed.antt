@@ -5,7 +5,8 @@ use mathlib.Core.Bool.{true}
 use mathlib.Core.List.{[], _∷_}
 use mathlib.Core.Path.{_≡_}
 use lib.ListN.{length}
-use Rattle.settings.specs.Settings.{allowedFor, valuesOf, rowCount, valueCount}
+use Rattle.settings.specs.Settings.{valuesOf, rowCount, valueCount}
+use Rattle.models.specs.Models.{allowedFor}
 use Rattle.packet.specs.declared.MonitorId.{MonitorId}
 use Rattle.panels.specs.declared.Panel.{Panel}
 use Rattle.panels.specs.declared.Table.{Table}

@@ -6,12 +6,12 @@ ghost use Rattle.panels.specs.Wall.{freshPanel, modelOf, blank, tableOf,
 ghost use Rattle.panels.specs.Addressed.{reaches};
 ghost use Rattle.panels.specs.Calls.{refusalOf, addedTo, without, removedFrom};
 ghost use Rattle.panels.specs.WellFormed.{WellFormed};
+use models::Model;
 use packet::GroupId;
 use packet::MonitorId;
 use profiles::Numbered;
 use profiles::Video;
 use settings::KIND_ROW;
-use settings::Model;
 use settings::Profile;
 use settings::VALUE_COUNT;
 use tiling::Kind;
@@ -219,7 +219,7 @@ pub fn model_of(p: Panel) -> Model
 {
     let profile = p.profile;
     let values = p.values;
-    settings::model_in(profile, &values)
+    models::model_in(profile, &values)
 }
 
 // A Phoenix panel's video.

@@ -6,12 +6,14 @@ use Prim.Native.Nat.{ℕ, _+_, _≤_, _<_}
 use native.Mathlib.Omega.{arith}
 use lib.Dec.{eqb}
 use lib.ListN.{length, getD, drop}
-use Rattle.settings.specs.declared.Model.{Model}
-use Rattle.settings.specs.Settings.{foundBy, getCode, allowedFor, rowCount, mostValues}
+use Rattle.models.specs.declared.Model.{Model}
+use Rattle.settings.specs.Settings.{foundBy, getCode, rowCount, mostValues}
+use Rattle.models.specs.Models.{allowedFor}
 use Rattle.settings.specs.declared.Found.{Found}
 use Rattle.settings.specs.declared.Found.the-variants.{Set, Get, Nothing as NoSetting}
 use Rattle.lists.proofs.Both.{both}
-use Rattle.settings.proofs.Laws.{IsFound, found-right, allowed-many, byte-count-few}
+use Rattle.settings.proofs.Laws.{IsFound, found-right, byte-count-few}
+use Rattle.models.proofs.Laws.{allowed-many}
 use Rattle.packet.specs.Control.{controlByte}
 use Rattle.packet.specs.declared.Control.{Control}
 use Rattle.packet.specs.declared.Control.the-variants.{Ack as AckWord, Nack as NackWord, Nav as NavWord}

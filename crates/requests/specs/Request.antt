@@ -9,8 +9,9 @@ use Rattle.lists.specs.Lists.{same}
 use Rattle.settings.specs.declared.Profile.the-variants.{Phoenix}
 use Rattle.tiling.specs.declared.Kind.the-variants.{FiveByFive}
 use Rattle.tiling.specs.Kinds.{largest}
-use Rattle.settings.specs.Settings.{foundBy, setCode, byteCount, allowedFor, filled, mostValues, powerRow, videoRow, off}
-use Rattle.settings.specs.declared.Model.{Model}
+use Rattle.settings.specs.Settings.{foundBy, setCode, byteCount, mostValues, powerRow, videoRow, off}
+use Rattle.models.specs.Models.{allowedFor, filled}
+use Rattle.models.specs.declared.Model.{Model}
 use Rattle.profiles.specs.declared.Video.{Video}
 use Rattle.profiles.specs.Video.{bytesOf}
 use Rattle.settings.specs.declared.Found.{Found}

@@ -5,8 +5,9 @@ use mathlib.Core.Bool.{Bool, false, cond, _&&_}
 use mathlib.Core.List.{List, [], _∷_}
 use lib.Dec.{eqb}
 use Rattle.lists.specs.Lists.{same}
-use Rattle.settings.specs.declared.Model.{Model}
-use Rattle.settings.specs.Settings.{foundBy, getCode, allowedFor}
+use Rattle.models.specs.declared.Model.{Model}
+use Rattle.settings.specs.Settings.{foundBy, getCode}
+use Rattle.models.specs.Models.{allowedFor}
 use Rattle.settings.specs.declared.Found.{Found}
 use Rattle.settings.specs.declared.Found.the-variants.{Set, Get, Nothing as NoSetting}
 use Rattle.packet.specs.Control.{controlData}

@@ -7,6 +7,7 @@ ghost use Rattle.settings.specs.Settings.{rowCount, mostValues};
 ghost use Rattle.packet.specs.Packet.{writtenOf, outputOf};
 ghost use Rattle.requests.specs.Request.{isRequest, requestData, maySet, videoRequest, isPowerOff};
 ghost use Rattle.requests.specs.Said.{isControl, isReport, wordIn};
+use models::Model;
 use packet::Control;
 use packet::GroupId;
 use packet::MonitorId;
@@ -14,7 +15,6 @@ use packet::Written;
 use profiles::Video;
 use settings::Found;
 use settings::MOST_VALUES;
-use settings::Model;
 use settings::OFF;
 use settings::POWER_ROW;
 use settings::Profile;
@@ -48,8 +48,8 @@ fn may_set(model: Model, row: usize, v: [u8; MOST_VALUES], count: usize) -> bool
 {
     let kind = model.kind;
     let mut values = v;
-    settings::fill(row, tiling::largest(kind), &mut values[..count]);
-    settings::allowed(model, row, &values[..count])
+    models::fill(row, tiling::largest(kind), &mut values[..count]);
+    models::allowed(model, row, &values[..count])
 }
 
 // Whether the table has this request.
@@ -164,7 +164,7 @@ fn is_report(model: Model, row: usize, d: &[u8]) -> bool
     if d[0] != settings::get_code(row) {
         return false;
     }
-    settings::allowed(model, row, &d[1..])
+    models::allowed(model, row, &d[1..])
 }
 
 // What the data of a burst from the panel that was asked says: an ACK to a set, a report to a get, NACK or NAV to either.

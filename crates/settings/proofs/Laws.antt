@@ -11,14 +11,9 @@ use lib.ListN.{length, getD, drop, List·getD-map}
 use lib.Seq.{drop-cons, drop-length, getD-drop, getD-take}
 use Rattle.settings.specs.declared.Profile.{Profile}
 use Rattle.settings.specs.declared.Profile.the-variants.{General, Phoenix}
-use Rattle.tiling.specs.declared.Kind.{Kind}
-use Rattle.tiling.specs.declared.Kind.the-variants.{FiveByFive, FifteenByTen}
-use Rattle.tiling.specs.Walls.{upTo}
-use Rattle.tiling.specs.Kinds.{kindNumber, inWall}
-use Rattle.settings.specs.declared.Model.{Model}
 use Rattle.settings.specs.declared.Found.{Found}
 use Rattle.settings.specs.declared.Found.the-variants.{Set, Get, Nothing}
-use Rattle.settings.specs.Settings.{Range, Setting, settings, setting, foundFrom, foundBy, fieldBy, setCode, getCode, byteCount, place, within, allAllowed, inRanges, allowedFor, valuesOf, allowedByRow, freshValues, rowCount, mostValues, valueCount, kindRow, tilingRow, videoRow, row}
+use Rattle.settings.specs.Settings.{Range, Setting, settings, setting, foundFrom, foundBy, fieldBy, setCode, getCode, byteCount, place, within, allAllowed, inRanges, valuesOf, allowedByRow, freshValues, rowCount, mostValues, valueCount, kindRow, tilingRow, videoRow, row}
 use Rattle.settings.specs.Private.Numbers.{allowedValues, rangesOf, firstRange}
 use Rattle.lists.specs.Lists.{each}
 use Rattle.lists.proofs.Both.{both}
@@ -98,22 +93,10 @@ field-right c = either (IsField c) (eqb c (setCode kindRow)) (λ e. (unfold sett
     go Nothing f = tt
 
 -- A rule that holds at every place of either profile's table, by two tests.
-alike-by : {A : Type 0} (f g : Profile → ℕ → A) (n : ℕ) → each (f General) n ≡ each (g General) n → each (f Phoenix) n ≡ each (g Phoenix) n
+pub alike-by : {A : Type 0} (f g : Profile → ℕ → A) (n : ℕ) → each (f General) n ≡ each (g General) n → each (f Phoenix) n ≡ each (g Phoenix) n
     → (profile : Profile) {k : ℕ} → k < n → f profile k ≡ g profile k
 alike-by f g n e d General h = alike (f General) (g General) n e h
 alike-by f g n e d Phoenix h = alike (f Phoenix) (g Phoenix) n d h
-
--- Fresh values are allowed, whatever the kind: every kind has the wall of one panel.
-pub fresh-allowed : (model : Model) {row : ℕ} → row < rowCount → allowedFor model row (valuesOf row (freshValues (model .profile))) ≡ true
-unfolding settings freshValues allowedByRow flatten within allAllowed inWall upTo
-fresh-allowed model {row} h = by-kind (model .kind)
-  where
-    by : Kind → Profile → ℕ → Bool
-    by kind profile k = allowedFor (record { profile = profile; kind = kind }) k (valuesOf k (freshValues profile))
-
-    by-kind : (kind : Kind) → by kind (model .profile) row ≡ true
-    by-kind FiveByFive = alike-by (by FiveByFive) (λ profile k. true) rowCount refl refl (model .profile) h
-    by-kind FifteenByTen = alike-by (by FifteenByTen) (λ profile k. true) rowCount refl refl (model .profile) h
 
 -- The sizes that the table is named by are its own.
 pub row-count : length settings ≡ rowCount
@@ -218,18 +201,6 @@ allowed-end rs vs k e d =
 
 pub ranges-many : (profile : Profile) (row : ℕ) (vs : List ℕ) → inRanges profile row vs ≡ true → length vs ≡ byteCount row
 ranges-many profile row vs e = allowed-count (setting row .allowed profile) vs e ∙ as-many profile row
-
-pub allowed-many : (model : Model) (row : ℕ) (vs : List ℕ) → allowedFor model row vs ≡ true → length vs ≡ byteCount row
-allowed-many model row vs e = ranges-many (model .profile) row vs (both _ _ e .0)
-
--- Only what is allowed of a tiling goes by the kind, and every kind's number is allowed.
-pub kind-free : (m n : Model) {row : ℕ} (vs : List ℕ) → m .profile ≡ n .profile → (row ≡ tilingRow → ⊥) → allowedFor m row vs ≡ allowedFor n row vs
-kind-free m n {row} vs e ne = rw (ne-eqb row tilingRow ne, e)
-
-pub kind-allowed : (model : Model) (kind : Kind) → allowedFor model kindRow (kindNumber kind ∷ []) ≡ true
-unfolding settings within allAllowed
-kind-allowed model FiveByFive = refl
-kind-allowed model FifteenByTen = refl
 
 pub other-many : (profile : Profile) (row : ℕ) (vs : List ℕ) → (length vs ≡ byteCount row → ⊥) → inRanges profile row vs ≡ false
 other-many profile row vs h = other-count (setting row .allowed profile) vs (λ e. h (e ∙ as-many profile row))

@@ -1,3 +1,2 @@
--- `Laws` has what callers cite of the settings, `Filled` what they cite of a tiling whose wall is 0.
+-- `Laws` has what callers cite of the settings.
 pub mod Laws
-pub mod Filled

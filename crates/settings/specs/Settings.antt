@@ -1,15 +1,12 @@
 -- The nine settings as the papers have them, with the kind, and what they say of a row. 01, "The settings"; 02, A1 and A6.
 use Prim.Native.Nat.{ℕ, suc}
-use mathlib.Core.Bool.{Bool, true, false, cond, not, _&&_, _||_}
+use mathlib.Core.Bool.{Bool, true, false, cond, _&&_, _||_}
 use mathlib.Core.List.{List, [], _∷_, _++_, map, flatten}
-use lib.ListN.{length, getD, set, take, drop, replicate}
+use lib.ListN.{length, getD, take, drop, replicate}
 use lib.Dec.{leb, eqb}
 use Rattle.lists.specs.Lists.{startOf, laidAt}
-use Rattle.tiling.specs.declared.Kind.{Kind}
-use Rattle.tiling.specs.Kinds.{kindWith, inWall}
 use Rattle.settings.specs.declared.Profile.{Profile}
 use Rattle.settings.specs.declared.Profile.the-variants.{General, Phoenix}
-use Rattle.settings.specs.declared.Model.{Model}
 use Rattle.settings.specs.declared.Found.{Found}
 use Rattle.settings.specs.declared.Found.the-variants.{Set, Get, Nothing}
 
@@ -143,25 +140,9 @@ allAllowed (a ∷ rest) (v ∷ vs) = within a v && allAllowed rest vs
 abbrev pub inRanges : Profile → ℕ → List ℕ → Bool
 inRanges profile k vs = allAllowed (setting k .allowed profile) vs
 
--- and may be set in row k of a panel of this model: a tiling's position is one of its wall, and the wall one of the kind's
-abbrev pub allowedFor : Model → ℕ → List ℕ → Bool
-allowedFor model k vs =
-    inRanges (model .profile) k vs && (not (eqb k tilingRow) || inWall (model .kind) (getD vs 2 0) (getD vs 3 0))
-
 -- the values of a row among a panel's, and a panel's values with those of a row stored
 abbrev pub valuesOf : ℕ → List ℕ → List ℕ
 valuesOf k values = take (byteCount k) (drop (place k) values)
 
 abbrev pub valuesWith : ℕ → List ℕ → List ℕ → List ℕ
 valuesWith k vs values = laidAt (place k) vs values
-
--- what a panel's ranges go by: its profile, and the kind among its values
-abbrev pub kindIn : List ℕ → Kind
-kindIn values = kindWith (getD (valuesOf kindRow values) 0 0)
-
-abbrev pub modelIn : Profile → List ℕ → Model
-modelIn profile values = record { profile = profile; kind = kindIn values }
-
--- A set of tiling whose wall is 0 means don't care (02, A6): the byte of another wall then stands there. All else is as it was.
-unfoldable pub filled : ℕ → ℕ → List ℕ → List ℕ
-filled k wall vs = cond (eqb k tilingRow && eqb (getD vs 3 0) 0) (set vs 3 wall) vs

@@ -5,7 +5,7 @@ mod ranges;
 ghost use mathlib.Core.Path.{_≡_};
 ghost use Prim.Native.Nat.{_<_};
 ghost use lib.ListN.{length};
-ghost use Rattle.settings.specs.Settings.{setCode, getCode, byteCount, place, freshValues, valuesWith, modelIn, filled, rowCount, valueCount};
+ghost use Rattle.settings.specs.Settings.{setCode, getCode, byteCount, place, freshValues, valuesWith, rowCount, valueCount};
 ghost use Rattle.settings.specs.Private.Numbers.{paperTable};
 pub use finding::KIND_ROW;
 pub use finding::POWER_ROW;
@@ -13,9 +13,7 @@ pub use finding::TILING_ROW;
 pub use finding::VIDEO_ROW;
 pub use finding::find_field;
 pub use finding::find_setting;
-pub use ranges::allowed;
 pub use ranges::in_ranges;
-use tiling::Kind;
 
 // How many rows there are: the kind's and those of the settings.
 pub const ROW_COUNT: usize = 10;
@@ -43,12 +41,6 @@ const MORE_COUNT: usize = 3;
 pub enum Profile {
     General,
     Phoenix,
-}
-
-// What a panel's ranges go by: its profile, and its kind.
-pub struct Model {
-    pub profile: Profile,
-    pub kind: Kind,
 }
 
 // A setting's set code and its get code.
@@ -255,28 +247,4 @@ pub fn fresh(profile: Profile) -> [u8; VALUE_COUNT]
         store(VIDEO_ROW, &video, &mut values);
     }
     values
-}
-
-// What the ranges of a panel of this profile go by that has these values.
-pub fn model_in(profile: Profile, values: &[u8]) -> Model
-    requires { ⌜ length (now values) ≡ valueCount ⌝ }
-    ensures { λ r. ⌜ r ≡ modelIn profile (now (values .entry)) ⌝ }
-{
-    let kind = tiling::with_number(values[place_of(KIND_ROW)]);
-    Model { profile, kind }
-}
-
-// The values of a set, in which the byte of a wall stands where a tiling has 0, which means don't care.
-pub fn fill(row: usize, wall: u8, vs: &mut [u8])
-    ensures { λ _. ⌜ now (vs .exit) ≡ filled row wall (now (vs .entry)) ⌝ }
-{
-    if row != TILING_ROW {
-        return;
-    }
-    if vs.len() < 4 {
-        return;
-    }
-    if vs[3] == 0 {
-        vs[3] = wall;
-    }
 }

@@ -4,15 +4,13 @@ ghost use Prim.Native.Nat.{_<_};
 ghost use lib.ListN.{drop};
 ghost use mathlib.Core.Bool.{_||_};
 ghost use Rattle.settings.specs.declared.Profile.the-variants.{General, Phoenix};
-ghost use Rattle.settings.specs.Settings.{within, inRanges, allowedFor, rowCount, valueCount, videoRow};
+ghost use Rattle.settings.specs.Settings.{within, inRanges, rowCount, valueCount, videoRow};
 ghost use Rattle.settings.specs.Private.Numbers.{inRange, rangeOf, rangesOf, firstRange, isMore};
 use crate::MORE_COUNT;
 use crate::MOST_VALUES;
-use crate::Model;
 use crate::More;
 use crate::Profile;
 use crate::Span;
-use crate::TILING_ROW;
 use crate::VIDEO_ROW;
 
 fn in_range(range: Span, v: u8) -> bool
@@ -123,20 +121,4 @@ pub fn in_ranges(profile: Profile, row: usize, values: &[u8]) -> bool
         }
     }
     general_allowed(row, values)
-}
-
-// Whether these bytes may be set in a row of a panel of this model: in the row's ranges, and a tiling in a wall of the kind.
-pub fn allowed(model: Model, row: usize, values: &[u8]) -> bool
-    requires { ⌜ row < rowCount ⌝ }
-    ensures { λ r. ⌜ r ≡ allowedFor model row (now (values .entry)) ⌝ }
-{
-    let profile = model.profile;
-    let kind = model.kind;
-    if !in_ranges(profile, row, values) {
-        return false;
-    }
-    if row != TILING_ROW {
-        return true;
-    }
-    tiling::in_wall(kind, values[2], values[3])
 }

@@ -2,7 +2,7 @@
 use Prim.Native.Nat.{ℕ, _-_}
 use mathlib.Core.List.{List}
 use lib.ListN.{length, getD, take, drop, replicate}
-use Rattle.settings.specs.declared.Model.{Model}
+use Rattle.models.specs.declared.Model.{Model}
 use Rattle.settings.specs.Settings.{mostValues}
 use Rattle.packet.specs.Packet.{monitorId, groupId}
 use Rattle.lists.specs.Lists.{laidOver}

@@ -6,8 +6,8 @@ use Prim.Native.Nat.{ℕ}
 use native.Mathlib.Omega.{arith}
 use borrow.Author.Tests.{eq-eqb, ne-eqb}
 use lib.ListN.{length}
-use Rattle.settings.specs.declared.Model.{Model}
-use Rattle.settings.specs.Settings.{allowedFor}
+use Rattle.models.specs.declared.Model.{Model}
+use Rattle.models.specs.Models.{allowedFor}
 use Rattle.requests.specs.Said.{isReport}
 use Rattle.requests.proofs.Words.{report-some}
 use Rattle.lists.proofs.Places.{rest}

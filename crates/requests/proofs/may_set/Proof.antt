@@ -6,8 +6,9 @@ use native.Mathlib.Omega.{arith}
 use borrow.Author.Needs.{needs}
 use lib.ListN.{length, take, length-append}
 use lib.Seq.{length-take-le, take-at}
-use Rattle.settings.specs.Settings.{filled, mostValues}
-use Rattle.settings.proofs.Filled.{length-filled}
+use Rattle.settings.specs.Settings.{mostValues}
+use Rattle.models.specs.Models.{filled}
+use Rattle.models.proofs.Filled.{length-filled}
 use Rattle.requests.proofs.may_set.Statement.{statement}
 use Rattle.requests.proofs.may_set.Tie as tie
 

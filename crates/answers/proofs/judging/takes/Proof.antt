@@ -10,7 +10,7 @@ use lib.ListN.{getD, drop}
 use Rattle.settings.specs.declared.Profile.{Profile}
 use Rattle.settings.specs.declared.Profile.the-variants.{General, Phoenix}
 use Rattle.settings.specs.Settings.{inRanges, valuesOf, tilingRow}
-use Rattle.settings.proofs.Filled.{filled-other}
+use Rattle.models.proofs.Filled.{filled-other}
 use Rattle.profiles.specs.Numbers.{profileNumber}
 use Rattle.panels.specs.declared.Panel.{Panel}
 use Rattle.answers.specs.Judged.{offAlready, takes}

@@ -6,10 +6,11 @@ use Prim.Native.Nat.{ℕ, _+_}
 use native.Mathlib.Omega.{arith}
 use borrow.Author.Needs.{needs}
 use lib.ListN.{length, drop, length-drop}
-use Rattle.settings.specs.declared.Model.{Model}
-use Rattle.settings.specs.Settings.{settings, inRanges, allowedFor, byteCount, tilingRow}
+use Rattle.models.specs.declared.Model.{Model}
+use Rattle.settings.specs.Settings.{settings, inRanges, byteCount, tilingRow}
+use Rattle.models.specs.Models.{allowedFor}
 use Rattle.settings.proofs.Laws.{other-many}
-use Rattle.settings.proofs.Filled.{length-filled}
+use Rattle.models.proofs.Filled.{length-filled}
 use Rattle.panels.specs.declared.Panel.{Panel}
 use Rattle.panels.specs.Wall.{modelOf}
 use Rattle.answers.specs.Judged.{offAlready, heldThen, takes}

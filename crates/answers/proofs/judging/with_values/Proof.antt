@@ -7,7 +7,7 @@ use borrow.Author.Needs.{needs}
 use lib.ListN.{length, getD, drop, length-drop}
 use lib.Seq.{take-all}
 use Rattle.settings.specs.Settings.{byteCount, valuesOf, valuesWith, tilingRow}
-use Rattle.settings.proofs.Filled.{filled-other, length-filled}
+use Rattle.models.proofs.Filled.{filled-other, length-filled}
 use Rattle.panels.specs.declared.Panel.{Panel}
 use Rattle.answers.specs.Judged.{stored, heldThen}
 use Rattle.answers.proofs.judging.with_values.Statement.{statement}

@@ -7,11 +7,11 @@ use borrow.Author.Needs.{needs}
 use lib.ListN.{getD}
 use Rattle.tiling.specs.declared.Kind.{Kind}
 use Rattle.tiling.specs.Kinds.{kindWith}
-use Rattle.settings.specs.declared.Model.{Model}
+use Rattle.models.specs.declared.Model.{Model}
 use Rattle.settings.specs.Settings.{settings, allowedByRow, kindRow}
 use Rattle.settings.proofs.Laws.{value-of}
-use Rattle.settings.proofs.model_in.Statement.{statement}
-use Rattle.settings.proofs.model_in.Tie as tie
+use Rattle.models.proofs.model_in.Statement.{statement}
+use Rattle.models.proofs.model_in.Tie as tie
 
 place-of-requires : tie.Need-place-of-requires
 place-of-requires c κs = search needs

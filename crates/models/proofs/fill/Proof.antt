@@ -4,10 +4,10 @@ use Prim.Native.Nat.{ℕ, _≤_}
 use native.Mathlib.Omega.{arith}
 use borrow.Author.Needs.{needs}
 use borrow.Author.Tests.{eq-eqb}
-use Rattle.settings.specs.Settings.{filled}
-use Rattle.settings.proofs.Filled.{filled-other, filled-there, filled-short}
-use Rattle.settings.proofs.fill.Statement.{statement}
-use Rattle.settings.proofs.fill.Tie as tie
+use Rattle.models.specs.Models.{filled}
+use Rattle.models.proofs.Filled.{filled-other, filled-there, filled-short}
+use Rattle.models.proofs.fill.Statement.{statement}
+use Rattle.models.proofs.fill.Tie as tie
 
 returns : tie.Need-returns
 returns c = sym (filled-other _ _ _ (c .if1 .taken))

@@ -7,7 +7,8 @@ use borrow.Author.Tests.{ne-eqb}
 use lib.Dec.{eqb}
 use lib.ListN.{length, getD, set, length-set}
 use lib.Seq.{set-out, set-set, set-getD}
-use Rattle.settings.specs.Settings.{filled, tilingRow}
+use Rattle.settings.specs.Settings.{tilingRow}
+use Rattle.models.specs.Models.{filled}
 
 pub filled-other : (row wall : ℕ) (vs : List ℕ) → (row ≡ tilingRow → ⊥) → filled row wall vs ≡ vs
 unfolding filled

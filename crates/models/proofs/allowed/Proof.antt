@@ -6,10 +6,11 @@ use native.Mathlib.Omega.{arith}
 use borrow.Author.Needs.{needs}
 use borrow.Author.Tests.{not-true, not-false, eq-eqb, ne-eqb}
 use lib.ListN.{length}
-use Rattle.settings.specs.Settings.{settings, inRanges, allowedFor, byteCount, tilingRow}
+use Rattle.settings.specs.Settings.{settings, inRanges, byteCount, tilingRow}
+use Rattle.models.specs.Models.{allowedFor}
 use Rattle.settings.proofs.Laws.{ranges-many}
-use Rattle.settings.proofs.ranges.allowed.Statement.{statement}
-use Rattle.settings.proofs.ranges.allowed.Tie as tie
+use Rattle.models.proofs.allowed.Statement.{statement}
+use Rattle.models.proofs.allowed.Tie as tie
 
 in-ranges-requires : tie.Need-in-ranges-requires
 in-ranges-requires c κs = search needs

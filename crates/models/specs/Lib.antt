@@ -1,0 +1,2 @@
+-- What is right of a panel's model.
+pub mod Models
