@@ -3,6 +3,7 @@ ghost use mathlib.Core.Path.{_≡_};
 ghost use Prim.Native.Nat.{_+_, _<_};
 ghost use lib.ListN.{length};
 ghost use Rattle.settings.specs.Settings.{rowCount, valueCount};
+ghost use Rattle.models.specs.Models.{allowedFor, modelIn};
 ghost use Rattle.image_read.specs.Fields.{misplaced, stepAt, fieldsIn};
 use crate::Fields;
 use crate::Refusal;
@@ -28,6 +29,18 @@ fn is_misplaced(form: Form, row: usize, seen: &[bool]) -> bool
     row == KIND_ROW && seen[TILING_ROW]
 }
 
+// Whether a field's values are allowed, by the profile and by the kind among the values gathered; only a tiling goes by the kind.
+fn is_allowed(profile: Profile, row: usize, vs: &[u8], values: &[u8]) -> bool
+    requires { ⌜ (row < rowCount) × (length (now values) ≡ valueCount) ⌝ }
+    ensures { λ r. ⌜ r ≡ allowedFor (modelIn profile (now (values .entry))) row (now (vs .entry)) ⌝ }
+{
+    if row != TILING_ROW {
+        return settings::in_ranges(profile, row, vs);
+    }
+    let model = models::model_in(profile, values);
+    models::allowed(model, row, vs)
+}
+
 // What stands at the front of the bytes that are left, where some rows were seen before and some values gathered.
 fn step_at(form: Form, profile: Profile, left: &[u8], seen: &[bool], values: &[u8]) -> Step
     requires { ⌜ (length (now seen) ≡ rowCount) × (length (now values) ≡ valueCount) ⌝ }
@@ -51,8 +64,7 @@ fn step_at(form: Form, profile: Profile, left: &[u8], seen: &[bool], values: &[u
     if left[1] as usize != count {
         return Step::Broken;
     }
-    let model = models::model_in(profile, values);
-    if !models::allowed(model, row, &left[2..2 + count]) {
+    if !is_allowed(profile, row, &left[2..2 + count], values) {
         return Step::NotAllowed;
     }
     Step::Field(row)

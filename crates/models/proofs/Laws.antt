@@ -1,6 +1,6 @@
 -- What callers cite of a model. Assumes nothing.
-use mathlib.Core.Path.{_≡_, refl}
-use mathlib.Core.Bool.{Bool, true, _&&_}
+use mathlib.Core.Path.{_≡_, refl, sym}
+use mathlib.Core.Bool.{Bool, true, and-true, _&&_}
 use mathlib.Core.List.{List, [], _∷_, flatten}
 use Prim.Native.Nat.{ℕ, _<_}
 use borrow.Author.Tests.{ne-eqb}
@@ -30,6 +30,10 @@ fresh-allowed model {row} h = by-kind (model .kind)
 
 pub allowed-many : (model : Model) (row : ℕ) (vs : List ℕ) → allowedFor model row vs ≡ true → length vs ≡ byteCount row
 allowed-many model row vs e = ranges-many (model .profile) row vs (both _ _ e .0)
+
+-- Of every row but the tiling's the ranges say all.
+pub by-ranges : (model : Model) (row : ℕ) (vs : List ℕ) → (row ≡ tilingRow → ⊥) → inRanges (model .profile) row vs ≡ allowedFor model row vs
+by-ranges model row vs ne = sym (rw (ne-eqb row tilingRow ne) (and-true (inRanges (model .profile) row vs)))
 
 -- Only what is allowed of a tiling goes by the kind, and every kind's number is allowed.
 pub kind-free : (m n : Model) {row : ℕ} (vs : List ℕ) → m .profile ≡ n .profile → (row ≡ tilingRow → ⊥) → allowedFor m row vs ≡ allowedFor n row vs

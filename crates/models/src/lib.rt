@@ -30,12 +30,12 @@ pub fn allowed(model: Model, row: usize, values: &[u8]) -> bool
     ensures { λ r. ⌜ r ≡ allowedFor model row (now (values .entry)) ⌝ }
 {
     let profile = model.profile;
+    if row != TILING_ROW {
+        return settings::in_ranges(profile, row, values);
+    }
     let kind = model.kind;
     if !settings::in_ranges(profile, row, values) {
         return false;
-    }
-    if row != TILING_ROW {
-        return true;
     }
     tiling::in_wall(kind, values[2], values[3])
 }

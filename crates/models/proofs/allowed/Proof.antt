@@ -1,14 +1,13 @@
--- The ranges are tried, and then, of a tiling, its wall. Assumes nothing.
+-- The ranges say all, but for a tiling, whose wall is tried behind them. Assumes nothing.
 use mathlib.Core.Path.{_≡_, sym, ap, _∙_}
-use mathlib.Core.Bool.{Bool, true, false, _&&_}
-use Prim.Native.Nat.{ℕ, _<_}
+use mathlib.Core.Bool.{true}
 use native.Mathlib.Omega.{arith}
 use borrow.Author.Needs.{needs}
-use borrow.Author.Tests.{not-true, not-false, eq-eqb, ne-eqb}
+use borrow.Author.Tests.{not-true, not-false, eq-eqb}
 use lib.ListN.{length}
-use Rattle.settings.specs.Settings.{settings, inRanges, byteCount, tilingRow}
-use Rattle.models.specs.Models.{allowedFor}
+use Rattle.settings.specs.Settings.{settings, inRanges, byteCount}
 use Rattle.settings.proofs.Laws.{ranges-many}
+use Rattle.models.proofs.Laws.{by-ranges}
 use Rattle.models.proofs.allowed.Statement.{statement}
 use Rattle.models.proofs.allowed.Tie as tie
 
@@ -16,19 +15,23 @@ in-ranges-requires : tie.Need-in-ranges-requires
 in-ranges-requires c κs = search needs
 
 returns : tie.Need-returns
-returns c = let out = sym (c .before .in-ranges .ensures) ∙ not-true _ (c .if1 .taken) in rw out
+returns c = c .in-ranges .ensures ∙ by-ranges _ _ _ (c .before .if1 .taken)
+
+in-ranges-requires-2 : tie.Need-in-ranges-requires-2
+in-ranges-requires-2 c κs = search needs
 
 returns-2 : tie.Need-returns-2
-returns-2 c =
-    let inside = sym (c .before .before .in-ranges .ensures) ∙ not-false _ (c .before .if1 .left) in
-    rw (inside, ne-eqb _ _ (c .if2 .taken))
+returns-2 c = let out = sym (c .before .in-ranges2 .ensures) ∙ not-true _ (c .if2 .taken) in rw out
 
 -- a tiling in its ranges has four values
+inside : (c : tie.Else2) → let a = c .before .before .before .before .args in inRanges (a .model .profile) (a .row) (a .values .now) ≡ true
+inside c = sym (c .before .in-ranges2 .ensures) ∙ not-false _ (c .if2 .left)
+
 four : (c : tie.Else2) → length (c .before .before .before .before .args .values .now) ≡ 4
 unfolding settings
 four c =
     let a = c .before .before .before .before .args in
-    ranges-many (a .model .profile) (a .row) (a .values .now) (sym (c .before .before .in-ranges .ensures) ∙ not-false _ (c .before .if1 .left)) ∙ ap byteCount (c .if2 .left)
+    ranges-many (a .model .profile) (a .row) (a .values .now) (inside c) ∙ ap byteCount (c .before .before .if1 .left)
 
 shared-slice-read-in-wall : tie.Need-shared-slice-read-in-wall
 shared-slice-read-in-wall c = omega (arith, four (c .before))
@@ -42,8 +45,7 @@ in-wall-requires c κs = search needs
 returns-3 : tie.Need-returns-3
 returns-3 c =
     let met = c .before .before .before in
-    let inside = sym (met .before .before .in-ranges .ensures) ∙ not-false _ (met .before .if1 .left) in
-    c .in-wall .ensures ∙ rw (inside, eq-eqb _ _ (met .if2 .left))
+    c .in-wall .ensures ∙ rw (inside met, eq-eqb _ _ (met .before .before .if1 .left))
 
 pub allowed-spec : {M : Type 1} → statement M
 allowed-spec =
@@ -51,6 +53,7 @@ allowed-spec =
     (tie.spec
     in-ranges-requires
     returns
+    in-ranges-requires-2
     returns-2
     shared-slice-read-in-wall
     shared-slice-read-in-wall-2

@@ -1,5 +1,5 @@
 -- Each test decides a case of `stepAt`. Assumes nothing.
-use mathlib.Core.Path.{_≡_, refl, sym, ap₂, subst, _∙_}
+use mathlib.Core.Path.{_≡_, refl, sym, ap, subst, _∙_}
 use mathlib.Core.Bool.{Bool, true, false, cond}
 use mathlib.Core.Logic.{⊎-elim}
 use mathlib.Core.List.{List, [], _∷_}
@@ -125,32 +125,30 @@ returns-5 c =
     when-other _ _ _ _ _ _ (some (known .before .before .before)) (found known) (here (else2 .before) false (else2 .if2 .left))
     (omega (arith, else3 .if3 .left)) (λ e. c .if4 .taken (e ∙ sym n))
 
-model-in-requires : tie.Need-model-in-requires
-model-in-requires c κs = search needs
+add-is-allowed : tie.Need-add-is-allowed
+add-is-allowed c = search needs
 
-add-allowed : tie.Need-add-allowed
-add-allowed c = search needs
+sub-is-allowed : tie.Need-sub-is-allowed
+sub-is-allowed c = search needs
 
-sub-allowed : tie.Need-sub-allowed
-sub-allowed c = search needs
+part-is-allowed-start : tie.Need-part-is-allowed-start
+part-is-allowed-start c = search needs
 
-part-allowed-start : tie.Need-part-allowed-start
-part-allowed-start c = search needs
+part-is-allowed-end : tie.Need-part-is-allowed-end
+part-is-allowed-end c = search needs
 
-part-allowed-end : tie.Need-part-allowed-end
-part-allowed-end c = search needs
-
-allowed-requires : tie.Need-allowed-requires
-allowed-requires c κs = in-table (c .before .before .before .before .before .before .before .before)
+is-allowed-requires : tie.Need-is-allowed-requires
+is-allowed-requires c κs =
+    let known = c .before .before .before .before .before .before .before in
+    (in-table known, known .before .before .before .before .before .before .before .before .before .pre .1)
 
 -- a whole field, as its values are allowed or not
-whole : (c : tie.After-allowed) (t : Bool) → c .allowed .result ≡ t → let known = c .before .before .before .before .before .before .before .before .before in
+whole : (c : tie.After-is-allowed) (t : Bool) → c .is-allowed .result ≡ t → let known = c .before .before .before .before .before .before .before .before in
     let row = known .before .found .given .0 .0 in
     let a = known .before .before .before .before .before .before .before .before .before .args in
     cond t (Field row) NotAllowed ≡ stepAt (a .form) (a .profile) (a .seen .now) (a .values .now) (a .left .now)
 whole c t e =
-    let model = c .before .before in
-    let else4 = model .before in
+    let else4 = c .before .before in
     let else3 = else4 .before .before in
     let else2 = else3 .before in
     let known = else2 .before .before .before in
@@ -158,7 +156,8 @@ whole c t e =
     let row = known .before .found .given .0 .0 in
     let n = else2 .before .before .byte-count .ensures in
     let m : 2 + else2 .before .before .byte-count .result - 2 ≡ byteCount row = omega arith in
-    let answer = c .allowed .ensures ∙ ap₂ (λ (o : Model) (k : ℕ). allowedFor o row (take k (drop 2 (a .left .now)))) (model .model-in .ensures) m in
+    let model = modelIn (a .profile) (a .values .now) in
+    let answer = c .is-allowed .ensures ∙ ap (λ (k : ℕ). allowedFor model row (take k (drop 2 (a .left .now)))) m in
     when-whole _ _ _ _ _ _ (some (known .before .before .before)) (found known) (here (else2 .before) false (else2 .if2 .left))
     (omega (arith, else3 .if3 .left)) (else4 .if4 .left ∙ n) t (sym answer ∙ e)
 
@@ -185,11 +184,10 @@ step-at-spec =
     shared-slice-read-if4
     cast-if4
     returns-5
-    model-in-requires
-    add-allowed
-    sub-allowed
-    part-allowed-start
-    part-allowed-end
-    allowed-requires
+    add-is-allowed
+    sub-is-allowed
+    part-is-allowed-start
+    part-is-allowed-end
+    is-allowed-requires
     returns-6
     returns-7)
