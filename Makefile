@@ -4,7 +4,7 @@ play:
 	@tools/prove play
 	@tools/bytes <tests/session.hex | tools/run play
 
-# the example of a wall of both profiles
+# the example of a wall of both profiles and both kinds
 mixed-wall:
 	@tools/prove mixed_wall
 	@tools/run mixed_wall

@@ -4,7 +4,6 @@ use mathlib.Core.Bool.{cond, _&&_}
 use mathlib.Core.List.{List, map}
 use lib.Dec.{leb, eqb}
 use lib.ListN.{length, getD}
-use Rattle.panels.specs.Calls.{ifThere}
 use Rattle.packet.specs.declared.MonitorId.{MonitorId}
 use Rattle.packet.specs.declared.GroupId.{GroupId}
 use Rattle.packet.specs.declared.Verdict.{Verdict}
@@ -15,7 +14,7 @@ use Rattle.panels.specs.declared.Panel.{Panel}
 use Rattle.panels.specs.declared.Place.{Place}
 use Rattle.panels.specs.declared.Place.the-variants.{At, Nowhere}
 use Rattle.panels.specs.declared.Table.{Table}
-use Rattle.panels.specs.Wall.{Wall, blank, tableOf, panelsOf, placeOf}
+use Rattle.panels.specs.Wall.{Wall, blank, tableOf, panelsOf, placeOf, ifThere}
 use Rattle.packet.specs.Answered.{isHeard}
 use Rattle.panels.specs.Addressed.{reaches}
 use Rattle.answers.specs.declared.Reply.{Reply}

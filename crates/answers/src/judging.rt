@@ -86,7 +86,9 @@ fn takes_tiling(p: Panel, d: &[u8]) -> bool
         return false;
     }
     let held = tiling_then(p, d);
-    let model = panels::model_of(p);
+    let profile = p.profile;
+    let values = p.values;
+    let model = models::model_in(profile, &values);
     models::allowed(model, TILING_ROW, &held)
 }
 

@@ -17,11 +17,11 @@ use Rattle.lists.specs.Lists.{laidOver}
 use Rattle.panels.specs.declared.Panel.{Panel}
 use Rattle.panels.specs.declared.Place.{Place}
 use Rattle.panels.specs.declared.Place.the-variants.{At, Nowhere}
-use Rattle.panels.specs.declared.Refusal.{Refusal}
-use Rattle.panels.specs.declared.Refusal.the-variants.{Nothing, Full, IdZero, IdTaken, GroupZero, UnknownProfile, NoPanel, UnknownKind}
-use Rattle.panels.specs.Wall.{Wall, blank, placeOf, panelsOf}
+use Rattle.table_calls.specs.declared.Refusal.{Refusal}
+use Rattle.table_calls.specs.declared.Refusal.the-variants.{Nothing, Full, IdZero, IdTaken, GroupZero, UnknownProfile, NoPanel, UnknownKind}
+use Rattle.panels.specs.Wall.{Wall, blank, placeOf, panelsOf, ifThere}
 use Rattle.panels.specs.Addressed.{reaches}
-use Rattle.panels.specs.Calls.{refusalOf as tableNumber, ifThere, addRefusal, added, without, removed}
+use Rattle.table_calls.specs.Calls.{refusalOf as tableNumber, addRefusal, added, without, removed}
 use Rattle.answers.specs.declared.Sent.the-variants.{Bytes, NoRoom}
 use Rattle.answers.specs.Reply.{sentBytes, sentOf, bytesSent, outputOf as answerOutput}
 use Rattle.answers.specs.Judged.{command}

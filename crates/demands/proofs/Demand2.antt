@@ -7,7 +7,6 @@ use mathlib.Core.List.{List, [], map}
 use lib.Dec.{leb, eqb}
 use lib.ListN.{length, getD, length-map, List·getD-map}
 use Rattle.settings.proofs.Laws.{get-found}
-use Rattle.panels.specs.Calls.{ifThere}
 use Rattle.packet.specs.declared.MonitorId.{MonitorId}
 use Rattle.packet.specs.declared.GroupId.{GroupId}
 use Rattle.packet.specs.declared.Control.the-variants.{Ack, Nack, Nav}
@@ -17,13 +16,14 @@ use Rattle.packet.specs.Packet.{monitorId, verdictOf, dataOf}
 use Rattle.panels.specs.declared.Panel.{Panel}
 use Rattle.panels.specs.declared.Place.{Place}
 use Rattle.panels.specs.declared.Place.the-variants.{At, Nowhere}
-use Rattle.panels.specs.Wall.{Wall, blank, tableOf, panelsOf, placeOf}
+use Rattle.panels.specs.Wall.{Wall, blank, tableOf, panelsOf, placeOf, ifThere}
 use Rattle.packet.specs.Answered.{isHeard}
 use Rattle.panels.specs.Addressed.{reaches}
 use Rattle.panels.specs.WellFormed.{GoodPanel, GoodWall}
 use Rattle.panels.proofs.Laws.{place-there}
 use Rattle.lists.proofs.Places.{getD-inside}
-use Rattle.panels.proofs.Formed.{empty-formed, added-formed, removed-formed, good-at}
+use Rattle.panels.proofs.Formed.{empty-formed, good-at}
+use Rattle.table_calls.proofs.Formed.{added-formed, removed-formed}
 use Rattle.answers.specs.Reply.{silence, wordFrom}
 use Rattle.answers.specs.Judged.{Command, getOf, setOf, unavailable, command, heldThen, takes, judge, panelAfter, stored, taken, notAvailable, replyBy}
 use Rattle.answers.specs.Played.{turned, replyFrom, damagedReply, playedBy, played}

@@ -7,7 +7,6 @@ use mathlib.Core.List.{List, [], _∷_, _++_, map, append-assoc, append-nil}
 use lib.Dec.{leb, eqb}
 use lib.ListN.{length, getD}
 use Rattle.packet.specs.declared.Control.the-variants.{Nack}
-use Rattle.panels.specs.Calls.{ifThere}
 use Rattle.packet.specs.declared.MonitorId.{MonitorId}
 use Rattle.packet.specs.declared.Verdict.the-variants.{Damaged}
 use Rattle.packet.specs.Packet.{monitorId, damageOf, verdictOf}
@@ -15,7 +14,7 @@ use Rattle.packet.specs.Spoiled.{spoiled}
 use Rattle.packet.proofs.Spoiled.{spoiled-damaged}
 use Rattle.panels.specs.declared.Place.{Place}
 use Rattle.panels.specs.declared.Place.the-variants.{At, Nowhere}
-use Rattle.panels.specs.Wall.{Wall, placeOf}
+use Rattle.panels.specs.Wall.{Wall, placeOf, ifThere}
 use Rattle.answers.specs.declared.Reply.{Reply}
 use Rattle.answers.specs.Reply.{silence, wordFrom}
 use Rattle.answers.specs.Played.{Outcome, damagedReply, played}

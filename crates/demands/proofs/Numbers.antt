@@ -14,9 +14,9 @@ use Rattle.packet.specs.declared.Written.the-variants.{Bytes as PacketBytes, To
 use Rattle.packet.specs.Packet.{writtenOf as packetWritten}
 use Rattle.panels.specs.declared.Place.{Place}
 use Rattle.panels.specs.declared.Place.the-variants.{At, Nowhere}
-use Rattle.panels.specs.declared.Refusal.the-variants.{Nothing, Full, IdZero, IdTaken, GroupZero, UnknownProfile, NoPanel, UnknownKind}
-use Rattle.panels.specs.Wall.{Wall, placeOf}
-use Rattle.panels.specs.Calls.{refusalOf as tableNumber, ifThere, addRefusal}
+use Rattle.table_calls.specs.declared.Refusal.the-variants.{Nothing, Full, IdZero, IdTaken, GroupZero, UnknownProfile, NoPanel, UnknownKind}
+use Rattle.panels.specs.Wall.{Wall, placeOf, ifThere}
+use Rattle.table_calls.specs.Calls.{refusalOf as tableNumber, addRefusal}
 use Rattle.answers.specs.declared.Sent.the-variants.{Bytes as AnswerBytes, NoRoom as NoAnswer}
 use Rattle.answers.specs.Reply.{sentBytes, sentOf}
 use Rattle.image_write.specs.declared.Written.the-variants.{Bytes as ImageBytes, WouldLose, NoRoom as NoImage}

@@ -1,6 +1,6 @@
 -- Power off and on. Assumes nothing.
 use Prim.Native.Nat.{ℕ, zero, suc}
-use mathlib.Core.Bool.{Bool, true, false, cond, not, false≢true, _&&_, _||_, and-true, and-false}
+use mathlib.Core.Bool.{true, false, cond, not, false≢true, _&&_, _||_, and-true, and-false}
 use mathlib.Core.Path.{_≡_, refl, sym, ap, _∙_}
 use mathlib.Core.List.{List, [], _∷_, flatten}
 use native.Mathlib.Omega.{arith}

@@ -14,10 +14,10 @@ use Rattle.packet.specs.Packet.{verdictOf, dataOf}
 use Rattle.lists.specs.Lists.{laidOver}
 use Rattle.panels.specs.declared.Panel.{Panel}
 use Rattle.panels.specs.declared.Table.{Table}
-use Rattle.panels.specs.declared.Refusal.the-variants.{Nothing}
+use Rattle.table_calls.specs.declared.Refusal.the-variants.{Nothing}
 use Rattle.panels.specs.Wall.{Wall, blank, panelsOf}
 use Rattle.panels.specs.Addressed.{reaches}
-use Rattle.panels.specs.Calls.{addRefusal, added, removedFrom, removed}
+use Rattle.table_calls.specs.Calls.{addRefusal, added, removedFrom, removed}
 use Rattle.panels.specs.WellFormed.{WellFormed}
 use Rattle.answers.specs.declared.Reply.{Reply}
 use Rattle.answers.specs.Reply.{sentOf, bytesSent, outputOf as answerOutput}

@@ -19,7 +19,7 @@ use Rattle.panels.specs.declared.Panel.{Panel}
 use Rattle.panels.specs.declared.Table.{Table}
 use Rattle.panels.specs.Wall.{Wall, modelOf, blank, tableOf, panelsOf}
 use Rattle.panels.specs.Addressed.{reaches}
-use Rattle.panels.specs.Calls.{added, removed}
+use Rattle.table_calls.specs.Calls.{added, removed}
 use Rattle.panels.specs.WellFormed.{WellFormed}
 use Rattle.answers.specs.Reply.{silence, wordFrom, reportFrom}
 use Rattle.answers.specs.declared.Reply.{Reply}

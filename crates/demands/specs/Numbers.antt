@@ -14,8 +14,8 @@ use Rattle.packet.specs.declared.Written.{Written as PacketWritten}
 use Rattle.packet.specs.declared.Written.the-variants.{Bytes as PacketBytes, TooLong, NoRoom as NoPacketRoom}
 use Rattle.packet.specs.Packet.{writtenOf as packetWritten}
 use Rattle.panels.specs.declared.Panel.{Panel}
-use Rattle.panels.specs.Wall.{Wall, placeOf}
-use Rattle.panels.specs.Calls.{refusalOf as tableNumber, ifThere, addRefusal, removedFrom}
+use Rattle.panels.specs.Wall.{Wall, placeOf, ifThere}
+use Rattle.table_calls.specs.Calls.{refusalOf as tableNumber, addRefusal, removedFrom}
 use Rattle.answers.specs.declared.Reply.{Reply}
 use Rattle.answers.specs.declared.Sent.{Sent}
 use Rattle.answers.specs.declared.Sent.the-variants.{Bytes as AnswerBytes, NoRoom as NoAnswerRoom}

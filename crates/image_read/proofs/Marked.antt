@@ -15,8 +15,7 @@ use Rattle.packet.specs.Packet.{monitorId}
 use Rattle.panels.specs.declared.Panel.{Panel}
 use Rattle.panels.specs.declared.Place.{Place}
 use Rattle.panels.specs.declared.Place.the-variants.{At, Nowhere}
-use Rattle.panels.specs.Wall.{Wall, placeFrom}
-use Rattle.panels.specs.Calls.{ifThere}
+use Rattle.panels.specs.Wall.{Wall, placeFrom, ifThere}
 use Rattle.forms.specs.declared.Form.{Form}
 use Rattle.forms.specs.Forms.{headSize, profileIn}
 use Rattle.image_read.specs.declared.Refusal.the-variants.{Record}

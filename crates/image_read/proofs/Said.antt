@@ -10,8 +10,7 @@ use lib.ListN.{length, length-append}
 use Rattle.settings.specs.declared.Profile.{Profile}
 use Rattle.packet.specs.Packet.{monitorId, groupId}
 use Rattle.panels.specs.declared.Panel.{Panel}
-use Rattle.panels.specs.Wall.{Wall, placeOf}
-use Rattle.panels.specs.Calls.{ifThere}
+use Rattle.panels.specs.Wall.{Wall, placeOf, ifThere}
 use Rattle.forms.specs.declared.Form.{Form}
 use Rattle.forms.specs.Forms.{headSize, headOf, holds}
 use Rattle.forms.proofs.Laws.{head-length, profile-back, behind-head}

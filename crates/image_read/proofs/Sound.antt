@@ -23,8 +23,7 @@ use Rattle.packet.specs.Packet.{monitorId}
 use Rattle.panels.specs.declared.Table.{Table}
 use Rattle.panels.specs.declared.Place.{Place}
 use Rattle.panels.specs.declared.Place.the-variants.{At, Nowhere}
-use Rattle.panels.specs.Wall.{Wall, tableOf, panelsOf, placeOf, mostPanels}
-use Rattle.panels.specs.Calls.{ifThere}
+use Rattle.panels.specs.Wall.{Wall, tableOf, panelsOf, placeOf, mostPanels, ifThere}
 use Rattle.panels.specs.WellFormed.{GoodPanel, GoodWall, WellFormed}
 use Rattle.panels.proofs.Formed.{formed, empty-formed, nowhere-absent, good-snoc}
 use Rattle.panels.proofs.Values.{InRange, other-row, fresh-in-range, with-in-range}

@@ -9,8 +9,7 @@ use Rattle.settings.specs.declared.Profile.{Profile}
 use Rattle.profiles.specs.Numbers.{ifKnown}
 use Rattle.packet.specs.Packet.{monitorId, groupId}
 use Rattle.panels.specs.declared.Panel.{Panel}
-use Rattle.panels.specs.Wall.{Wall, blank, tableOf, placeOf}
-use Rattle.panels.specs.Calls.{ifThere}
+use Rattle.panels.specs.Wall.{Wall, blank, tableOf, placeOf, ifThere}
 use Rattle.forms.specs.declared.Form.{Form}
 use Rattle.forms.specs.Forms.{headSize, profileIn}
 use Rattle.image_read.specs.declared.Refusal.{Refusal}

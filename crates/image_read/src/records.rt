@@ -19,7 +19,6 @@ use packet::MonitorId;
 use panels::Panel;
 use profiles::Numbered;
 use settings::Profile;
-use settings::VALUE_COUNT;
 
 // A whole head, neither ID nor group 0, and an ID not seen before.
 fn head_fits(form: Form, bytes: &[u8], seen: &[bool]) -> bool
@@ -54,12 +53,7 @@ fn profile_in(form: Form, bytes: &[u8]) -> Numbered
 fn no_panel() -> ReadPanel
     ensures { λ r. ⌜ r ≡ noPanel ⌝ }
 {
-    let panel = Panel {
-        id: MonitorId(0),
-        group: GroupId(0),
-        profile: Profile::General,
-        values: [0u8; VALUE_COUNT],
-    };
+    let panel = panels::blank_panel();
     ReadPanel {
         refusal: Refusal::Record,
         panel,

@@ -163,9 +163,9 @@ fn show(t: Table)
 
 fn main() {
     let empty = panels::empty_table();
-    let one = panels::add(empty, MonitorId(1), GroupId(9), 0, 0);
+    let one = table_calls::add(empty, MonitorId(1), GroupId(9), 0, 0);
     let general = one.table;
-    let two = panels::add(general, MonitorId(2), GroupId(9), 1, 1);
+    let two = table_calls::add(general, MonitorId(2), GroupId(9), 1, 1);
     let mut wall = two.table;
     // group 9: video with sharpness 60; then both panels: video?
     wall = send(

@@ -1,6 +1,6 @@
 -- What callers cite of a model. Assumes nothing.
 use mathlib.Core.Path.{_≡_, refl, sym}
-use mathlib.Core.Bool.{Bool, true, and-true, _&&_}
+use mathlib.Core.Bool.{Bool, true, and-true}
 use mathlib.Core.List.{List, [], _∷_, flatten}
 use Prim.Native.Nat.{ℕ, _<_}
 use borrow.Author.Tests.{ne-eqb}

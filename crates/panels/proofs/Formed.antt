@@ -1,32 +1,24 @@
 -- Tables stay well-formed. Assumes nothing.
 use mathlib.Core.Path.{_≡_, refl, sym, ap, subst, _∙_}
 use mathlib.Core.Bool.{Bool, true, false, cond}
-use mathlib.Core.List.{[], _∷_, _++_, map, append-nil}
+use mathlib.Core.List.{[], _∷_, _++_, map}
 use Prim.Native.Nat.{ℕ, zero, suc, _≤_, _<_}
 use native.Mathlib.Nat.{le-of-suc-le-suc, not-suc-le-zero}
 use native.Mathlib.Omega.{arith}
-use borrow.Author.Tests.{eqb-false, leb-false}
-use lib.Dec.{eqb, leb}
-use lib.ListN.{length, getD, length-append, length-take, length-drop}
+use borrow.Author.Tests.{eqb-false}
+use lib.Dec.{eqb}
+use lib.ListN.{length, getD}
 use Rattle.settings.specs.declared.Profile.{Profile}
-use Rattle.profiles.specs.declared.Numbered.{Numbered}
-use Rattle.profiles.specs.declared.Numbered.the-variants.{Known, Unknown}
-use Rattle.profiles.specs.Numbers.{profileWith}
 use Rattle.tiling.specs.declared.Kind.{Kind}
-use Rattle.tiling.specs.Kinds.{kindWith, kindNumber}
+use Rattle.tiling.specs.Kinds.{kindNumber}
 use Rattle.settings.specs.Settings.{freshValues, kindRow}
 use Rattle.models.specs.Models.{modelIn}
 use Rattle.models.proofs.Laws.{kind-allowed}
 use Rattle.packet.specs.declared.MonitorId.{MonitorId}
 use Rattle.packet.specs.declared.GroupId.{GroupId}
 use Rattle.panels.specs.declared.Panel.{Panel}
-use Rattle.panels.specs.declared.Table.{Table}
-use Rattle.panels.specs.declared.Place.{Place}
 use Rattle.panels.specs.declared.Place.the-variants.{At, Nowhere}
-use Rattle.panels.specs.declared.Refusal.{Refusal}
-use Rattle.panels.specs.declared.Refusal.the-variants.{Nothing, Full, IdZero, IdTaken, GroupZero, UnknownProfile, NoPanel, UnknownKind}
-use Rattle.panels.specs.Wall.{Wall, blank, freshPanel, tableOf, panelsOf, placeFrom, placeOf, mostPanels}
-use Rattle.panels.specs.Calls.{refusalOf, ifThere, freshOf, addRefusal, added, without, removed}
+use Rattle.panels.specs.Wall.{Wall, blank, freshPanel, tableOf, placeFrom, mostPanels}
 use Rattle.panels.specs.WellFormed.{GoodPanel, Absent, GoodWall, WellFormed}
 use Rattle.panels.proofs.Laws.{panels-of-table}
 use Rattle.panels.proofs.Values.{fresh-in-range, with-in-range}
@@ -55,18 +47,6 @@ pub good-snoc : (w : Wall) (p : Panel) → GoodWall w → GoodPanel p → Absent
 good-snoc [] p good g a = (g, tt, tt)
 good-snoc (q ∷ w) p (gq, aq, good) g (n, a) = (gq, absent-snoc (q .id) w p aq (λ e. n (sym e)), good-snoc w p good g a)
 
-absent-without : (i : MonitorId) (k : ℕ) (w : Wall) → Absent i w → Absent i (without (At k) w)
-absent-without i zero [] a = tt
-absent-without i (suc k) [] a = tt
-absent-without i zero (p ∷ w) (n, a) = a
-absent-without i (suc k) (p ∷ w) (n, a) = (n, absent-without i k w a)
-
-good-without : (k : ℕ) (w : Wall) → GoodWall w → GoodWall (without (At k) w)
-good-without zero [] good = tt
-good-without (suc k) [] good = tt
-good-without zero (p ∷ w) (g, a, good) = good
-good-without (suc k) (p ∷ w) (g, a, good) = (g, absent-without (p .id) k w a, good-without k w good)
-
 -- a change of each panel for itself that keeps its ID and its goodness
 module _ (f : Panel → Panel) (same : (p : Panel) → f p .id ≡ p .id) (keeps : (p : Panel) → GoodPanel p → GoodPanel (f p)) where
   absent-map : (i : MonitorId) (w : Wall) → Absent i w → Absent i (map f w)
@@ -91,53 +71,3 @@ fresh-good i g profile kind named grouped =
 
 pub empty-formed : WellFormed (tableOf [])
 empty-formed = formed [] (omega arith) tt
-
--- what add has found where it refuses nothing
-pub record MayAdd (w : Wall) (i : MonitorId) (g : GroupId) : Type 0 where
-  pub room : length w < mostPanels
-  pub named : i .0 ≡ 0 → ⊥
-  pub new : placeOf i w ≡ Nowhere
-  pub grouped : g .0 ≡ 0 → ⊥
-
-pub may-add : (w : Wall) (i : MonitorId) (g : GroupId) (n k : ℕ) → addRefusal w i g n k ≡ Nothing → MayAdd w i g
-unfolding addRefusal
-may-add w i g n k e = go (leb mostPanels (length w)) (eqb (i .0) 0) (placeOf i w) (eqb (g .0) 0) _ refl refl refl refl e
-  where
-    go : (a b : Bool) (q : Place) (c : Bool) (r : Refusal) → leb mostPanels (length w) ≡ a → eqb (i .0) 0 ≡ b → placeOf i w ≡ q → eqb (g .0) 0 ≡ c
-        → cond a Full (cond b IdZero (ifThere q IdTaken (cond c GroupZero r))) ≡ Nothing → MayAdd w i g
-    go true b q c r ea eb eq ec n = let z : _≡_ {A = ℕ} 0 1 = cc in absurd (omega arith)
-    go false true q c r ea eb eq ec n = let z : _≡_ {A = ℕ} 0 1 = cc in absurd (omega arith)
-    go false false (At k) c r ea eb eq ec n = let z : _≡_ {A = ℕ} 0 1 = cc in absurd (omega arith)
-    go false false Nowhere true r ea eb eq ec n = let z : _≡_ {A = ℕ} 0 1 = cc in absurd (omega arith)
-    go false false Nowhere false r ea eb eq ec n =
-        record { room = leb-false _ _ ea; named = eqb-false _ _ eb; new = eq; grouped = eqb-false _ _ ec }
-
--- a panel more, or none
-good-more : (w : Wall) (i : MonitorId) (g : GroupId) (numbered : Numbered) (kind : Kind) → length w ≤ mostPanels → GoodWall w → MayAdd w i g
-    → WellFormed (tableOf (w ++ freshOf numbered kind i g))
-good-more w i g (Known profile) kind few good m =
-    formed _ (simp length-append (omega arith)) (good-snoc w _ good (fresh-good i g profile kind (m .named) (m .grouped)) (nowhere-absent i 0 w (m .new)))
-good-more w i g Unknown kind few good m = rw append-nil (formed w few good)
-
-good-added : (w : Wall) (i : MonitorId) (g : GroupId) (n k : ℕ) (r : Refusal) → length w ≤ mostPanels → GoodWall w → addRefusal w i g n k ≡ r
-    → WellFormed (tableOf (cond (eqb (refusalOf r) 0) (w ++ freshOf (profileWith n) (kindWith k) i g) w))
-good-added w i g n k Nothing few good e = good-more w i g (profileWith n) (kindWith k) few good (may-add w i g n k e)
-good-added w i g n k Full few good e = formed w few good
-good-added w i g n k IdZero few good e = formed w few good
-good-added w i g n k IdTaken few good e = formed w few good
-good-added w i g n k GroupZero few good e = formed w few good
-good-added w i g n k UnknownProfile few good e = formed w few good
-good-added w i g n k NoPanel few good e = formed w few good
-good-added w i g n k UnknownKind few good e = formed w few good
-
-pub added-formed : {t : Table} → WellFormed t → (i : MonitorId) (g : GroupId) (n k : ℕ) → WellFormed (tableOf (added (panelsOf t) i g n k))
-unfolding added
-added-formed f i g n k = good-added _ i g n k _ (f .few) (f .good) refl
-
-good-removed : (w : Wall) (q : Place) → length w ≤ mostPanels → GoodWall w → WellFormed (tableOf (without q w))
-good-removed w Nowhere few good = formed w few good
-good-removed w (At k) few good = formed _ (simp (length-append, length-take, length-drop) (omega arith)) (good-without k w good)
-
-pub removed-formed : {t : Table} → WellFormed t → (i : MonitorId) → WellFormed (tableOf (removed (panelsOf t) i))
-unfolding removed
-removed-formed {t} f i = good-removed (panelsOf t) (placeOf i (panelsOf t)) (f .few) (f .good)

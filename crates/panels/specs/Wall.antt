@@ -64,3 +64,7 @@ placeFrom i k (p ∷ w) = cond (eqb (p .id .0) (i .0)) (At k) (placeFrom i (suc 
 
 abbrev pub placeOf : MonitorId → Wall → Place
 placeOf i w = placeFrom i 0 w
+
+abbrev pub ifThere : {A : Type 0} → Place → A → A → A
+ifThere (At k) a b = a
+ifThere Nowhere a b = b

@@ -17,9 +17,9 @@ pub fn two_panels() -> Table
     ensures { λ r. ⌜ (r ≡ tableOf twoPanels) × WellFormed r ⌝ }
 {
     let empty = panels::empty_table();
-    let one = panels::add(empty, MonitorId(1), GroupId(9), 0, 0);
+    let one = table_calls::add(empty, MonitorId(1), GroupId(9), 0, 0);
     let first = one.table;
-    let two = panels::add(first, MonitorId(2), GroupId(9), 0, 0);
+    let two = table_calls::add(first, MonitorId(2), GroupId(9), 0, 0);
     two.table
 }
 

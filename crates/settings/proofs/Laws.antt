@@ -13,7 +13,7 @@ use Rattle.settings.specs.declared.Profile.{Profile}
 use Rattle.settings.specs.declared.Profile.the-variants.{General, Phoenix}
 use Rattle.settings.specs.declared.Found.{Found}
 use Rattle.settings.specs.declared.Found.the-variants.{Set, Get, Nothing}
-use Rattle.settings.specs.Settings.{Range, Setting, settings, setting, foundFrom, foundBy, fieldBy, setCode, getCode, byteCount, place, within, allAllowed, inRanges, valuesOf, allowedByRow, freshValues, rowCount, mostValues, valueCount, kindRow, tilingRow, videoRow, row}
+use Rattle.settings.specs.Settings.{Range, Setting, settings, setting, foundFrom, foundBy, fieldBy, setCode, getCode, byteCount, place, within, allAllowed, inRanges, valuesOf, allowedByRow, freshValues, rowCount, mostValues, valueCount, kindRow, videoRow, row}
 use Rattle.settings.specs.Private.Numbers.{allowedValues, rangesOf, firstRange}
 use Rattle.lists.specs.Lists.{each}
 use Rattle.lists.proofs.Both.{both}

@@ -1,13 +1,13 @@
 -- What the arithmetic says of the two kinds. Assumes nothing.
-use mathlib.Core.Path.{_≡_, refl}
+use mathlib.Core.Path.{_≡_}
 use mathlib.Core.Bool.{true}
-use Prim.Native.Nat.{ℕ, _+_, _-_, _*_, _≤_, _<_}
+use Prim.Native.Nat.{ℕ, _*_, _≤_, _<_}
 use native.Mathlib.Omega.{arith}
 use native.Mathlib.Nat.{mul-comm}
 use Rattle.tiling.specs.declared.Kind.{Kind}
 use Rattle.tiling.specs.declared.Kind.the-variants.{FiveByFive, FifteenByTen}
 use Rattle.tiling.specs.Walls.{byteOf, heightOf, widthOf, upTo}
-use Rattle.tiling.specs.Kinds.{kindNumber, kindWith, isKind, widest, highest, largest}
+use Rattle.tiling.specs.Kinds.{widest, highest, largest}
 use Rattle.tiling.proofs.Walls.{in-bounds, byte-fits, panels-fit}
 
 pub some-wide : (kind : Kind) → 0 < widest kind

@@ -1,12 +1,11 @@
 -- A byte, and the height and width that it says, are each the other's way back, for any widest H and highest V. Assumes nothing.
-use mathlib.Core.Path.{_≡_, refl, sym, ap, _∙_}
-use mathlib.Core.Bool.{Bool, true, false, _&&_}
-use Prim.Native.Nat.{ℕ, zero, suc, _+_, _-_, _*_, _/_, _%_, _≤_, _<_}
+use mathlib.Core.Path.{_≡_}
+use mathlib.Core.Bool.{true}
+use Prim.Native.Nat.{ℕ, zero, suc, _+_, _-_, _*_, _/_, _≤_, _<_}
 use native.Mathlib.Nat.{mod-lt, div-add-mod', div-lt-iff-lt-mul, mul-comm, mul-le-mul}
 use native.Mathlib.Omega.{arith}
 use borrow.Author.Tests.{leb-true, le-leb}
 use lib.Arith.{digits-div, digits-mod, digits-lt}
-use lib.Dec.{leb}
 use Rattle.lists.proofs.Both.{both}
 use Rattle.tiling.specs.Walls.{byteOf, heightOf, widthOf, upTo}
 

@@ -6,8 +6,7 @@ use mathlib.Core.Path.{_≡_}
 use lib.ListN.{getD, drop}
 use Rattle.profiles.specs.Numbers.{ifKnown}
 use Rattle.packet.specs.Packet.{monitorId}
-use Rattle.panels.specs.Wall.{Wall, blank, placeOf}
-use Rattle.panels.specs.Calls.{ifThere}
+use Rattle.panels.specs.Wall.{Wall, blank, placeOf, ifThere}
 use Rattle.forms.specs.declared.Form.{Form}
 use Rattle.forms.specs.Forms.{headSize, profileIn}
 use Rattle.image_read.specs.declared.Refusal.the-variants.{Record}

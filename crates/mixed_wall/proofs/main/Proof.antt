@@ -1,8 +1,9 @@
 -- Two panels are added to the empty table, and each packet keeps it well-formed. Assumes nothing.
 use mathlib.Core.Path.{sym, ap, subst}
-use Rattle.panels.specs.declared.Changed.{Changed}
+use Rattle.table_calls.specs.declared.Changed.{Changed}
 use Rattle.panels.specs.WellFormed.{WellFormed}
-use Rattle.panels.proofs.Formed.{empty-formed, added-formed}
+use Rattle.panels.proofs.Formed.{empty-formed}
+use Rattle.table_calls.proofs.Formed.{added-formed}
 use borrow.Author.Needs.{needs}
 use Rattle.mixed_wall.proofs.main.Statement.{statement}
 use Rattle.mixed_wall.proofs.main.Tie as tie

@@ -6,12 +6,13 @@ use Rattle.tiling.specs.declared.Kind.the-variants.{FiveByFive}
 use Rattle.tiling.specs.Kinds.{isKind, kindWith}
 use Rattle.profiles.specs.Numbers.{profileWith}
 use Rattle.packet.specs.Packet.{monitorId, groupId}
-use Rattle.panels.specs.declared.Changed.{Changed}
+use Rattle.table_calls.specs.declared.Changed.{Changed}
 use Rattle.panels.specs.Wall.{Wall, freshPanel, tableOf, panelsOf, placeFrom}
-use Rattle.panels.specs.Calls.{addRefusal, added}
+use Rattle.table_calls.specs.Calls.{addRefusal, added}
 use Rattle.panels.specs.WellFormed.{WellFormed}
 use Rattle.panels.proofs.Laws.{panels-of-table}
-use Rattle.panels.proofs.Formed.{empty-formed, added-formed}
+use Rattle.panels.proofs.Formed.{empty-formed}
+use Rattle.table_calls.proofs.Formed.{added-formed}
 use Rattle.answers.specs.Sample.{twoPanels}
 use borrow.Author.Needs.{needs}
 use Rattle.sample.proofs.two_panels.Statement.{statement}

@@ -1,11 +1,10 @@
 -- The wall's height and width are asked, and then the position. Assumes nothing.
-use mathlib.Core.Path.{_≡_, refl, sym, ap, _∙_}
+use mathlib.Core.Path.{_≡_, refl, sym, _∙_}
 use mathlib.Core.Bool.{Bool, true, false, cond, _&&_}
-use Prim.Native.Nat.{ℕ, _*_, _≤_}
+use Prim.Native.Nat.{ℕ, _*_}
 use native.Mathlib.Omega.{arith}
 use borrow.Author.Needs.{needs}
 use Rattle.tiling.specs.declared.Kind.{Kind}
-use Rattle.tiling.specs.declared.Size.{Size}
 use Rattle.tiling.specs.declared.Size.the-variants.{HighWide, Nothing}
 use Rattle.tiling.specs.Walls.{heightOf, widthOf, upTo}
 use Rattle.tiling.specs.Kinds.{sizeIn, inWall, widest, largest}

@@ -1,13 +1,13 @@
 -- What the panel would then hold is judged; no tiling turns it off. Assumes nothing.
-use mathlib.Core.Path.{_≡_, refl, sym, ap, ap₂, _∙_}
-use mathlib.Core.Bool.{Bool, true, false, not, _&&_, and-true}
+use mathlib.Core.Path.{_≡_, refl, sym, ap₂, _∙_}
+use mathlib.Core.Bool.{false, and-true}
 use mathlib.Core.List.{List}
-use Prim.Native.Nat.{ℕ, _+_}
+use Prim.Native.Nat.{ℕ}
 use native.Mathlib.Omega.{arith}
 use borrow.Author.Needs.{needs}
-use lib.ListN.{length, drop, length-drop}
+use lib.ListN.{length, length-drop}
 use Rattle.models.specs.declared.Model.{Model}
-use Rattle.settings.specs.Settings.{settings, inRanges, byteCount, tilingRow}
+use Rattle.settings.specs.Settings.{settings, tilingRow}
 use Rattle.models.specs.Models.{allowedFor}
 use Rattle.settings.proofs.Laws.{other-many}
 use Rattle.models.proofs.Filled.{length-filled}
@@ -37,8 +37,11 @@ tiling-then-requires : tie.Need-tiling-then-requires
 unfolding settings
 tiling-then-requires c κs = omega arith
 
-model-of-requires : tie.Need-model-of-requires
-model-of-requires c κs = search needs
+slice-aggregate-model-in : tie.Need-slice-aggregate-model-in
+slice-aggregate-model-in c = search needs
+
+model-in-requires : tie.Need-model-in-requires
+model-in-requires c κs = search needs
 
 slice-aggregate-allowed : tie.Need-slice-aggregate-allowed
 slice-aggregate-allowed c = search needs
@@ -50,7 +53,7 @@ returns-2 : tie.Need-returns-2
 returns-2 c =
     let model = c .before .before in
     c .allowed .ensures
-    ∙ ap₂ (λ (m : Model) (vs : List ℕ). allowedFor m tilingRow vs) (model .model-of .ensures) (model .before .tiling-then .ensures)
+    ∙ ap₂ (λ (m : Model) (vs : List ℕ). allowedFor m tilingRow vs) (model .model-in .ensures) (model .before .before .before .tiling-then .ensures)
     ∙ sym (taken _ _)
 
 pub takes-tiling-spec : {M : Type 1} → statement M
@@ -60,7 +63,8 @@ takes-tiling-spec =
     add-if1
     returns
     tiling-then-requires
-    model-of-requires
+    slice-aggregate-model-in
+    model-in-requires
     slice-aggregate-allowed
     allowed-requires
     returns-2)

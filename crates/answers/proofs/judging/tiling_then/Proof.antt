@@ -5,7 +5,7 @@ use Prim.Native.Nat.{ℕ, _+_}
 use native.Mathlib.Omega.{arith}
 use borrow.Author.Needs.{needs}
 use lib.ListN.{length, getD, drop}
-use Rattle.settings.specs.Settings.{settings, allowedByRow, place, valuesOf, tilingRow}
+use Rattle.settings.specs.Settings.{settings, allowedByRow, place, tilingRow}
 use Rattle.models.specs.Models.{filled}
 use Rattle.settings.proofs.Laws.{value-of}
 use Rattle.answers.proofs.judging.tiling_then.Statement.{statement}

@@ -5,10 +5,9 @@ use Prim.Native.Nat.{ℕ, _≤_, _<_}
 use borrow.Author.Tests.{le-leb, lt-leb, eq-eqb, ne-eqb}
 use lib.ListN.{length, getD}
 use Rattle.packet.specs.declared.Control.the-variants.{Nack}
-use Rattle.panels.specs.Calls.{ifThere}
 use Rattle.packet.specs.Packet.{monitorId}
 use Rattle.panels.specs.declared.Place.{Place}
-use Rattle.panels.specs.Wall.{Wall, placeOf}
+use Rattle.panels.specs.Wall.{Wall, placeOf, ifThere}
 use Rattle.answers.specs.Reply.{silence, wordFrom}
 use Rattle.answers.specs.Played.{damagedReply}
 use borrow.Author.Needs.{needs}

@@ -8,14 +8,14 @@ use native.Mathlib.Omega.{arith}
 use borrow.Author.Needs.{needs}
 use lib.ListN.{length, getD, take, drop, set, length-append, length-take, length-drop, take-append-drop, replicate}
 use lib.Seq.{take-at, take-take, take-all, drop-at, drop-cons, getD-take, set-at}
 use Rattle.panels.specs.declared.Panel.{Panel}
 use Rattle.panels.specs.declared.Place.the-variants.{At}
 use Rattle.panels.specs.Wall.{Wall, panelsOf, blank, mostPanels}
-use Rattle.panels.specs.Calls.{without}
+use Rattle.table_calls.specs.Calls.{without}
 use Rattle.lists.proofs.Places.{store, from-seam, moved-up}
 use Rattle.panels.proofs.Laws.{count-is, count-few, places-are, places-count, table-is}
-use Rattle.panels.proofs.closed_up.Statement.{statement}
-use Rattle.panels.proofs.closed_up.Tie as tie
+use Rattle.table_calls.proofs.closed_up.Statement.{statement}
+use Rattle.table_calls.proofs.closed_up.Tie as tie
 
 -- the wall without its panel k, which is one shorter
 length-without : (w : Wall) (k : ℕ) → k < length w → suc (length (without (At k) w)) ≡ length w

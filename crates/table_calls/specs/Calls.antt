@@ -11,12 +11,12 @@ use Rattle.profiles.specs.declared.Numbered.{Numbered}
 use Rattle.profiles.specs.Numbers.{profileWith, ifKnown}
 use Rattle.packet.specs.declared.MonitorId.{MonitorId}
 use Rattle.packet.specs.declared.GroupId.{GroupId}
 use Rattle.panels.specs.declared.Place.{Place}
 use Rattle.panels.specs.declared.Place.the-variants.{At, Nowhere}
-use Rattle.panels.specs.declared.Refusal.{Refusal}
-use Rattle.panels.specs.declared.Refusal.the-variants.{Nothing, Full, IdZero, IdTaken, GroupZero, UnknownProfile, NoPanel, UnknownKind}
-use Rattle.panels.specs.declared.Changed.{Changed}
-use Rattle.panels.specs.Wall.{Wall, freshPanel, tableOf, placeOf, mostPanels}
+use Rattle.table_calls.specs.declared.Refusal.{Refusal}
+use Rattle.table_calls.specs.declared.Refusal.the-variants.{Nothing, Full, IdZero, IdTaken, GroupZero, UnknownProfile, NoPanel, UnknownKind}
+use Rattle.table_calls.specs.declared.Changed.{Changed}
+use Rattle.panels.specs.Wall.{ifThere, Wall, freshPanel, tableOf, placeOf, mostPanels}
 
 -- 01's number, 0 where nothing was refused
 abbrev pub refusalOf : Refusal → ℕ
@@ -28,10 +28,6 @@ refusalOf GroupZero = 4
 refusalOf UnknownProfile = 5
 refusalOf NoPanel = 6
 refusalOf UnknownKind = 7
-
-abbrev pub ifThere : {A : Type 0} → Place → A → A → A
-ifThere (At k) a b = a
-ifThere Nowhere a b = b
 
 unfoldable pub addRefusal : Wall → MonitorId → GroupId → ℕ → ℕ → Refusal
 addRefusal w i g n k =

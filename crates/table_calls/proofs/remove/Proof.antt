@@ -2,12 +2,12 @@
 use mathlib.Core.Path.{_≡_, sym, _∙_}
 use native.Mathlib.Omega.{arith}
 use borrow.Author.Needs.{needs}
 use Rattle.panels.specs.declared.Place.the-variants.{At}
 use Rattle.panels.specs.Wall.{panelsOf, placeOf}
-use Rattle.panels.specs.Calls.{removed}
+use Rattle.table_calls.specs.Calls.{removed}
 use Rattle.panels.proofs.Laws.{count-is, place-there}
-use Rattle.panels.proofs.remove.Statement.{statement}
-use Rattle.panels.proofs.remove.Tie as tie
+use Rattle.table_calls.proofs.remove.Statement.{statement}
+use Rattle.table_calls.proofs.remove.Tie as tie
 
 find-panel-requires : tie.Need-find-panel-requires
 find-panel-requires c κs = search needs

@@ -7,9 +7,9 @@ use borrow.Author.Needs.{needs}
 use lib.ListN.{length}
 use Rattle.settings.specs.Settings.{settings, valuesWith, kindRow}
 use Rattle.settings.proofs.Laws.{fresh-count}
 use Rattle.panels.specs.declared.Panel.{Panel}
-use Rattle.panels.proofs.fresh_panel.Statement.{statement}
-use Rattle.panels.proofs.fresh_panel.Tie as tie
+use Rattle.table_calls.proofs.fresh_panel.Statement.{statement}
+use Rattle.table_calls.proofs.fresh_panel.Tie as tie
 
 fresh-requires : tie.Need-fresh-requires
 fresh-requires c κs = search needs

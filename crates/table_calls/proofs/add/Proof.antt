@@ -14,16 +14,16 @@ use Rattle.profiles.specs.declared.Numbered.the-variants.{Known}
 use Rattle.profiles.specs.Numbers.{profileWith}
 use Rattle.packet.specs.declared.MonitorId.{MonitorId}
 use Rattle.packet.specs.declared.GroupId.{GroupId}
 use Rattle.panels.specs.declared.Panel.{Panel}
 use Rattle.panels.specs.declared.Table.{Table}
-use Rattle.panels.specs.declared.Changed.{Changed}
-use Rattle.panels.specs.declared.Refusal.{Refusal}
-use Rattle.panels.specs.declared.Refusal.the-variants.{Nothing, UnknownKind}
+use Rattle.table_calls.specs.declared.Changed.{Changed}
+use Rattle.table_calls.specs.declared.Refusal.{Refusal}
+use Rattle.table_calls.specs.declared.Refusal.the-variants.{Nothing, UnknownKind}
 use Rattle.panels.specs.Wall.{freshPanel, panelsOf, tableOf, mostPanels}
-use Rattle.panels.specs.Calls.{refusalOf, freshOf, addRefusal, added, addedTo}
+use Rattle.table_calls.specs.Calls.{refusalOf, freshOf, addRefusal, added, addedTo}
 use Rattle.panels.proofs.Laws.{count-is, grown}
-use Rattle.panels.proofs.add.Statement.{statement}
-use Rattle.panels.proofs.add.Tie as tie
+use Rattle.table_calls.proofs.add.Statement.{statement}
+use Rattle.table_calls.proofs.add.Tie as tie
 
 answered : (t : Table) {u : Table} (i : MonitorId) (g : GroupId) (n k : ℕ) (r : Refusal) → addRefusal (panelsOf t) i g n k ≡ r
     → u ≡ tableOf (cond (eqb (refusalOf r) 0) (panelsOf t ++ freshOf (profileWith n) (kindWith k) i g) (panelsOf t))

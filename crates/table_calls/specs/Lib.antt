@@ -1,0 +1,2 @@
+-- What is right of the table calls.
+pub mod Calls

@@ -1,0 +1,140 @@
+// The table calls: a panel added, a panel removed.
+ghost use mathlib.Core.Path.{_≡_};
+ghost use Prim.Native.Nat.{_<_};
+ghost use Rattle.panels.specs.Wall.{freshPanel, tableOf, panelsOf};
+ghost use Rattle.panels.specs.WellFormed.{WellFormed};
+ghost use Rattle.table_calls.specs.Calls.{refusalOf, addedTo, without, removedFrom};
+use packet::GroupId;
+use packet::MonitorId;
+use panels::MOST_PANELS;
+use panels::Panel;
+use panels::Place;
+use panels::Table;
+use profiles::Numbered;
+use settings::KIND_ROW;
+use settings::Profile;
+use tiling::Kind;
+
+// What a table call refused, if anything.
+pub enum Refusal {
+    Nothing,
+    Full,
+    IdZero,
+    IdTaken,
+    GroupZero,
+    UnknownProfile,
+    NoPanel,
+    UnknownKind,
+}
+
+pub struct Changed {
+    pub refusal: Refusal,
+    pub table: Table,
+}
+
+// A refusal, which leaves the table as it is.
+fn refused(t: Table, refusal: Refusal) -> Changed
+    ensures { λ r. ⌜ r ≡ record { refusal = refusal; table = t } ⌝ }
+{
+    Changed { refusal, table: t }
+}
+
+fn fresh_panel(id: MonitorId, group: GroupId, profile: Profile, kind: Kind) -> Panel
+    ensures { λ r. ⌜ r ≡ freshPanel id group profile kind ⌝ }
+{
+    let mut values = settings::fresh(profile);
+    let number = [tiling::number_of(kind)];
+    settings::store(KIND_ROW, &number, &mut values);
+    Panel {
+        id,
+        group,
+        profile,
+        values,
+    }
+}
+
+// A fresh panel at the end, with the profile that has the first of two numbers and the kind that has the second.
+pub fn add(t: Table, id: MonitorId, group: GroupId, number: u8, kind: u8) -> Changed
+    requires { ⌜ WellFormed t ⌝ }
+    ensures { λ r. ⌜ r ≡ addedTo (panelsOf t) id group number kind ⌝ }
+{
+    let n = t.count;
+    if MOST_PANELS <= n {
+        return refused(t, Refusal::Full);
+    }
+    if id.0 == 0 {
+        return refused(t, Refusal::IdZero);
+    }
+    let place = panels::find_panel(t, id);
+    if let Place::At(_) = place {
+        return refused(t, Refusal::IdTaken);
+    }
+    if group.0 == 0 {
+        return refused(t, Refusal::GroupZero);
+    }
+    let numbered = profiles::with_number(number);
+    let Numbered::Known(profile) = numbered else {
+        return refused(t, Refusal::UnknownProfile);
+    };
+    if !tiling::is_kind(kind) {
+        return refused(t, Refusal::UnknownKind);
+    }
+    let mut next = t;
+    let p = fresh_panel(id, group, profile, tiling::with_number(kind));
+    next.panels[n] = p;
+    next.count = n + 1;
+    Changed {
+        refusal: Refusal::Nothing,
+        table: next,
+    }
+}
+
+// 01's number for a refusal, 0 where there was none.
+pub fn refusal_number(r: Refusal) -> u8
+    ensures { λ n. ⌜ n ≡ refusalOf r ⌝ }
+{
+    match r {
+        Refusal::Nothing => 0,
+        Refusal::Full => 1,
+        Refusal::IdZero => 2,
+        Refusal::IdTaken => 3,
+        Refusal::GroupZero => 4,
+        Refusal::UnknownProfile => 5,
+        Refusal::NoPanel => 6,
+        Refusal::UnknownKind => 7,
+    }
+}
+
+// The table without the panel at place k: later panels move up.
+fn closed_up(t: Table, k: usize) -> Table
+    requires { ⌜ WellFormed t × (k < t .count) ⌝ }
+    ensures { λ r. ⌜ r ≡ tableOf (without (Place.At k) (panelsOf t)) ⌝ }
+{
+    let mut next = t;
+    let last = t.count - 1;
+    let mut j = k;
+    while j < last {
+        let p = next.panels[j + 1];
+        next.panels[j] = p;
+        j += 1;
+    }
+    let b = panels::blank_panel();
+    next.panels[last] = b;
+    next.count = last;
+    next
+}
+
+pub fn remove(t: Table, id: MonitorId) -> Changed
+    requires { ⌜ WellFormed t ⌝ }
+    ensures { λ r. ⌜ r ≡ removedFrom (panelsOf t) id ⌝ }
+{
+    let place = panels::find_panel(t, id);
+    let Place::At(k) = place else {
+        return refused(t, Refusal::NoPanel);
+    };
+    let table = closed_up(t, k);
+    Changed {
+        refusal: Refusal::Nothing,
+        table,
+    }
+}
