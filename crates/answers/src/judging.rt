@@ -13,8 +13,8 @@ use crate::Order;
 use crate::PROFILE_COUNT;
 use crate::Reply;
 use crate::TILING_COUNT;
+use finding::Found;
 use panels::Panel;
-use settings::Found;
 use settings::OFF;
 use settings::POWER_ROW;
 use settings::Profile;
@@ -28,7 +28,7 @@ pub fn order_of(d: &[u8]) -> Order
     if n == 0 {
         return Order::NotAvailable;
     }
-    let found = settings::find_setting(d[0]);
+    let found = finding::find_setting(d[0]);
     match found {
         Found::Set(row) => Order::Store(row),
         Found::Get(row) => {

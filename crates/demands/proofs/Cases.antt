@@ -1,7 +1,8 @@
 -- The ten P cases of 01, proved together: antt plays each burst. Assumes nothing.
 use mathlib.Core.Path.{_≡_, refl}
 use mathlib.Core.List.{map, flatten}
-use Rattle.settings.specs.Settings.{settings, foundFrom, allowedByRow, freshValues, within, allAllowed}
+use Rattle.settings.specs.Settings.{settings, allowedByRow, freshValues, within, allAllowed}
+use Rattle.finding.specs.Found.{foundFrom}
 use Rattle.models.specs.Models.{filled}
 use Rattle.lists.specs.Lists.{laidAt}
 use Rattle.packet.specs.Xor.{_⊕_, xorAll}

@@ -9,12 +9,14 @@ use lib.Dec.{eqb, leb, ltb}
 use lib.ListN.{length, getD, replicate, length-take, length-replicate}
 use lib.Seq.{take-append-seam}
 use Rattle.models.specs.declared.Model.{Model}
-use Rattle.settings.specs.declared.Found.{Found}
-use Rattle.settings.specs.declared.Found.the-variants.{Set, Get, Nothing}
-use Rattle.settings.specs.Settings.{settings, foundBy, setCode, getCode, byteCount, valuesOf, rowCount, mostValues, kindRow, powerRow, tilingRow, off}
+use Rattle.finding.specs.declared.Found.{Found}
+use Rattle.finding.specs.declared.Found.the-variants.{Set, Get, Nothing}
+use Rattle.settings.specs.Settings.{settings, setCode, getCode, byteCount, valuesOf, rowCount, mostValues, kindRow, powerRow, tilingRow, off}
+use Rattle.finding.specs.Found.{foundBy}
 use Rattle.models.specs.Models.{allowedFor, filled}
 use Rattle.lists.proofs.Both.{both}
-use Rattle.settings.proofs.Laws.{IsFound, found-right, byte-count-few}
+use Rattle.settings.proofs.Laws.{byte-count-few}
+use Rattle.finding.proofs.Laws.{IsFound, found-right}
 use Rattle.models.proofs.Laws.{allowed-many}
 use Rattle.models.proofs.Filled.{filled-other, filled-there, length-filled}
 use Rattle.tiling.specs.Kinds.{largest, inWall}

@@ -10,7 +10,8 @@ use lib.ListN.{getD}
 use Rattle.lists.specs.Lists.{same}
 use Rattle.lists.proofs.Both.{both}
 use Rattle.models.specs.declared.Model.{Model}
-use Rattle.settings.specs.Settings.{settings, foundFrom, allowedByRow, _to_, within, allAllowed, valuesOf, powerRow, off}
+use Rattle.settings.specs.Settings.{settings, allowedByRow, _to_, within, allAllowed, valuesOf, powerRow, off}
+use Rattle.finding.specs.Found.{foundFrom}
 use Rattle.models.specs.Models.{allowedFor, filled}
 use Rattle.packet.specs.declared.MonitorId.{MonitorId}
 use Rattle.packet.specs.declared.Control.the-variants.{Ack, Nav}

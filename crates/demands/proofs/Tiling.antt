@@ -15,7 +15,8 @@ use Rattle.tiling.specs.Kinds.{kindNumber, kindWith, largest, inWall}
 use Rattle.tiling.proofs.Walls.{in-bounds, height-back, width-back, byte-fits, byte-back, height-fits, width-fits}
 use Rattle.tiling.proofs.Sizes.{largest-few, panels-few}
 use Rattle.models.specs.declared.Model.{Model}
-use Rattle.settings.specs.Settings.{settings, allowedByRow, foundFrom, within, _to_, allAllowed, inRanges, valuesOf, kindRow, tilingRow}
+use Rattle.settings.specs.Settings.{settings, allowedByRow, within, _to_, allAllowed, inRanges, valuesOf, kindRow, tilingRow}
+use Rattle.finding.specs.Found.{foundFrom}
 use Rattle.models.specs.Models.{allowedFor, kindIn, filled}
 use Rattle.settings.proofs.Laws.{value-of}
 use Rattle.packet.specs.Packet.{groupId, packetOf}

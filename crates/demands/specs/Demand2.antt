@@ -7,8 +7,9 @@ use mathlib.Core.Path.{_≡_}
 use mathlib.Core.List.{List, [], _∷_, map, Forall₂}
 use lib.ListN.{length, getD, take}
 use Rattle.settings.specs.declared.Profile.{Profile}
-use Rattle.settings.specs.declared.Found.the-variants.{Get}
-use Rattle.settings.specs.Settings.{foundBy, setCode, getCode, valuesOf, rowCount, kindRow, tilingRow}
+use Rattle.finding.specs.declared.Found.the-variants.{Get}
+use Rattle.settings.specs.Settings.{setCode, getCode, valuesOf, rowCount, kindRow, tilingRow}
+use Rattle.finding.specs.Found.{foundBy}
 use Rattle.models.specs.Models.{allowedFor, filled}
 use Rattle.packet.specs.declared.MonitorId.{MonitorId}
 use Rattle.packet.specs.declared.GroupId.{GroupId}

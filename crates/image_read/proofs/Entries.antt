@@ -11,11 +11,12 @@ use lib.Seq.{take-at, drop-at, getD-set-other}
 use Rattle.tiling.specs.Kinds.{kindWith}
 use Rattle.settings.specs.declared.Profile.{Profile}
 use Rattle.models.specs.declared.Model.{Model}
-use Rattle.settings.specs.declared.Found.{Found}
-use Rattle.settings.specs.declared.Found.the-variants.{Set, Get, Nothing}
-use Rattle.settings.specs.Settings.{fieldBy, setCode, byteCount, valuesOf, valuesWith, rowCount, valueCount, kindRow, tilingRow}
+use Rattle.finding.specs.declared.Found.{Found}
+use Rattle.finding.specs.declared.Found.the-variants.{Set, Get, Nothing}
+use Rattle.settings.specs.Settings.{setCode, byteCount, valuesOf, valuesWith, rowCount, valueCount, kindRow, tilingRow}
+use Rattle.finding.specs.Found.{fieldBy}
 use Rattle.models.specs.Models.{allowedFor, modelIn}
-use Rattle.settings.proofs.Laws.{field-found}
+use Rattle.finding.proofs.Laws.{field-found}
 use Rattle.models.proofs.Laws.{allowed-many, kind-free}
 use Rattle.forms.specs.declared.Form.{Form}
 use Rattle.forms.specs.Forms.{hasField}

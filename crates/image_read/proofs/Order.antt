@@ -9,10 +9,12 @@ use lib.Dec.{eqb}
 use lib.ListN.{length, replicate}
 use Rattle.settings.specs.declared.Profile.{Profile}
 use Rattle.models.specs.declared.Model.{Model}
-use Rattle.settings.specs.declared.Found.the-variants.{Set}
-use Rattle.settings.specs.Settings.{fieldBy, setCode, freshValues, valuesOf, rowCount, valueCount, kindRow, tilingRow}
+use Rattle.finding.specs.declared.Found.the-variants.{Set}
+use Rattle.settings.specs.Settings.{setCode, freshValues, valuesOf, rowCount, valueCount, kindRow, tilingRow}
+use Rattle.finding.specs.Found.{fieldBy}
 use Rattle.models.specs.Models.{modelIn}
-use Rattle.settings.proofs.Laws.{field-found, fresh-count}
+use Rattle.settings.proofs.Laws.{fresh-count}
+use Rattle.finding.proofs.Laws.{field-found}
 use Rattle.models.proofs.Laws.{fresh-allowed}
 use Rattle.panels.specs.Wall.{Wall}
 use Rattle.forms.specs.declared.Form.{Form}

@@ -10,11 +10,12 @@ use lib.Dec.{ltb, eqb}
 use lib.ListN.{length, getD, replicate, length-drop}
 use lib.Seq.{getD-set-same, getD-set-other}
 use Rattle.settings.specs.declared.Profile.{Profile}
-use Rattle.settings.specs.declared.Found.{Found}
-use Rattle.settings.specs.declared.Found.the-variants.{Set, Get, Nothing}
-use Rattle.settings.specs.Settings.{fieldBy, setCode, byteCount, valuesWith, rowCount, kindRow, tilingRow}
+use Rattle.finding.specs.declared.Found.{Found}
+use Rattle.finding.specs.declared.Found.the-variants.{Set, Get, Nothing}
+use Rattle.settings.specs.Settings.{setCode, byteCount, valuesWith, rowCount, kindRow, tilingRow}
+use Rattle.finding.specs.Found.{fieldBy}
 use Rattle.models.specs.Models.{allowedFor, modelIn}
-use Rattle.settings.proofs.Laws.{IsField, field-right, field-found}
+use Rattle.finding.proofs.Laws.{IsField, field-right, field-found}
 use Rattle.forms.specs.declared.Form.{Form}
 use Rattle.forms.specs.Forms.{hasField}
 use Rattle.image_read.specs.declared.Step.{Step}

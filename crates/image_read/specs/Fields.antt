@@ -6,9 +6,10 @@ use mathlib.Core.List.{List}
 use lib.Dec.{ltb, eqb}
 use lib.ListN.{length, getD, take, drop, set, replicate}
 use Rattle.settings.specs.declared.Profile.{Profile}
-use Rattle.settings.specs.declared.Found.{Found}
-use Rattle.settings.specs.declared.Found.the-variants.{Set, Get, Nothing}
-use Rattle.settings.specs.Settings.{fieldBy, byteCount, freshValues, valuesWith, rowCount, kindRow, tilingRow}
+use Rattle.finding.specs.declared.Found.{Found}
+use Rattle.finding.specs.declared.Found.the-variants.{Set, Get, Nothing}
+use Rattle.settings.specs.Settings.{byteCount, freshValues, valuesWith, rowCount, kindRow, tilingRow}
+use Rattle.finding.specs.Found.{fieldBy}
 use Rattle.models.specs.Models.{allowedFor, modelIn}
 use Rattle.forms.specs.declared.Form.{Form}
 use Rattle.forms.specs.Forms.{hasField}

@@ -8,8 +8,8 @@ ghost use Rattle.image_read.specs.Fields.{misplaced, stepAt, fieldsIn};
 use crate::Fields;
 use crate::Refusal;
 use crate::Step;
+use finding::Found;
 use forms::Form;
-use settings::Found;
 use settings::KIND_ROW;
 use settings::Profile;
 use settings::ROW_COUNT;
@@ -50,7 +50,7 @@ fn step_at(form: Form, profile: Profile, left: &[u8], seen: &[bool], values: &[u
     if n == 0 {
         return Step::End;
     }
-    let found = settings::find_field(left[0]);
+    let found = finding::find_field(left[0]);
     let Found::Set(row) = found else {
         return Step::Broken;
     };

@@ -7,12 +7,14 @@ use native.Mathlib.Omega.{arith}
 use lib.Dec.{eqb}
 use lib.ListN.{length, getD, drop}
 use Rattle.models.specs.declared.Model.{Model}
-use Rattle.settings.specs.Settings.{foundBy, getCode, rowCount, mostValues}
+use Rattle.settings.specs.Settings.{getCode, rowCount, mostValues}
+use Rattle.finding.specs.Found.{foundBy}
 use Rattle.models.specs.Models.{allowedFor}
-use Rattle.settings.specs.declared.Found.{Found}
-use Rattle.settings.specs.declared.Found.the-variants.{Set, Get, Nothing as NoSetting}
+use Rattle.finding.specs.declared.Found.{Found}
+use Rattle.finding.specs.declared.Found.the-variants.{Set, Get, Nothing as NoSetting}
 use Rattle.lists.proofs.Both.{both}
-use Rattle.settings.proofs.Laws.{IsFound, found-right, byte-count-few}
+use Rattle.settings.proofs.Laws.{byte-count-few}
+use Rattle.finding.proofs.Laws.{IsFound, found-right}
 use Rattle.models.proofs.Laws.{allowed-many}
 use Rattle.packet.specs.Control.{controlByte}
 use Rattle.packet.specs.declared.Control.{Control}

@@ -9,13 +9,14 @@ use Rattle.lists.specs.Lists.{same}
 use Rattle.settings.specs.declared.Profile.the-variants.{Phoenix}
 use Rattle.tiling.specs.declared.Kind.the-variants.{FiveByFive}
 use Rattle.tiling.specs.Kinds.{largest}
-use Rattle.settings.specs.Settings.{foundBy, setCode, byteCount, mostValues, powerRow, videoRow, off}
+use Rattle.settings.specs.Settings.{setCode, byteCount, mostValues, powerRow, videoRow, off}
+use Rattle.finding.specs.Found.{foundBy}
 use Rattle.models.specs.Models.{allowedFor, filled}
 use Rattle.models.specs.declared.Model.{Model}
 use Rattle.profiles.specs.declared.Video.{Video}
 use Rattle.profiles.specs.Video.{bytesOf}
-use Rattle.settings.specs.declared.Found.{Found}
-use Rattle.settings.specs.declared.Found.the-variants.{Set, Get, Nothing}
+use Rattle.finding.specs.declared.Found.{Found}
+use Rattle.finding.specs.declared.Found.the-variants.{Set, Get, Nothing}
 use Rattle.packet.specs.declared.MonitorId.{MonitorId}
 use Rattle.packet.specs.declared.GroupId.{GroupId}
 use Rattle.packet.specs.Packet.{packetOf}

@@ -6,10 +6,11 @@ use mathlib.Core.List.{List, [], _∷_}
 use lib.Dec.{eqb}
 use Rattle.lists.specs.Lists.{same}
 use Rattle.models.specs.declared.Model.{Model}
-use Rattle.settings.specs.Settings.{foundBy, getCode}
+use Rattle.settings.specs.Settings.{getCode}
+use Rattle.finding.specs.Found.{foundBy}
 use Rattle.models.specs.Models.{allowedFor}
-use Rattle.settings.specs.declared.Found.{Found}
-use Rattle.settings.specs.declared.Found.the-variants.{Set, Get, Nothing as NoSetting}
+use Rattle.finding.specs.declared.Found.{Found}
+use Rattle.finding.specs.declared.Found.the-variants.{Set, Get, Nothing as NoSetting}
 use Rattle.packet.specs.Control.{controlData}
 use Rattle.packet.specs.declared.Control.{Control}
 use Rattle.packet.specs.declared.Control.the-variants.{Ack as AckWord, Nack as NackWord, Nav as NavWord}

@@ -1,14 +1,12 @@
 -- The nine settings as the papers have them, with the kind, and what they say of a row. 01, "The settings"; 02, A1 and A6.
-use Prim.Native.Nat.{ℕ, suc}
-use mathlib.Core.Bool.{Bool, true, false, cond, _&&_, _||_}
+use Prim.Native.Nat.{ℕ}
+use mathlib.Core.Bool.{Bool, true, false, _&&_, _||_}
 use mathlib.Core.List.{List, [], _∷_, _++_, map, flatten}
 use lib.ListN.{length, getD, take, drop, replicate}
-use lib.Dec.{leb, eqb}
+use lib.Dec.{leb}
 use Rattle.lists.specs.Lists.{startOf, laidAt}
 use Rattle.settings.specs.declared.Profile.{Profile}
 use Rattle.settings.specs.declared.Profile.the-variants.{General, Phoenix}
-use Rattle.settings.specs.declared.Found.{Found}
-use Rattle.settings.specs.declared.Found.the-variants.{Set, Get, Nothing}
 
 -- the values from low to high
 pub record Range : Type 0 where
@@ -89,21 +87,8 @@ off = 1 ∷ []
 abbrev pub setting : ℕ → Setting
 setting k = getD settings k (row 0 0 [] [])
 
--- the first of some rows, counted from k, that has the code c, and which of its two codes that is
-unfoldable pub foundFrom : ℕ → ℕ → List Setting → Found
-foundFrom c k [] = Nothing
-foundFrom c k (s ∷ rest) = cond (eqb (s .set) c) (Set k) (cond (eqb (s .get) c) (Get k) (foundFrom c (suc k) rest))
-
--- on the line: no command sets or gets the kind
-abbrev pub foundBy : ℕ → Found
-foundBy c = foundFrom c (suc kindRow) (drop (suc kindRow) settings)
-
 abbrev pub setCode : ℕ → ℕ
 setCode k = setting k .set
-
--- in an image: the code of a setting's field is its set code, and the kind has one too
-unfoldable pub fieldBy : ℕ → Found
-fieldBy c = cond (eqb c (setCode kindRow)) (Set kindRow) (foundBy c)
 
 abbrev pub getCode : ℕ → ℕ
 getCode k = setting k .get

@@ -1,5 +1,4 @@
 // The nine settings and the kind as one fixed table of numbers, which box, host and image all read.
-mod finding;
 mod ranges;
 
 ghost use mathlib.Core.Path.{_≡_};
@@ -7,13 +6,28 @@ ghost use Prim.Native.Nat.{_<_};
 ghost use lib.ListN.{length};
 ghost use Rattle.settings.specs.Settings.{setCode, getCode, byteCount, place, freshValues, valuesWith, rowCount, valueCount};
 ghost use Rattle.settings.specs.Private.Numbers.{paperTable};
-pub use finding::KIND_ROW;
-pub use finding::POWER_ROW;
-pub use finding::TILING_ROW;
-pub use finding::VIDEO_ROW;
-pub use finding::find_field;
-pub use finding::find_setting;
 pub use ranges::in_ranges;
+
+// The rows of the kind and of the settings, by rising code.
+pub const KIND_ROW: usize = 0;
+
+pub const POWER_ROW: usize = 1;
+
+pub const TILING_ROW: usize = 2;
+
+pub const VIDEO_ROW: usize = 3;
+
+pub const COLOUR_TEMPERATURE_ROW: usize = 4;
+
+pub const AUDIO_ROW: usize = 5;
+
+pub const FAN_ROW: usize = 6;
+
+pub const COLD_START_ROW: usize = 7;
+
+pub const APM_ROW: usize = 8;
+
+pub const POWER_SAVING_ROW: usize = 9;
 
 // How many rows there are: the kind's and those of the settings.
 pub const ROW_COUNT: usize = 10;
@@ -30,7 +44,7 @@ pub const OFF: u8 = 1;
 const ON: u8 = 2;
 
 // The code of the kind's field; no command has it, and none gets the kind.
-const KIND_CODE: u8 = 0x01;
+pub const KIND_CODE: u8 = 0x01;
 
 const NO_CODE: u8 = 0x00;
 
@@ -161,13 +175,6 @@ const TABLE: Table = Table {
         fresh: [50, 50, 50, 5, 0, 50, 3],
     },
 };
-
-// What a code is: the set code or the get code of a row, or neither.
-pub enum Found {
-    Set(usize),
-    Get(usize),
-    Nothing,
-}
 
 // The const table is the paper's.
 fn the_table() -> Table

@@ -4,9 +4,10 @@ use Prim.Native.Nat.{_≤_}
 use native.Mathlib.Omega.{arith}
 use borrow.Author.Needs.{needs}
 use borrow.Author.Tests.{le-leb, lt-leb, eq-eqb, ne-eqb}
-use Rattle.settings.specs.Settings.{foundBy, mostValues}
-use Rattle.settings.specs.declared.Found.{Found}
-use Rattle.settings.proofs.Laws.{IsFound, found-right}
+use Rattle.settings.specs.Settings.{mostValues}
+use Rattle.finding.specs.Found.{foundBy}
+use Rattle.finding.specs.declared.Found.{Found}
+use Rattle.finding.proofs.Laws.{IsFound, found-right}
 use Rattle.requests.specs.declared.Request.{Request}
 use Rattle.requests.specs.Request.{isTaken, isRequest}
 use Rattle.requests.proofs.is_request.Statement.{statement}

@@ -5,9 +5,9 @@ use Prim.Native.Nat.{ℕ, _<_}
 use native.Mathlib.Nat.{not-suc-le-zero}
 use native.Mathlib.Omega.{arith}
 use lib.ListN.{length, getD, drop, length-drop}
-use Rattle.settings.specs.declared.Found.{Found}
-use Rattle.settings.specs.declared.Found.the-variants.{Get}
-use Rattle.settings.specs.Settings.{foundBy}
+use Rattle.finding.specs.declared.Found.{Found}
+use Rattle.finding.specs.declared.Found.the-variants.{Get}
+use Rattle.finding.specs.Found.{foundBy}
 use Rattle.answers.specs.Judged.{getOf, unavailable, command, commandBy}
 use Rattle.answers.specs.Private.Orders.{orderOf}
 use borrow.Author.Needs.{needs}

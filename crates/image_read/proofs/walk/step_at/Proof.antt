@@ -11,12 +11,14 @@ use denote.Enum.Declared.{tagOf}
 use lib.Dec.{eqb}
 use lib.ListN.{length, getD, take, drop}
 use Rattle.settings.specs.declared.Profile.{Profile}
-use Rattle.settings.specs.declared.Found.{Found}
-use Rattle.settings.specs.declared.Found.the-variants.{Set, Get, Nothing}
-use Rattle.settings.proofs.Found.{the-type}
-use Rattle.settings.specs.Settings.{fieldBy, byteCount, rowCount}
+use Rattle.finding.specs.declared.Found.{Found}
+use Rattle.finding.specs.declared.Found.the-variants.{Set, Get, Nothing}
+use Rattle.finding.proofs.Found.{the-type}
+use Rattle.settings.specs.Settings.{byteCount, rowCount}
+use Rattle.finding.specs.Found.{fieldBy}
 use Rattle.models.specs.Models.{allowedFor, modelIn}
-use Rattle.settings.proofs.Laws.{IsField, field-right, place-fits}
+use Rattle.settings.proofs.Laws.{place-fits}
+use Rattle.finding.proofs.Laws.{IsField, field-right}
 use Rattle.forms.specs.declared.Form.{Form}
 use Rattle.image_read.specs.declared.Step.the-variants.{Field, NotAllowed, Broken}
 use Rattle.image_read.specs.Fields.{valuesIn, misplaced, fieldOf, stepAt}

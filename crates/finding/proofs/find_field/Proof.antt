@@ -2,9 +2,10 @@
 use mathlib.Core.Path.{_∙_}
 use borrow.Author.Needs.{needs}
 use borrow.Author.Tests.{eq-eqb, ne-eqb}
-use Rattle.settings.specs.Settings.{settings, fieldBy}
-use Rattle.settings.proofs.finding.find_field.Statement.{statement}
-use Rattle.settings.proofs.finding.find_field.Tie as tie
+use Rattle.settings.specs.Settings.{settings}
+use Rattle.finding.specs.Found.{fieldBy}
+use Rattle.finding.proofs.find_field.Statement.{statement}
+use Rattle.finding.proofs.find_field.Tie as tie
 
 returns : tie.Need-returns
 unfolding settings fieldBy

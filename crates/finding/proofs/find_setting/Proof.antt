@@ -5,11 +5,12 @@ use mathlib.Core.List.{List, [], _∷_}
 use Prim.Native.Nat.{ℕ, _<_}
 use borrow.Author.Tests.{ne-eqb}
 use Rattle.lists.proofs.Each.{alike}
-use Rattle.settings.specs.declared.Found.the-variants.{Nothing}
-use Rattle.settings.specs.Settings.{settings, foundFrom, foundBy}
+use Rattle.finding.specs.declared.Found.the-variants.{Nothing}
+use Rattle.settings.specs.Settings.{settings}
+use Rattle.finding.specs.Found.{foundFrom, foundBy}
 use Rattle.settings.proofs.Laws.{listed}
-use Rattle.settings.proofs.finding.find_setting.Statement.{statement}
-use Rattle.settings.proofs.finding.find_setting.Tie as tie
+use Rattle.finding.proofs.find_setting.Statement.{statement}
+use Rattle.finding.proofs.find_setting.Tie as tie
 
 arm : {code k : ℕ} → code ≡ k → foundBy k ≡ foundBy code
 arm e = ap foundBy (sym e)

@@ -1,29 +1,24 @@
 // A setting by its code, as the manual has it; and a field by its code.
 ghost use mathlib.Core.Path.{_≡_};
-ghost use Rattle.settings.specs.Settings.{foundBy, fieldBy};
-use crate::Found;
-use crate::KIND_CODE;
+ghost use Rattle.finding.specs.Found.{foundBy, fieldBy};
+use settings::APM_ROW;
+use settings::AUDIO_ROW;
+use settings::COLD_START_ROW;
+use settings::COLOUR_TEMPERATURE_ROW;
+use settings::FAN_ROW;
+use settings::KIND_CODE;
+use settings::KIND_ROW;
+use settings::POWER_ROW;
+use settings::POWER_SAVING_ROW;
+use settings::TILING_ROW;
+use settings::VIDEO_ROW;
 
-// The rows of the kind and of the settings, by rising code.
-pub const KIND_ROW: usize = 0;
-
-pub const POWER_ROW: usize = 1;
-
-pub const TILING_ROW: usize = 2;
-
-pub const VIDEO_ROW: usize = 3;
-
-const COLOUR_TEMPERATURE_ROW: usize = 4;
-
-const AUDIO_ROW: usize = 5;
-
-const FAN_ROW: usize = 6;
-
-const COLD_START_ROW: usize = 7;
-
-const APM_ROW: usize = 8;
-
-const POWER_SAVING_ROW: usize = 9;
+// What a code is: the set code or the get code of a row, or neither.
+pub enum Found {
+    Set(usize),
+    Get(usize),
+    Nothing,
+}
 
 // The setting that a code gets or sets, in the order of the manual's sections, those of 000 (SICP 2.01). 001 is SICP 1.85, and
 // 002 SICP 1.6.

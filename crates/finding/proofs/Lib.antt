@@ -1,0 +1,2 @@
+-- `Laws` has what callers cite of what is found.
+pub mod Laws

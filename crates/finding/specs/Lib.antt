@@ -1,0 +1,2 @@
+-- What is right of finding a row by its code.
+pub mod Found
