@@ -1,4 +1,4 @@
--- Nothing would be lost and there is room, so the image is written; it has at most 1,154 bytes. Assumes nothing.
+-- Nothing would be lost and there is room, so the image is written; it has at most 1,442 bytes. Assumes nothing.
 use mathlib.Core.Path.{_≡_, sym, ap, _∙_}
 use native.Mathlib.Omega.{arith}
 use lib.ListN.{length}
