@@ -33,7 +33,7 @@ fn in_more(p: usize, v: u8) -> bool
     requires { ⌜ p < valueCount ⌝ }
     ensures { λ r. ⌜ r ≡ within (drop 1 (rangesOf p)) v ⌝ }
 {
-    let more = crate::the_table().more;
+    let more = crate::numbers::the_table().more;
     let mut k = 0;
     while k < MORE_COUNT {
         if is_more(more[k], p, v) {
@@ -66,7 +66,7 @@ fn general_allowed(row: usize, values: &[u8]) -> bool
     if values.len() != at.0 as usize {
         return false;
     }
-    let ranges = crate::the_table().ranges;
+    let ranges = crate::numbers::the_table().ranges;
     if !allowed_at(first, ranges[first], values[0]) {
         return false;
     }
@@ -98,8 +98,8 @@ fn video_allowed(values: &[u8]) -> bool
     if values.len() != MOST_VALUES {
         return false;
     }
-    let ranges = crate::the_table().phoenix.ranges;
-    let below = crate::the_table().phoenix.below;
+    let ranges = crate::numbers::the_table().phoenix.ranges;
+    let below = crate::numbers::the_table().phoenix.below;
     let mut k = 0;
     while k < MOST_VALUES {
         if !video_allowed_at(k, ranges[k], below, values[k]) {

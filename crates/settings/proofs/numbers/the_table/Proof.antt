@@ -3,8 +3,8 @@ use mathlib.Core.Path.{refl}
 use mathlib.Core.List.{flatten}
 use Rattle.settings.specs.Settings.{settings, allowedByRow, freshValues}
 use Rattle.settings.specs.Private.Numbers.{allowedValues, paperTable}
-use Rattle.settings.proofs.the_table.Statement.{statement}
-use Rattle.settings.proofs.the_table.Tie as tie
+use Rattle.settings.proofs.numbers.the_table.Statement.{statement}
+use Rattle.settings.proofs.numbers.the_table.Tie as tie
 
 returns : tie.Need-returns
 unfolding settings allowedByRow allowedValues freshValues paperTable flatten
