@@ -6,12 +6,12 @@
  * An image has one of two forms, told apart by its last byte, 1 or 2. In form 2 each panel has a profile, general or
  * Phoenix, which says what its video may be, a kind, 5 by 5 or 15 by 10, which says how large its wall may be, and a
  * tiling, which says where in its wall it sits; in form 1 every panel is general and 5 by 5, and its tiling is fresh.
- * Every function reads both forms. undivarro_play and undivarro_read write form 2; undivarro_back writes form 1, for
- * boxes that know no other.
+ * Every function reads both forms. undivarro_play, undivarro_read and undivarro_salvage write form 2; undivarro_back
+ * writes form 1, for boxes that know no other.
  *
  * Every byte string is lent for the call as a pointer and a length. Any bytes and any lengths may be given; nothing
- * outside the lent lengths is read or written. The buffers that are written, answer and out, overlap neither each other
- * nor what is read: out is not image. A pointer whose length is 0 is not used. */
+ * outside the lent lengths is read or written. The buffers that are written, answer or lines and out, overlap neither
+ * each other nor what is read: out is not image. A pointer whose length is 0 is not used. */
 #ifndef UNDIVARRO_H
 #define UNDIVARRO_H
 
@@ -25,8 +25,12 @@ extern "C" {
 enum {
     UNDIVARRO_MAX_PANELS = 32,
     UNDIVARRO_ANSWER_CAP = 40,          /* what answer must have room for */
-    UNDIVARRO_IMAGE_CAP = 45 * 32 + 2   /* room for every image that is written: for n panels form 2 has 45n + 2 bytes,
+    UNDIVARRO_IMAGE_CAP = 45 * 32 + 2,  /* room for every image that is written: for n panels form 2 has 45n + 2 bytes,
                                            form 1 35n + 2 */
+    UNDIVARRO_LINES_CAP = 32 * 11 * 9   /* what lines must have room for: at most 32 records; of each at most eleven
+                                           lines, since each of the ten fields is taken once, so at most ten times 18,
+                                           and a 17 ends it, while a 16 is a record's only line; and the longest line,
+                                           "32 17 DD" with its line feed, has 9 bytes */
 };
 
 /* The profile byte of a panel in form 2: the third of its record, after ID and group. */
@@ -58,7 +62,7 @@ enum {
     UNDIVARRO_CHECKSUM_WRONG = 4        /* the last byte is not the XOR of those before it */
 };
 
-/* refusal: 0, or the number of what was wrong; then the other three are 0 and both buffers are as they were.
+/* refusal: 0, or the number of what was wrong; then the other three are 0 and the buffers are as they were.
  *
  *   11  image: fewer than 2 bytes
  *   12  image: last byte is neither 1 nor 2
@@ -71,16 +75,19 @@ enum {
  *   18  field: value not allowed for the panel's profile and kind; a tiling is judged by the kind that stands before it in
  *       its record, or as 5 by 5 where none does
  *   31  undivarro_back only: a panel is Phoenix or 15 by 10, or its tiling is not fresh, which form 1 cannot say
- *   19  answer_cap under 40, or out_cap under the size of the form written, 45n + 2, or 35n + 2 for undivarro_back; n
- *       is the image's panel count
+ *   19  answer_cap under 40, lines_cap under UNDIVARRO_LINES_CAP, or out_cap under the size of what is written: 45n + 2,
+ *       35n + 2 for undivarro_back, 45k + 2 for undivarro_salvage; n is the image's panel count, and k of these panels
+ *       are kept
  *
  * 11 to 15 are tested on the whole image; then record after record, each its 16 and then field after field its 17 and
- * its 18; the first fault counts. 31 comes after all of these, and 19 last. */
+ * its 18; the first fault counts. undivarro_salvage does not refuse 16 to 18 but tells them in its lines. 31 comes after
+ * all of these, and 19 last. */
 struct undivarro_result {
     uint32_t refusal;
-    uint32_t answer_len;                /* bytes written to answer; 0 is silence */
-    uint32_t image_len;                 /* bytes written to out: 45n + 2, or 35n + 2 by undivarro_back */
-    uint32_t damage;                    /* of the burst; 0 from undivarro_read and undivarro_back */
+    uint32_t answer_len;                /* bytes written to answer, and 0 is silence; or to lines, and 0 is a sound image */
+    uint32_t image_len;                 /* bytes written to out: 45n + 2, or 35n + 2 by undivarro_back, or 45k + 2 by
+                                           undivarro_salvage */
+    uint32_t damage;                    /* of the burst; 0 from every function but undivarro_play */
 };
 
 /* Plays one burst on the wall of the image. A burst is all the bytes between two quiet marks of the line, of any number,
@@ -104,6 +111,21 @@ struct undivarro_result undivarro_read(const uint8_t *image, size_t image_len,
  * 31. */
 struct undivarro_result undivarro_back(const uint8_t *image, size_t image_len,
                                        uint8_t *out, size_t out_cap);
+
+/* Keeps what is good of an image that the other functions refuse with 16, 17 or 18. A record with fault 16 is dropped, and
+ * an ID counts as seen only from a record that was kept. Of any other record each field is kept up to the first with fault
+ * 17; that one and all behind it are as if left out, so that they have the fresh values of the panel's profile. A field
+ * with fault 18 gets the fresh value in its place and counts as seen; a kind with fault 18 is 5 by 5, and the tiling behind
+ * it is judged by that.
+ *
+ * The text of the lines goes to the front of lines, one line for each fault in the image's order, and the wall that was
+ * kept to the front of out, in form 2; the bytes past them stay as they were. A line has the record's number from 1 and
+ * the refusal number in decimal, and for 17 and 18 the byte that stands in the code's place as two upper-case hex digits,
+ * with single spaces between and a line feed at the end: "3 16\n", "12 17 DD\n", "4 18 A3\n". A sound image gives no
+ * lines and what undivarro_read writes. */
+struct undivarro_result undivarro_salvage(const uint8_t *image, size_t image_len,
+                                          uint8_t *lines, size_t lines_cap,
+                                          uint8_t *out, size_t out_cap);
 
 #ifdef __cplusplus
 }

@@ -7,6 +7,7 @@
 
 #include "plain_image.h"
 #include "plain_panels.h"
+#include "plain_salvage.h"
 
 /* Packet and burst */
 
@@ -184,4 +185,23 @@ struct undivarro_result plain_back(const uint8_t *image, size_t image_len,
         if (!fits_form_1(&wall.panels[i]))
             return refused(31);
     return written(&wall, FORM_1, out, out_cap);
+}
+
+struct undivarro_result plain_salvage(const uint8_t *image, size_t image_len,
+                                      uint8_t *lines, size_t lines_cap,
+                                      uint8_t *out, size_t out_cap)
+{
+    struct wall wall;
+    struct lines told;
+    uint32_t refusal = salvage_image(image, image_len, &wall, &told);
+    if (refusal)
+        return refused(refusal);
+    if (lines_cap < UNDIVARRO_LINES_CAP)
+        return refused(19);
+    struct undivarro_result result = written(&wall, FORM_2, out, out_cap);
+    if (!result.refusal) {
+        memcpy(lines, told.text, told.len);
+        result.answer_len = (uint32_t)told.len;
+    }
+    return result;
 }

@@ -15,4 +15,8 @@ struct undivarro_result plain_read(const uint8_t *image, size_t image_len,
 struct undivarro_result plain_back(const uint8_t *image, size_t image_len,
                                    uint8_t *out, size_t out_cap);
 
+struct undivarro_result plain_salvage(const uint8_t *image, size_t image_len,
+                                      uint8_t *lines, size_t lines_cap,
+                                      uint8_t *out, size_t out_cap);
+
 #endif

@@ -28,8 +28,8 @@ static bool allowed_in_image(const struct panel *panel, const struct field *f, c
     return all_allowed(f, panel->profile, values);
 }
 
-/* One record, put at the end of the wall; its refusal or 0. */
-static uint32_t read_record(const uint8_t *record, size_t len, uint8_t form, struct wall *wall)
+/* The head of a record; 16, or the fresh panel behind the wall's last. */
+static inline uint32_t read_head(const uint8_t *record, size_t len, uint8_t form, struct wall *wall)
 {
     if (len < head_len(form) || record[0] == 0 || record[1] == 0 || panel_with_id(wall, record[0]))
         return 16;
@@ -41,35 +41,60 @@ static uint32_t read_record(const uint8_t *record, size_t len, uint8_t form, str
     panel->group = record[1];
     panel->profile = profile;
     memcpy(panel->values, fresh_values[profile], VALUE_BYTES);
+    return 0;
+}
 
-    unsigned seen = 0;                  /* bit k: fields[k] */
+/* The field at *at, which is below len: its refusal, or 0 and the panel has its values. But for 17 it is seen then, bit k
+ * for fields[k], and *at is behind it. */
+static inline uint32_t read_field(const uint8_t *record, size_t len, uint8_t form, size_t *at, unsigned *seen,
+                                  struct panel *panel)
+{
+    const struct field *f = field_by_code(record[*at]);
+    if (!f || f->form > form || (*seen >> (f - fields) & 1))
+        return 17;
+    if (f == &fields[KIND] && (*seen >> TILING & 1))
+        return 17;
+    if (len - *at < 2 || record[*at + 1] != f->count || len - *at - 2 < f->count)
+        return 17;
+    const uint8_t *values = record + *at + 2;
+    *seen |= 1u << (f - fields);
+    *at += 2 + f->count;
+    if (!allowed_in_image(panel, f, values))
+        return 18;
+    take(panel, f, values);
+    return 0;
+}
+
+/* One record, put at the end of the wall; its refusal or 0. */
+static uint32_t read_record(const uint8_t *record, size_t len, uint8_t form, struct wall *wall)
+{
+    uint32_t refusal = read_head(record, len, form, wall);
+    if (refusal)
+        return refusal;
+    unsigned seen = 0;
     for (size_t at = head_len(form); at < len;) {
-        const struct field *f = field_by_code(record[at]);
-        if (!f || f->form > form || (seen >> (f - fields) & 1))
-            return 17;
-        if (f == &fields[KIND] && (seen >> TILING & 1))
-            return 17;
-        if (len - at < 2 || record[at + 1] != f->count || len - at - 2 < f->count)
-            return 17;
-        const uint8_t *values = record + at + 2;
-        if (!allowed_in_image(panel, f, values))
-            return 18;
-        take(panel, f, values);
-        seen |= 1u << (f - fields);
-        at += 2 + f->count;
+        refusal = read_field(record, len, form, &at, &seen, &wall->panels[wall->count]);
+        if (refusal)
+            return refusal;
     }
     wall->count++;
     return 0;
 }
+
+/* An image that 11 to 15 let pass. */
+struct whole {
+    const uint8_t *records, *starts;    /* the records end where the starts begin */
+    size_t count;
+    uint8_t form;
+};
 
 static size_t start_at(const uint8_t *starts, size_t k)
 {
     return (size_t)starts[2 * k] << 8 | starts[2 * k + 1];
 }
 
-static uint32_t read_image(const uint8_t *image, size_t len, struct wall *wall)
+static inline uint32_t read_whole(const uint8_t *image, size_t len, struct whole *whole)
 {
-    wall->count = 0;
     if (len < 2)
         return 11;
     uint8_t form = image[len - 1];
@@ -83,6 +108,7 @@ static uint32_t read_image(const uint8_t *image, size_t len, struct wall *wall)
 
     size_t records_len = len - 2 - 2 * n;
     const uint8_t *starts = image + records_len;
+    *whole = (struct whole){image, starts, n, form};
     if (n == 0)
         return records_len == 0 ? 0 : 15;
     if (start_at(starts, 0) != 0)
@@ -93,15 +119,28 @@ static uint32_t read_image(const uint8_t *image, size_t len, struct wall *wall)
         if (k > 0 && start_at(starts, k) <= start_at(starts, k - 1))
             return 15;
     }
-
-    for (size_t k = 0; k < n; k++) {
-        size_t start = start_at(starts, k);
-        size_t end = k + 1 < n ? start_at(starts, k + 1) : records_len;
-        uint32_t refusal = read_record(image + start, end - start, form, wall);
-        if (refusal)
-            return refusal;
-    }
     return 0;
+}
+
+static inline const uint8_t *record_at(const struct whole *whole, size_t k, size_t *len)
+{
+    const uint8_t *record = whole->records + start_at(whole->starts, k);
+    const uint8_t *end = k + 1 < whole->count ? whole->records + start_at(whole->starts, k + 1) : whole->starts;
+    *len = (size_t)(end - record);
+    return record;
+}
+
+static uint32_t read_image(const uint8_t *image, size_t len, struct wall *wall)
+{
+    struct whole whole;
+    wall->count = 0;
+    uint32_t refusal = read_whole(image, len, &whole);
+    for (size_t k = 0; !refusal && k < whole.count; k++) {
+        size_t record_len;
+        const uint8_t *record = record_at(&whole, k, &record_len);
+        refusal = read_record(record, record_len, whole.form, wall);
+    }
+    return refusal;
 }
 
 static size_t image_len_of(const struct wall *wall, uint8_t form)
