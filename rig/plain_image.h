@@ -28,20 +28,20 @@ static bool allowed_in_image(const struct panel *panel, const struct field *f, c
     return all_allowed(f, panel->profile, values);
 }
 
-/* The head of a record; 16, or the fresh panel behind the wall's last. */
-static inline uint32_t read_head(const uint8_t *record, size_t len, uint8_t form, struct wall *wall)
+/* A fresh panel of the record's head, put behind the wall's last and not counted yet; NULL where it has fault 16. */
+static inline struct panel *read_head(const uint8_t *record, size_t len, uint8_t form, struct wall *wall)
 {
     if (len < head_len(form) || record[0] == 0 || record[1] == 0 || panel_with_id(wall, record[0]))
-        return 16;
+        return NULL;
     uint8_t profile = form == FORM_1 ? UNDIVARRO_GENERAL : record[2];
     if (profile >= PROFILES)
-        return 16;
+        return NULL;
     struct panel *panel = &wall->panels[wall->count];
     panel->id = record[0];
     panel->group = record[1];
     panel->profile = profile;
     memcpy(panel->values, fresh_values[profile], VALUE_BYTES);
-    return 0;
+    return panel;
 }
 
 /* The field at *at, which is below len: its refusal, or 0 and the panel has its values. But for 17 it is seen then, bit k
@@ -68,12 +68,12 @@ static inline uint32_t read_field(const uint8_t *record, size_t len, uint8_t for
 /* One record, put at the end of the wall; its refusal or 0. */
 static uint32_t read_record(const uint8_t *record, size_t len, uint8_t form, struct wall *wall)
 {
-    uint32_t refusal = read_head(record, len, form, wall);
-    if (refusal)
-        return refusal;
+    struct panel *panel = read_head(record, len, form, wall);
+    if (!panel)
+        return 16;
     unsigned seen = 0;
     for (size_t at = head_len(form); at < len;) {
-        refusal = read_field(record, len, form, &at, &seen, &wall->panels[wall->count]);
+        uint32_t refusal = read_field(record, len, form, &at, &seen, panel);
         if (refusal)
             return refusal;
     }

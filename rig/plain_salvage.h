@@ -41,15 +41,16 @@ static void tell(struct lines *lines, size_t record, uint32_t fault, const uint8
 static void salvage_record(const uint8_t *record, size_t len, uint8_t form, size_t number, struct wall *wall,
                            struct lines *lines)
 {
-    uint32_t fault = read_head(record, len, form, wall);
-    if (fault) {
-        tell(lines, number, fault, NULL);
+    struct panel *panel = read_head(record, len, form, wall);
+    if (!panel) {
+        tell(lines, number, 16, NULL);
         return;
     }
     unsigned seen = 0;
+    uint32_t fault = 0;
     for (size_t at = head_len(form); at < len && fault != 17;) {
         const uint8_t *code = record + at;
-        fault = read_field(record, len, form, &at, &seen, &wall->panels[wall->count]);
+        fault = read_field(record, len, form, &at, &seen, panel);
         if (fault)
             tell(lines, number, fault, code);
     }
