@@ -3,6 +3,7 @@
 #include <string.h>
 
 #include "case_spoilings.h"
+#include "case_wrecks.h"
 
 const char *const image_kind_names[IMAGE_KINDS] = {
     "as written", "fields in any order", "fields left out", "no panels", "33 panels",
@@ -15,6 +16,8 @@ const char *const image_kind_names[IMAGE_KINDS] = {
     "tiling with a value not allowed", "tiling for the other kind alone",
     "any form byte", "any panel count", "shorter than its trailer", "starts that don't fit", "bytes before the trailer",
     "one to three bytes of noise", "0 to 3 bytes", "random bytes", "over 65,535 bytes",
+    "any faults in many records", "values not allowed in many fields", "kinds and tilings at odds in many records",
+    "IDs seen before in many records", "all heads spoiled", "32 records with eleven faults each",
 };
 
 static size_t trailer_len(size_t n)
@@ -181,12 +184,26 @@ static void spoil_whole(struct source *s, struct test_case *c, size_t n, enum im
     }
 }
 
+/* Wrecked as the image's kind says; seldom there is noise too, or another form byte. */
+static void make_wreck(struct source *s, struct test_case *c, struct draft *d)
+{
+    wreck_draft(s, d, c->image_kind);
+    c->spoilings = 2;                   /* or more */
+    c->image_len = put_together(d, c->image);
+    if (one_in(s, 8)) {
+        c->image_kind = one_in(s, 2) ? WHOLE_NOISE : WHOLE_FORM;
+        spoil_whole(s, c, d->count, c->image_kind);
+    }
+}
+
 void make_image(struct source *s, struct test_case *c, struct draft *d)
 {
     static const enum image_kind sound[] = {
         IMAGE_WRITTEN, IMAGE_ANY_ORDER, IMAGE_LEFT_OUT, IMAGE_LEFT_OUT,
     };
     c->image_kind = one_in(s, 40) ? IMAGE_NO_PANELS : one_in(s, 200) ? IMAGE_33_PANELS : sound[below(s, 4)];
+    if (c->call == CALL_SALVAGE && !one_in(s, 3))
+        c->image_kind = any_wreck(s);
     make_draft(s, d, c->image_kind);
     c->form = d->form;
     c->no_video[UNDIVARRO_GENERAL] = video_left_out(d, UNDIVARRO_GENERAL);
@@ -196,11 +213,15 @@ void make_image(struct source *s, struct test_case *c, struct draft *d)
         c->places[place_kind_of(&d->records[k])] = true;
 
     c->spoiled = (struct spoiled){0};
+    if (c->image_kind >= WRECK_ANY) {
+        make_wreck(s, c, d);
+        return;
+    }
     c->spoilings = below(s, 2) ? 0 : below(s, 3) ? 1 : 2 + below(s, 2);
     enum image_kind whole[3];
     unsigned wholes = 0;
     for (unsigned i = 0; i < c->spoilings; i++) {
-        enum image_kind kind = RECORD_1_BYTE + below(s, IMAGE_KINDS - RECORD_1_BYTE);
+        enum image_kind kind = RECORD_1_BYTE + below(s, WRECK_ANY - RECORD_1_BYTE);
         if (kind == WHOLE_LONG && !one_in(s, 50))
             kind = FIELD_VALUE;
         if (kind >= WHOLE_FORM)

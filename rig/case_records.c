@@ -44,7 +44,7 @@ static unsigned choose_fields(struct source *s, uint8_t form, struct record *r, 
     shuffle(s, rows, count);
     if (r->kind == UNDIVARRO_15_BY_10 && one_in(s, 2))
         put_before(KIND, rows[0], rows, count);
-    if (kind == IMAGE_LEFT_OUT)
+    if (kind == IMAGE_LEFT_OUT || (kind >= WRECK_ANY && one_in(s, 3)))
         count = below(s, count + 1);
     put_before(KIND, TILING, rows, count);
     if (place_of(KIND, rows, count) == count)
@@ -61,8 +61,9 @@ static void turn_off(struct record *r)
 
 void make_draft(struct source *s, struct draft *d, enum image_kind kind)
 {
-    d->form = one_in(s, 4) ? 1 : 2;
-    d->count = kind == IMAGE_NO_PANELS ? 0 : kind == IMAGE_33_PANELS ? MAX_RECORDS : panel_count(s);
+    d->form = one_in(s, 4) && kind != WRECK_FULL ? 1 : 2;
+    d->count = kind == IMAGE_NO_PANELS ? 0 : kind == IMAGE_33_PANELS ? MAX_RECORDS
+        : kind == WRECK_FULL ? UNDIVARRO_MAX_PANELS : panel_count(s);
     uint8_t profiles[MAX_RECORDS], kinds[MAX_RECORDS], own_tiling[MAX_RECORDS];
     choose(s, d, profiles);
     choose(s, d, kinds);

@@ -170,13 +170,17 @@ static void spoil_fields(struct source *s, const struct draft *d, struct record 
     }
 }
 
-void spoil_draft(struct source *s, struct draft *d, enum image_kind kind, struct spoiled *spoiled)
+void spoil_record(struct source *s, const struct draft *d, struct record *r, enum image_kind kind, struct spoiled *spoiled)
 {
-    struct record *r = d->count > 0 ? record_to_spoil(s, d, kind) : NULL;
-    if (!r)
-        return;
     if (kind <= RECORD_PROFILE)
         spoil_head(s, d, r, kind);
     else if (r->len >= head_len(d))
         spoil_fields(s, d, r, kind, spoiled);
+}
+
+void spoil_draft(struct source *s, struct draft *d, enum image_kind kind, struct spoiled *spoiled)
+{
+    struct record *r = d->count > 0 ? record_to_spoil(s, d, kind) : NULL;
+    if (r)
+        spoil_record(s, d, r, kind, spoiled);
 }

@@ -60,10 +60,21 @@ void values(struct source *s, unsigned setting, uint8_t profile, uint8_t kind, u
             to[i] = value(s, setting, profile, i, true);
 }
 
+static unsigned place_to_spoil(struct source *s, unsigned setting)
+{
+    return setting == VIDEO && one_in(s, 2) ? SHARPNESS_AT + below(s, 2) : below(s, settings[setting].count);
+}
+
 void spoil_value(struct source *s, unsigned setting, uint8_t profile, uint8_t *to)
 {
-    unsigned at = setting == VIDEO && one_in(s, 2) ? SHARPNESS_AT + below(s, 2) : below(s, settings[setting].count);
+    unsigned at = place_to_spoil(s, setting);
     to[at] = one_in(s, 4) ? any_byte(s) : value(s, setting, profile, at, false);
+}
+
+void put_bad_value(struct source *s, unsigned setting, uint8_t profile, uint8_t *to)
+{
+    unsigned at = place_to_spoil(s, setting);
+    to[at] = value(s, setting, profile, at, false);
 }
 
 void put_own_value(struct source *s, uint8_t profile, uint8_t *video)

@@ -11,6 +11,9 @@ void values(struct source *s, unsigned setting, uint8_t profile, uint8_t kind, u
 /* One value, of a video often sharpness or tint, changed to one that is not allowed or, seldom, to any byte. */
 void spoil_value(struct source *s, unsigned setting, uint8_t profile, uint8_t *to);
 
+/* The same, and surely not allowed; a tiling for neither kind. */
+void put_bad_value(struct source *s, unsigned setting, uint8_t profile, uint8_t *to);
+
 /* One value of a video changed to one that this profile alone allows. */
 void put_own_value(struct source *s, uint8_t profile, uint8_t *video);
 

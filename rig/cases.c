@@ -2,8 +2,9 @@
 
 #include "case_bursts.h"
 #include "case_images.h"
+#include "plain.h"
 
-const char *const call_names[CALLS] = {"play", "read", "back"};
+const char *const call_names[CALLS] = {"play", "read", "back", "salvage"};
 const char *const room_kind_names[ROOM_KINDS] = {"exact", "ample", "at the limits", "for the other form", "any"};
 
 static size_t edge(struct source *s, size_t needed)
@@ -25,11 +26,22 @@ size_t image_size(unsigned form, size_t panels)
     return (form == 1 ? 35 : 45) * panels + 2;
 }
 
+/* Panels that a salvage keeps of the image, or n where it is refused. */
+static size_t kept_of(const struct test_case *c, size_t n)
+{
+    uint8_t lines[UNDIVARRO_LINES_CAP], out[UNDIVARRO_IMAGE_CAP];
+    struct undivarro_result r = plain_salvage(c->image, c->image_len, lines, sizeof lines, out, sizeof out);
+    return r.refusal ? n : out[r.image_len - 2];
+}
+
 /* How much is lent, for an image of n panels. */
 static void make_room(struct source *s, struct test_case *c, size_t n)
 {
     unsigned form = c->call == CALL_BACK ? 1 : 2;
-    size_t answer = UNDIVARRO_ANSWER_CAP, out = image_size(form, n);
+    size_t answer = c->call == CALL_SALVAGE ? UNDIVARRO_LINES_CAP : UNDIVARRO_ANSWER_CAP;
+    if (c->call == CALL_SALVAGE)
+        n = kept_of(c, n);
+    size_t out = image_size(form, n);
     static const enum room_kind kinds[] = {
         ROOM_EXACT, ROOM_EXACT, ROOM_EXACT, ROOM_AMPLE, ROOM_AMPLE, ROOM_EDGE, ROOM_EDGE, ROOM_OTHER_FORM, ROOM_ANY,
     };
@@ -49,7 +61,7 @@ static void make_room(struct source *s, struct test_case *c, size_t n)
         c->out_cap = image_size(3 - form, n);
         break;
     case ROOM_ANY:
-        c->answer_cap = below(s, 100);
+        c->answer_cap = below(s, (unsigned)answer + 60);
         c->out_cap = below(s, (unsigned)out + 100);
         break;
     default:
@@ -59,7 +71,7 @@ static void make_room(struct source *s, struct test_case *c, size_t n)
 
 void make_case(uint64_t seed, uint64_t number, struct test_case *c)
 {
-    static const enum call calls[] = {CALL_PLAY, CALL_PLAY, CALL_PLAY, CALL_READ, CALL_BACK};
+    static const enum call calls[] = {CALL_PLAY, CALL_PLAY, CALL_PLAY, CALL_READ, CALL_BACK, CALL_SALVAGE};
     struct source s = {seed};
     s.state = next(&s) ^ number * 0xD1342543DE82EF95u;
     struct draft draft;

@@ -1,5 +1,5 @@
-/* Random cases for the comparison: a call, a setup image, a burst, and how much room is lent for answer and output. A case
- * is made from the seed and its number alone, and is the same on every machine. */
+/* Random cases for the comparison: a call, a setup image, a burst, and how much room is lent for answer or lines and for
+ * output. A case is made from the seed and its number alone, and is the same on every machine. */
 #ifndef CASES_H
 #define CASES_H
 
@@ -7,11 +7,12 @@
 #include <stddef.h>
 #include <stdint.h>
 
-enum { MAX_IMAGE_BYTES = 70000, MAX_BURST_BYTES = 70000, MAX_ROOM = 1600 };
+enum { MAX_IMAGE_BYTES = 70000, MAX_BURST_BYTES = 70000, MAX_ROOM = 3300 };
 
-enum call { CALL_PLAY, CALL_READ, CALL_BACK, CALLS };
+enum call { CALL_PLAY, CALL_READ, CALL_BACK, CALL_SALVAGE, CALLS };
 
-/* What was done to the image last; a case may have up to three spoilings, and one spoiling may hide another. */
+/* What was done to the image last; a case may have up to three spoilings, and one spoiling may hide another. A wreck has
+ * them in many of its records. */
 enum image_kind {
     IMAGE_WRITTEN, IMAGE_ANY_ORDER, IMAGE_LEFT_OUT, IMAGE_NO_PANELS, IMAGE_33_PANELS,
     RECORD_1_BYTE, RECORD_2_BYTES, RECORD_ID_0, RECORD_GROUP_0, RECORD_ID_TWICE, RECORD_PROFILE,
@@ -19,6 +20,7 @@ enum image_kind {
     FIELD_GENERAL_ALONE, FIELD_PHOENIX_ALONE,
     FIELD_LATER, FIELD_KIND, FIELD_KIND_TWICE, FIELD_KIND_BEHIND, FIELD_TILING, FIELD_OTHER_KIND,
     WHOLE_FORM, WHOLE_COUNT, WHOLE_CUT, WHOLE_STARTS, WHOLE_EXTRA, WHOLE_NOISE, WHOLE_SHORT, WHOLE_RANDOM, WHOLE_LONG,
+    WRECK_ANY, WRECK_VALUES, WRECK_KINDS, WRECK_IDS, WRECK_DROPPED, WRECK_FULL,
     IMAGE_KINDS
 };
 
@@ -58,7 +60,7 @@ struct test_case {
     bool places[PLACE_KINDS];           /* a panel of the draft has its kind and tiling so */
     enum burst_kind burst_kind;
     enum room_kind room_kind;
-    size_t image_len, burst_len, answer_cap, out_cap;
+    size_t image_len, burst_len, answer_cap, out_cap;   /* of a salvage answer_cap is lines_cap */
     uint64_t fill;                      /* what answer, out and their guards hold before */
     uint8_t image[MAX_IMAGE_BYTES];
     uint8_t burst[MAX_BURST_BYTES];

@@ -13,11 +13,11 @@
 #include "tally.h"
 #include "trial.h"
 
-static const struct box plain = {"plain", plain_play, plain_read, plain_back};
+static const struct box plain = {"plain", plain_play, plain_read, plain_back, plain_salvage};
 #ifdef PLAIN_ALONE
 static const struct box *const proved = NULL;
 #else
-static const struct box proved_box = {"proved", undivarro_play, undivarro_read, undivarro_back};
+static const struct box proved_box = {"proved", undivarro_play, undivarro_read, undivarro_back, undivarro_salvage};
 static const struct box *const proved = &proved_box;
 #endif
 
@@ -34,7 +34,7 @@ static void print_trial(const struct box *box, const struct test_case *c, const 
     printf("%s: refusal %" PRIu32 ", answer length %" PRIu32 ", image length %" PRIu32 ", damage %" PRIu32 " (%s)%s%s\n",
            box->name, t->result.refusal, t->result.answer_len, t->result.image_len, t->result.damage,
            damage_name(t->result.damage), t->fault ? ": " : "", t->fault ? t->fault : "");
-    print_hex("answer buffer with guards", t->answer, GUARD + c->answer_cap + GUARD);
+    print_hex("answer or lines buffer with guards", t->answer, GUARD + c->answer_cap + GUARD);
     print_hex("output buffer with guards", t->out, GUARD + c->out_cap + GUARD);
 }
 

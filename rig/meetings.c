@@ -83,7 +83,7 @@ static void count_room(unsigned long *met, const struct test_case *c, uint32_t r
         met[MET_READ_ROOM_FOR_1] += refusal == 19 && for_1;
     else if (refusal == 31)
         met[for_1 ? MET_31_WITH_ROOM : MET_31_WITHOUT_ROOM]++;
-    else
+    else if (c->call == CALL_BACK)
         met[MET_BACK_ROOM_FOR_1] += refusal == 0 && !for_2;
 }
 

@@ -5,6 +5,14 @@
 #include "tiling.h"
 #include "undivarro.h"
 
+const uint8_t *values_of(const uint8_t *record, uint8_t code)
+{
+    for (size_t at = FIELDS_AT; at + 2 <= RECORD_LEN; at += 2u + record[at + 1])
+        if (record[at] == code)
+            return record + at + 2;
+    return NULL;
+}
+
 unsigned lost_in_form_1(const uint8_t *record)
 {
     unsigned lost = 0;

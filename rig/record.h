@@ -6,6 +6,9 @@
 
 enum { ID_AT, GROUP_AT, PROFILE_AT, FIELDS_AT, KIND_AT = 5, POWER_AT = 8, TILING_AT = 11, VIDEO_AT = 17, RECORD_LEN = 43 };
 
+/* A field's values, found by its code, or NULL. */
+const uint8_t *values_of(const uint8_t *record, uint8_t code);
+
 /* A Phoenix panel's profile, a 15 by 10 panel's kind, a tiling that is not fresh; in sum, or 0. */
 enum lost { LOST_PROFILE = 1, LOST_KIND = 2, LOST_TILING = 4 };
 

@@ -28,15 +28,6 @@ static const struct column tiling_columns[] = {
 };
 enum { COLUMNS = sizeof columns / sizeof columns[0], TILING_COLUMNS = sizeof tiling_columns / sizeof tiling_columns[0] };
 
-/* A field's values in a record, found by its code. */
-static const uint8_t *values_of(const uint8_t *record, uint8_t set_code)
-{
-    for (size_t at = FIELDS_AT; at + 2 <= RECORD_LEN; at += 2u + record[at + 1])
-        if (record[at] == set_code)
-            return record + at + 2;
-    return NULL;
-}
-
 /* The position as a column and a row of the wall: it is counted from left to right, then down. */
 static int print_position(char *to, size_t room, struct size wall, uint8_t position)
 {

@@ -24,6 +24,8 @@ void count_outcome(struct tally *tally, const struct test_case *c, const struct 
     tally->refusal[c->call][by_plain->result.refusal & 0xFF]++;
     count_meetings(&tally->meetings, c, by_plain);
     count_kinds(&tally->kinds, c, by_plain);
+    if (c->call == CALL_SALVAGE)
+        count_salvage(&tally->salvages, c, by_plain);
     if (c->call != CALL_PLAY)
         return;
     tally->burst[c->burst_kind]++;
@@ -53,6 +55,8 @@ static void each_of_call(take_line *take, void *to, const struct tally *tally, e
     take(to, section, NULL, 0);
     take(to, section, "no refusal", refusal[0]);
     for (int i = 11; i <= 19; i++) {
+        if (call == CALL_SALVAGE && i >= 16 && i <= 18)
+            continue;
         snprintf(what, sizeof what, "refusal %d", i);
         take(to, section, what, refusal[i]);
     }
@@ -100,6 +104,29 @@ static void each_tiling(take_line *take, void *to, const struct tilings *t)
     each_name(take, to, "tiling, other bursts", other_tiling_names, t->other, OTHER_TILINGS);
 }
 
+static void each_salvage(take_line *take, void *to, const struct salvages *s)
+{
+    char what[40];
+    each_name(take, to, "salvage", salvage_case_names, s->met, SALVAGE_CASES);
+    each_name(take, to, "salvage, fields", field_case_names, s->fields.met, FIELD_CASES);
+    for (unsigned form = 1; form <= 2; form++) {
+        uint8_t rows[ROWS];
+        unsigned count = rows_of((uint8_t)form, rows);
+        for (unsigned i = 0; i < count; i++) {
+            snprintf(what, sizeof what, "18 for code %02X, form %u", code_of(rows[i]), form);
+            take(to, "salvage, fields", what, s->fields.by_row[form - 1][rows[i]]);
+        }
+    }
+    for (unsigned i = 0; i < 32; i++) {
+        snprintf(what, sizeof what, "17 with %s digit %X", i < 16 ? "first" : "second", i % 16);
+        take(to, "salvage, fields", what, s->fields.digit[i / 16][i % 16]);
+    }
+    for (unsigned i = 1; i <= UNDIVARRO_MAX_PANELS; i++) {
+        snprintf(what, sizeof what, "line of record %u", i);
+        take(to, "salvage, records", what, s->record[i]);
+    }
+}
+
 static void each_line(take_line *take, void *to, const struct tally *tally)
 {
     each_name(take, to, "image, by its last spoiling", image_kind_names, tally->image, IMAGE_KINDS);
@@ -115,6 +142,7 @@ static void each_line(take_line *take, void *to, const struct tally *tally)
     each_tiling(take, to, &tally->tilings);
     each_name(take, to, "kind and tiling in a form 2 record", place_kind_names, tally->kinds.place, PLACE_KINDS);
     each_name(take, to, "kind and tiling in images", kind_case_names, tally->kinds.met, KIND_CASES);
+    each_salvage(take, to, &tally->salvages);
     each_name(take, to, "case and outcome", meeting_names, tally->meetings.met, MEETINGS);
 }
 

@@ -57,7 +57,7 @@ static const char *fault_of(const struct test_case *c, const struct trial *t)
     if (!as_before(t->answer, 0, GUARD) || !as_before(t->out, 0, GUARD))
         return "a byte before a buffer was touched";
     if (!as_before(t->answer, GUARD + r.answer_len, GUARD + c->answer_cap + GUARD))
-        return "a byte past the answer was touched";
+        return "a byte past the answer or the lines was touched";
     if (!as_before(t->out, GUARD + r.image_len, GUARD + c->out_cap + GUARD))
         return "a byte past the image was touched";
     return NULL;
@@ -84,6 +84,8 @@ void run_trial(const struct box *box, const struct test_case *c, struct trial *t
     close_all(c, t, true);
     if (c->call == CALL_PLAY)
         t->result = box->play(image, c->image_len, burst, c->burst_len, answer, c->answer_cap, out, c->out_cap);
+    else if (c->call == CALL_SALVAGE)
+        t->result = box->salvage(image, c->image_len, answer, c->answer_cap, out, c->out_cap);
     else
         t->result = (c->call == CALL_READ ? box->read : box->back)(image, c->image_len, out, c->out_cap);
     close_all(c, t, false);
