@@ -9,5 +9,6 @@ int play(const char *path, const char *log_path);
 int make_new(const char *path, size_t count, char **panels);
 int show(const char *path);
 int back(const char *path, const char *new_path);
+int salvage(const char *path, const char *new_path);
 
 #endif

@@ -10,6 +10,7 @@ static const char usage[] =
     "       rig new IMAGE [PANEL ...]     a new setup of up to 32 fresh panels, in this order\n"
     "       rig show IMAGE                the panels of a setup\n"
     "       rig back IMAGE NEW            the setup in form 1, for an older box, in a new file NEW\n"
+    "       rig salvage IMAGE NEW         what can be kept of a setup that is refused, in a new file NEW\n"
     "\n"
     "A burst's bytes have two hex digits each, with or without spaces between bytes; an empty line is an empty burst. The\n"
     "answer is printed in hex, or - for silence. IMAGE is written at each burst that changes a setting, before its answer\n"
@@ -17,7 +18,8 @@ static const char usage[] =
     "printed: the burst in hex, what it asks for or what was wrong with it, and the answer in words. A PANEL is\n"
     "ID:GROUP[:phoenix][:15x10]: IDs are 1 to 255, groups 1 to 255, and group 255 is group off; a panel is general unless\n"
     ":phoenix is given, and of the 5 by 5 kind unless :15x10 is given, which is 15 wide and 10 high. Setups of form 1 and\n"
-    "form 2 are read, and form 2 is written; form 1 has no Phoenix and no 15x10 panels, and no tiling.\n"
+    "form 2 are read, and form 2 is written; form 1 has no Phoenix and no 15x10 panels, and no tiling. A setup that is\n"
+    "refused with 16, 17 or 18 can be salvaged: each fault is printed with what it means, and IMAGE stays as it is.\n"
     "Exit status: 0 done, 1 the setup image was refused, 2 bad arguments, input or files.\n";
 
 /* The arguments of a command in words, or NULL if there is no such command. */
@@ -29,7 +31,9 @@ static const char *arguments_of(const char *command)
         return "one IMAGE";
     if (strcmp(command, "new") == 0)
         return "an IMAGE and then panels";
-    return strcmp(command, "back") == 0 ? "an IMAGE and a NEW file" : NULL;
+    if (strcmp(command, "back") == 0 || strcmp(command, "salvage") == 0)
+        return "an IMAGE and a NEW file";
+    return NULL;
 }
 
 int main(int argc, char **argv)
@@ -48,6 +52,8 @@ int main(int argc, char **argv)
         return show(argv[2]);
     if (argc == 4 && strcmp(argv[1], "back") == 0)
         return back(argv[2], argv[3]);
+    if (argc == 4 && strcmp(argv[1], "salvage") == 0)
+        return salvage(argv[2], argv[3]);
     if (argc < 2)
         fputs("rig: no command is given\n", stderr);
     else if (arguments_of(argv[1]))

@@ -17,8 +17,8 @@ endif
 rig_out := target/rig
 rig_programs := $(addprefix $(rig_out)/bin/,rig rig-stopped compare bench)
 rig_files := $(wildcard rig/*.h) include/undivarro.h rig/rig.mk
-rig_sources := $(addprefix rig/,rig.c play.c new.c show.c back.c setup.c setup_file.c write_all.c log.c words.c checksum.c \
-    status.c names.c tiling.c record.c)
+rig_sources := $(addprefix rig/,rig.c play.c new.c show.c back.c salvage.c setup.c setup_file.c write_all.c log.c words.c \
+    checksum.c status.c names.c tiling.c record.c told.c)
 case_sources := $(addprefix rig/,cases.c case_images.c case_bursts.c case_data.c case_records.c case_fields.c \
     case_spoilings.c case_wrecks.c case_values.c case_tilings.c random.c checksum.c)
 compare_sources := $(addprefix rig/,compare.c trial.c tally.c meetings.c damages.c powers.c tilings.c tiling_sets.c kinds.c \

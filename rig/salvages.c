@@ -55,10 +55,8 @@ static void count_room_less(unsigned long *met, const struct test_case *c, const
     }
 }
 
-/* Record k of those before it was dropped, for this reason. */
-static void count_dropped(unsigned long *met, const struct view *views, size_t k)
+static void count_dropped(unsigned long *met, const struct view *v)
 {
-    const struct view *v = &views[k];
     size_t head = raw_head_len(v->form);
     static const enum salvage_case cases[] = {
         [DROP_ID_0] = WITH_ID_0, [DROP_GROUP_0] = WITH_GROUP_0, [DROP_PROFILE] = WITH_PROFILE, [DROP_ID_SEEN] = WITH_ID_SEEN,
@@ -68,8 +66,8 @@ static void count_dropped(unsigned long *met, const struct view *views, size_t k
         met[v->form == 1 ? SHORT_1 : v->raw.len == 1 ? SHORT_2_OF_1 : SHORT_2_OF_2]++;
     else
         met[cases[why]]++;
-    if (v->raw.len > head)
-        met[WITH_FIELD_FAULTS] += fault_alone(v->form, UNDIVARRO_GENERAL, v->raw.bytes + head, v->raw.len - head, NULL) != 0;
+    if (v->raw.len > head && fault_alone(v->form, UNDIVARRO_GENERAL, v->raw.bytes + head, v->raw.len - head, NULL))
+        met[WITH_FIELD_FAULTS]++;
 }
 
 /* Record k and those before it that have its ID. */
@@ -152,7 +150,7 @@ static void count_done(struct salvages *s, const struct test_case *c, const stru
         if (views[k].kept)
             count_fields(&s->fields, &views[k]);
         else
-            count_dropped(s->met, views, k);
+            count_dropped(s->met, &views[k]);
     }
 }
 

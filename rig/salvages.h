@@ -8,7 +8,7 @@
 enum salvage_case {
     /* the whole image */
     SOUND_1, SOUND_2, FAULTS_IN_1, FAULTS_IN_2, ALL_FAULTS, NONE_KEPT, FIRST_DROPPED, LAST_DROPPED, LINES_FULL,
-    /* a record with fault 16, by its only reason but for the first */
+    /* a record with fault 16, by the first reason */
     SHORT_1, SHORT_2_OF_1, SHORT_2_OF_2, WITH_ID_0, WITH_GROUP_0, WITH_PROFILE, WITH_ID_SEEN, WITH_FIELD_FAULTS,
     /* a record that is kept, with the ID of one that was dropped */
     KEPT_AFTER_SHORT, KEPT_AFTER_GROUP_0, KEPT_AFTER_PROFILE,

@@ -7,27 +7,38 @@
 #include <string.h>
 #include <sys/stat.h>
 
-#include "setup_file.h"
 #include "status.h"
 
-int load(const char *path, struct setup *setup, uint8_t *form)
+int load_image(const char *path, uint8_t image[SETUP_FILE_LIMIT + 1], size_t *len)
 {
-    uint8_t image[SETUP_FILE_LIMIT + 1];
-    size_t len;
-    if (!load_setup(path, image, &len)) {
+    if (!load_setup(path, image, len)) {
         if (errno != ENOENT)
             return not_done("read", path);
         fprintf(stderr, "rig: there is no %s; make it with: rig new %s ID:GROUP ...\n", path, path);
         return BAD;
     }
-    if (len > SETUP_FILE_LIMIT) {
+    if (*len > SETUP_FILE_LIMIT) {
         fprintf(stderr, "rig: %s: over %d bytes; a setup image has at most %d, so this is not one\n", path,
                 SETUP_FILE_LIMIT, UNDIVARRO_IMAGE_CAP);
         return REFUSED;
     }
+    return DONE;
+}
+
+int load(const char *path, struct setup *setup, uint8_t *form)
+{
+    uint8_t image[SETUP_FILE_LIMIT + 1];
+    size_t len;
+    int status = load_image(path, image, &len);
+    if (status != DONE)
+        return status;
     struct undivarro_result r = undivarro_read(image, len, setup->bytes, sizeof setup->bytes);
-    if (r.refusal)
-        return refused(path, r.refusal);
+    if (r.refusal) {
+        refused(path, r.refusal);
+        if (r.refusal >= 16 && r.refusal <= 18)
+            fprintf(stderr, "rig: what is good of it can be kept in a new file NEW: rig salvage %s NEW\n", path);
+        return REFUSED;
+    }
     setup->len = r.image_len;
     if (form)
         *form = image[len - 1];

@@ -4,12 +4,16 @@
 #define SETUP_H
 
 #include "record.h"
+#include "setup_file.h"
 #include "undivarro.h"
 
 struct setup {
     size_t len;
     uint8_t bytes[UNDIVARRO_IMAGE_CAP];
 };
+
+/* The bytes of the file as they are, whatever they hold. */
+int load_image(const char *path, uint8_t image[SETUP_FILE_LIMIT + 1], size_t *len);
 
 /* The setup in the file, in form 2 whatever the file has, with all fields of all panels by rising code. *form, if wanted,
  * is the file's. */
@@ -20,7 +24,7 @@ int keep(const char *path, const struct setup *setup);
 /* In a new file; one that is there is left alone. */
 int keep_new(const char *path, const struct setup *setup);
 
-/* A loaded setup's records. */
+/* The records of a setup in form 2. */
 size_t panel_count(const struct setup *setup);
 const uint8_t *record_of(const struct setup *setup, size_t k);
 

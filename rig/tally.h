@@ -26,7 +26,8 @@ void count_outcome(struct tally *tally, const struct test_case *c, const struct 
 void print_tally(const struct tally *tally);
 
 /* Every kind of case, every refusal and every kind of wall for each call, every kind of answer, every damage in all its ways
- * and at all limits, every case of power, of tiling, of kinds and of salvage, and every meeting; if not, says which was not met. */
+ * and at all limits, every case of power, of tiling, of kinds and of salvage, and every meeting; if not, says which was not
+ * met. */
 bool met_everything(const struct tally *tally);
 
 #endif

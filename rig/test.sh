@@ -100,14 +100,56 @@ refusal_words() {
     18) echo 'field: value not allowed' ;;
     esac
 }
+# setup_of FORM RECORD...: the image of these records
+setup_of() {
+    local form=$1 record at=0 starts=
+    shift
+    for record; do
+        printf %s "$record"
+        starts=$starts$(printf %04x "$at")
+        at=$((at + ${#record} / 2))
+    done
+    printf '%s%02x%02x' "$starts" $# "$form"
+}
+# field CODE:VALUES...: these fields, each with its length
+field() {
+    local given values
+    for given; do
+        values=${given#*:}
+        printf '%s%02x%s' "${given%%:*}" $((${#values} / 2)) "$values"
+    done
+}
+# kept HEAD CODE:VALUES...: a record as it is written, fresh by its profile but for these fields
+kept() {
+    local head=$1 given fresh video=32323232323203
+    shift
+    case $head in ????01) video=32323205003203 ;; esac
+    printf %s "$head"
+    for fresh in 01:00 18:02 22:00000101 32:$video 34:01 42:3232 61:01 a3:02 d0:00 dd:00; do
+        for given; do [ "${given%%:*}" != "${fresh%%:*}" ] || fresh=$given; done
+        field "$fresh"
+    done
+}
+# leaves_files_alone COMMAND: where NEW is there already, also as w itself or as a link to nothing
+leaves_files_alone() {
+    local new before
+    before=$(bytes w) && echo mine >n && rm -f link nowhere && ln -s nowhere link || return
+    for new in n w link; do
+        ends 2 "rig: $new is there already; remove it first, or give another name" rig "$1" w $new || return
+    done
+    same 'the file that was there' "$(cat n)" mine && same 'the setup' "$(bytes w)" "$before" && [ ! -e nowhere ]
+}
 # refused_images: lines of a refusal and the bytes of an image that gets it, from each command
 refused_images() {
-    local number words hex command
+    local number words hex command commands
     rm -f n
     while read -r number hex; do
         image w "$hex"
         words="rig: w: refusal $number: $(refusal_words "$number")"
-        for command in 'show w' 'play w' 'back w n'; do
+        commands=('show w' 'play w' 'back w n')
+        # from 16 on a salvage keeps what it can
+        [ "$number" -gt 15 ] || commands+=('salvage w n')
+        for command in "${commands[@]}"; do
             ends 1 "$words" rig $command || return
         done
         same "the image refused by $number" "$(bytes w)" "$(echo "$hex" | tr -d ' ')" || return
@@ -115,7 +157,7 @@ refused_images() {
     done
 }
 
-for part in comparison program forms power tiling keeping words log; do
+for part in comparison program forms power tiling salvage salvage_command keeping words log; do
     . "$parts/test_$part.sh" || exit 2
 done
 comparison_tests

@@ -154,14 +154,7 @@ back_when_all_is_fresh() {
     same 'form 1' "$(bytes n)" "$(pair_in_form_1 4)" && same 'form 2' "$(bytes w)" "$(pair_in_form_2 4)"
 }
 
-back_leaves_files_alone() {
-    image_of w "$(pair_in_form_2 4)" && echo mine >n && rm -f link && ln -s nowhere link || return
-    local new
-    for new in n w link; do
-        ends 2 "rig: $new is there already; remove it first, or give another name" rig back w $new || return
-    done
-    same 'the file that was there' "$(cat n)" mine && same 'the setup' "$(bytes w)" "$(pair_in_form_2 4)" && [ ! -e nowhere ]
-}
+back_leaves_files_alone() { image_of w "$(pair_in_form_2 4)" && leaves_files_alone back; }
 
 test_that 'new with profiles' new_with_profiles
 test_that 'fields left out are fresh by profile' fields_left_out_are_fresh_by_profile

@@ -78,7 +78,8 @@ bad_arguments() {
     wall w
     ends 2 'no command' rig && ends 2 'is no command' rig paly w && ends 2 'one IMAGE' rig play && ends 2 usage rig show &&
         ends 2 'one IMAGE' rig play w w && ends 2 'one IMAGE' rig show w w && ends 2 'IMAGE and then panels' rig new &&
-        ends 2 'a NEW file' rig back w && ends 2 'a NEW file' rig back w n n && [ ! -e n ] || return
+        ends 2 'a NEW file' rig back w && ends 2 'a NEW file' rig back w n n && [ ! -e n ] &&
+        ends 2 'a NEW file' rig salvage w && ends 2 'a NEW file' rig salvage w n n && [ ! -e n ] || return
     local panel
     for panel in 1 1: :1 1:256 256:1 a:1 1:a 1:1: -1:1 99999999999999999999:1 '' 1:9:general 1:9:Phoenix 1:9:phoenix: \
         1:9:phoenixes 1:9:phoeni 1:9phoenix 1:phoenix :phoenix 1:9:1 1:9:5x5 1:9:15x1 1:9:15x100 1:9:15X10 1:9:10x15 \
@@ -93,8 +94,9 @@ bad_arguments() {
 unreadable_files() {
     mkdir -p folder
     ends 2 'rig new missing' rig play missing && ends 2 'rig new missing' rig show missing &&
-        ends 2 'rig new missing' rig back missing n && ends 2 'Is a directory' rig show folder &&
-        ends 2 'Is a directory' rig play folder && ends 2 'No such file' rig new missing/w 1:9
+        ends 2 'rig new missing' rig back missing n && ends 2 'rig new missing' rig salvage missing n &&
+        ends 2 'Is a directory' rig show folder && ends 2 'Is a directory' rig play folder &&
+        ends 2 'Is a directory' rig salvage folder n && ends 2 'No such file' rig new missing/w 1:9
 }
 
 refusals_by_number() {
