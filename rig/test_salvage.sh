@@ -43,7 +43,7 @@ records_dropped() {
     done
     salvages "$(setup_of 1 0109 "0209$good")" '' "$(kept 010900)" "$(kept 020900 61:04)" || return
     # nothing more is told of a dropped record; and none is left
-    salvages "$(setup_of 2 "010000$(field 61:05 62:01)" "000900$(field 61:05)" 0109)" '1 16,2 16,3 16'
+    salvages "$(setup_of 2 "010000$(field 61:05 62:01)" "000900$(field 62:01)" 0109)" '1 16,2 16,3 16'
 }
 
 # an ID counts as seen only from a record that was kept
