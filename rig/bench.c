@@ -12,6 +12,7 @@
 
 #include "count.h"
 #include "plain.h"
+#include "record.h"
 
 enum { PANELS = UNDIVARRO_MAX_PANELS };
 
@@ -51,13 +52,26 @@ struct outcome {
     uint8_t answer[UNDIVARRO_ANSWER_CAP], out[UNDIVARRO_IMAGE_CAP];
 };
 
-/* 32 fresh general 5 by 5 panels, all in group 9, as each form is written. */
+/* 32 fresh general 5 by 5 panels, all in group 9, as each form is written; and in form 2 with eleven faults each. */
 struct image {
     size_t len;
-    uint8_t bytes[UNDIVARRO_IMAGE_CAP];
+    uint8_t bytes[UNDIVARRO_IMAGE_CAP + PANELS];
 };
 
-static struct image form_1, form_2;
+static struct image form_1, form_2, wreck;
+
+/* A salvage as a reading, with its lines apart. */
+static uint8_t proved_lines[UNDIVARRO_LINES_CAP], plain_lines[UNDIVARRO_LINES_CAP];
+
+static struct undivarro_result proved_salvage(const uint8_t *image, size_t image_len, uint8_t *out, size_t out_cap)
+{
+    return undivarro_salvage(image, image_len, proved_lines, sizeof proved_lines, out, out_cap);
+}
+
+static struct undivarro_result plain_salvaged(const uint8_t *image, size_t image_len, uint8_t *out, size_t out_cap)
+{
+    return plain_salvage(image, image_len, plain_lines, sizeof plain_lines, out, out_cap);
+}
 
 /* noipa: one piece of code for all, so that what stands around a call is the same for each. */
 __attribute__((noipa)) static uint64_t count_play(play_function *function, const uint8_t *burst, size_t len, struct outcome *o)
@@ -76,7 +90,8 @@ __attribute__((noipa)) static uint64_t count_read(read_function *function, const
 
 static void check_same(const char *what, const struct outcome *proved, const struct outcome *plain)
 {
-    if (memcmp(proved, plain, sizeof *proved) != 0 || proved->result.refusal != 0) {
+    if (memcmp(proved, plain, sizeof *proved) != 0 || memcmp(proved_lines, plain_lines, sizeof plain_lines) != 0
+        || proved->result.refusal != 0) {
         fprintf(stderr, "bench: %s: the two differ, or refuse; run make rig-test\n", what);
         exit(1);
     }
@@ -151,6 +166,8 @@ static const struct reading readings[] = {
     {"image of 32, form 2 read and written", &form_2, undivarro_read, plain_read},
     {"image of 32, form 1 read, form 2 written", &form_1, undivarro_read, plain_read},
     {"image of 32, form 2 read, form 1 written", &form_2, undivarro_back, plain_back},
+    {"image of 32, form 2 salvaged, no fault", &form_2, proved_salvage, plain_salvaged},
+    {"image of 32, form 2 salvaged, eleven faults in each record", &wreck, proved_salvage, plain_salvaged},
 };
 enum { READINGS = sizeof readings / sizeof readings[0] };
 
@@ -162,6 +179,24 @@ static struct cost cost_of_reading(const struct reading *r)
     uint64_t by_plain = count_read(r->plain, r->image, &plain) - around;
     check_same(r->what, &proved, &plain);
     return (struct cost){by_proved, by_plain};
+}
+
+/* No value is allowed, and behind each record's fields stands a code alone. */
+static void make_wreck(void)
+{
+    uint8_t *to = wreck.bytes, *starts = to + (RECORD_LEN + 1) * PANELS;
+    for (unsigned k = 0; k < PANELS; k++) {
+        *starts++ = (uint8_t)((to - wreck.bytes) >> 8);
+        *starts++ = (uint8_t)(to - wreck.bytes);
+        memcpy(to, form_2.bytes + RECORD_LEN * k, RECORD_LEN);
+        for (size_t at = FIELDS_AT; at < RECORD_LEN; at += 2u + to[at + 1])
+            memset(to + at + 2, 0xFF, to[at + 1]);
+        to[RECORD_LEN] = 0xFF;
+        to += RECORD_LEN + 1;
+    }
+    *starts++ = PANELS;
+    *starts++ = 2;
+    wreck.len = (size_t)(starts - wreck.bytes);
 }
 
 static void make_images(void)
@@ -177,6 +212,7 @@ static void make_images(void)
     fresh[4 * PANELS + 1] = 1;
     form_1.len = plain_back(fresh, sizeof fresh, form_1.bytes, sizeof form_1.bytes).image_len;
     form_2.len = plain_read(fresh, sizeof fresh, form_2.bytes, sizeof form_2.bytes).image_len;
+    make_wreck();
 }
 
 int main(void)
