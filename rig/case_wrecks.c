@@ -38,7 +38,7 @@ static void start_anew(const struct draft *d, struct record *r)
     r->fields = 0;
 }
 
-/* All fields of the form anew, each with fault 18 or every second one; a kind that is known stands before the tiling. */
+/* All fields of the form anew, each with fault 18 or every second one; the kind stands before the tiling. */
 static void wreck_values(struct source *s, const struct draft *d, struct record *r, bool all)
 {
     uint8_t rows[ROWS];

@@ -40,8 +40,8 @@ struct view {
     uint8_t code_17;
 };
 
-/* The first fault, or 0, of the fields by themselves, in a record of the form with a sound head. kept, if wanted, is what is
- * written of it. */
+/* The first fault, or 0, of the fields by themselves, up to 255 bytes of them, in a record of the form with a sound head.
+ * kept, if wanted, is what is written of it. */
 unsigned fault_alone(uint8_t form, uint8_t profile, const uint8_t *fields, size_t len, uint8_t kept[RECORD_LEN]);
 
 /* Of a record that was kept. */

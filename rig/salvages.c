@@ -78,10 +78,9 @@ static void count_ids(unsigned long *met, const struct view *views, size_t k)
     for (const struct view *w = views; w < v; w++) {
         if (w->raw.bytes[0] != v->raw.bytes[0])
             continue;
-        if (w->kept)
-            kept = true;
-        else
-            *(kept ? &dropped_then : &dropped_first) = true;
+        dropped_first |= !w->kept && !kept;
+        dropped_then |= !w->kept && kept;
+        kept |= w->kept != NULL;
         if (v->kept && !w->kept) {
             enum drop why = why_dropped(w->raw, w->form);
             met[KEPT_AFTER_SHORT] += why == DROP_SHORT;
@@ -95,7 +94,7 @@ static void count_ids(unsigned long *met, const struct view *views, size_t k)
     }
 }
 
-/* The lines of each record, which are given back as their faults: bit 0 for 16, bit 1 for 17, bit 2 for 18. */
+/* What each record has of the lines and of the output. All faults together: bit 0 for 16, bit 1 for 17, bit 2 for 18. */
 static unsigned view_records(struct salvages *s, const struct test_case *c, const struct outcome *o, struct view *views,
                              size_t records)
 {

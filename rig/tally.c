@@ -107,7 +107,7 @@ static void each_tiling(take_line *take, void *to, const struct tilings *t)
 static void each_salvage(take_line *take, void *to, const struct salvages *s)
 {
     char what[40];
-    each_name(take, to, "salvage", salvage_case_names, s->met, SALVAGE_CASES);
+    each_name(take, to, "salvage and outcome", salvage_case_names, s->met, SALVAGE_CASES);
     each_name(take, to, "salvage, fields", field_case_names, s->fields.met, FIELD_CASES);
     for (unsigned form = 1; form <= 2; form++) {
         uint8_t rows[ROWS];
@@ -121,9 +121,10 @@ static void each_salvage(take_line *take, void *to, const struct salvages *s)
         snprintf(what, sizeof what, "17 with %s digit %X", i < 16 ? "first" : "second", i % 16);
         take(to, "salvage, fields", what, s->fields.digit[i / 16][i % 16]);
     }
+    take(to, "salvage, lines", NULL, 0);
     for (unsigned i = 1; i <= UNDIVARRO_MAX_PANELS; i++) {
-        snprintf(what, sizeof what, "line of record %u", i);
-        take(to, "salvage, records", what, s->record[i]);
+        snprintf(what, sizeof what, "of record %u", i);
+        take(to, "salvage, lines", what, s->record[i]);
     }
 }
 
