@@ -114,7 +114,7 @@ struct undivarro_result undivarro_back(const uint8_t *image, size_t image_len,
 
 /* Keeps what is good of an image that the other functions refuse with 16, 17 or 18. A record with fault 16 is dropped, and
  * an ID counts as seen only from a record that was kept. Of any other record each field is kept up to the first with fault
- * 17; that one and all behind it are as if left out, so that they have the fresh values of the panel's profile. A field
+ * 17; that one and all behind it are as if left out, and what was not kept before is fresh by the panel's profile. A field
  * with fault 18 gets the fresh value in its place and counts as seen; a kind with fault 18 is 5 by 5, and the tiling behind
  * it is judged by that.
  *

@@ -43,9 +43,9 @@ static void say_fault(struct told line, struct raw_record record, uint8_t form)
     else if (line.fault == 18)
         printf("%s has a value that is not allowed; the fresh value is in its place\n", name);
     else if (name)
-        printf("%s cannot be taken; it and all fields behind it are fresh\n", name);
+        printf("reading stops at a field of %s; what was not read before it is fresh\n", name);
     else
-        printf("code %02X is of no field; all fields from it on are fresh\n", line.code);
+        printf("reading stops at code %02X, which is of no field; what was not read before it is fresh\n", line.code);
 }
 
 /* Each line as it is, and what it means. */

@@ -6,11 +6,11 @@ in_words() {
         "05ff02$(field 61:05)")" && rm -f n && rig salvage w n >told || return
     same words "$(cat told)" "\
 1 18 61   record 1, ID 1: fan has a value that is not allowed; the fresh value is in its place
-1 17 62   record 1, ID 1: code 62 is of no field; all fields from it on are fresh
+1 17 62   record 1, ID 1: reading stops at code 62, which is of no field; what was not read before it is fresh
 2 16      record 2, ID 1: dropped, since a record that was kept has its ID
 3 16      record 3, ID 2: dropped, since its group is 0
 4 18 01   record 4, ID 3: kind has a value that is not allowed; the fresh value is in its place
-4 17 DD   record 4, ID 3: power saving cannot be taken; it and all fields behind it are fresh
+4 17 DD   record 4, ID 3: reading stops at a field of power saving; what was not read before it is fresh
 5 16      record 5, ID 4: dropped, since it is too short
 6 16      record 6, ID 0: dropped, since its ID is 0
 7 16      record 7, ID 5: dropped, since its profile is unknown
