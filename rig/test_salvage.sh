@@ -43,7 +43,8 @@ records_dropped() {
     done
     salvages "$(setup_of 1 0109 "0209$good")" '' "$(kept 010900)" "$(kept 020900 61:04)" || return
     # nothing more is told of a dropped record; and none is left
-    salvages "$(setup_of 2 "010000$(field 61:05 62:01)" "000900$(field 62:01)" 0109)" '1 16,2 16,3 16'
+    salvages "$(setup_of 2 "010000$(field 61:05 62:01)" "000900$(field 62:01)" 01090261 0109)" \
+        '1 16,2 16,3 16,4 16'
 }
 
 # an ID counts as seen only from a record that was kept
@@ -151,7 +152,9 @@ form_1() {
     salvages "$(setup_of 1 "0109$(field 61:04 01:00 18:01)" "0209$(field 61:05 18:01)" "0308$(field 18:01 22:00000101)" 04)" \
         '1 17 01,2 18 61,3 17 22,4 16' "$(kept 010900 61:04)" "$(kept 020900 18:01)" "$(kept 030800 18:01)" || return
     salvages "$(setup_of 1 "0109$(field 32:32323205ce3203)" "0209$(field 18:00 32:64 34:00)")" '1 18 32,2 18 18,2 17 32' \
-        "$(kept 010900)" "$(kept 020900)"
+        "$(kept 010900)" "$(kept 020900)" || return
+    # where form 2 has the profile
+    salvages "$(setup_of 1 "0109$(field 01:00)" 010902 02ff00)" '1 17 01,2 16,3 17 00' "$(kept 010900)" "$(kept 02ff00)"
 }
 
 # in decimal, from 1, by the place in the image and not among those kept
