@@ -12,8 +12,9 @@ use Rattle.forms.specs.Forms.{headSize, keeps}
 use Rattle.forms.proofs.Laws.{keeps-fresh, two-keeps}
 use Rattle.image_write.specs.Written.{losesNothing}
 use Rattle.image_write.proofs.Losing.{one-more}
-use Rattle.image_read.specs.Whole.{formOf, wholeRefusal, recordsIn}
-use Rattle.image_read.specs.Read.{Reading, isSound, recordRefusal, panelIn, refused, readRecords, readOf}
+use Rattle.image_whole.specs.Whole.{formOf, wholeRefusal, recordsIn}
+use Rattle.image_whole.specs.Refusals.{isSound}
+use Rattle.image_read.specs.Read.{Reading, recordRefusal, panelIn, refused, readRecords, readOf}
 use Rattle.image_read.proofs.Sound.{fields-gathered}
 
 panel-held : (form : Form) (bytes : List ℕ) → keeps form (panelIn form bytes .profile) (panelIn form bytes .values) ≡ true

@@ -21,14 +21,15 @@ use Rattle.models.proofs.Laws.{allowed-many, kind-free}
 use Rattle.forms.specs.declared.Form.{Form}
 use Rattle.forms.specs.Forms.{hasField}
 use Rattle.panels.proofs.Values.{length-with, other-row}
-use Rattle.image_read.specs.declared.Refusal.the-variants.{Nothing as Sound}
-use Rattle.image_read.specs.declared.Step.{Step}
-use Rattle.image_read.specs.declared.Step.the-variants.{Field, NotAllowed, Broken, End}
+use Rattle.image_record.specs.declared.Step.{Step}
+use Rattle.image_record.specs.declared.Step.the-variants.{Field, NotAllowed, Broken, End}
 use Rattle.image_read.specs.declared.Fields.{Fields}
-use Rattle.image_read.specs.Fields.{valuesIn, misplaced, misfits, fieldOf, stepAt, fieldsFrom}
-use Rattle.image_read.proofs.OnTheWay.{seenWith, behind}
+use Rattle.image_record.specs.Field.{valuesIn, misplaced, misfits, fieldOf, stepAt, behind}
+use Rattle.image_read.specs.Fields.{fieldsFrom}
+use Rattle.image_record.proofs.OnTheWay.{seenWith}
 use Rattle.image_read.specs.Entries.{Entry, bytesOf, Without, HasAll, KindFirst}
-use Rattle.image_read.proofs.Steps.{seen-apart, Free, Takes, takes, takes-it, fields-step}
+use Rattle.image_record.proofs.Steps.{seen-apart, Free, Stands, stands, stands-it}
+use Rattle.image_read.proofs.Steps.{fields-step}
 
 -- the row of an entry's code
 rowFound : Found → ℕ
@@ -138,7 +139,7 @@ module _ (form : Form) (profile : Profile) where
       let n = count-of g in
       let left = e .code ∷ length (e .values) ∷ (e .values ++ bytesOf es) in
       let vs = front-values e (bytesOf es) (rowOf e) n in
-      let takes-e : Takes form profile seen values left (rowOf e) = record {
+      let stands-e : Stands true form profile seen values left (rowOf e) = record {
         in-table = g .in-table;
         code = sym (g .code);
         has = has-first e es has g;
@@ -148,7 +149,7 @@ module _ (form : Form) (profile : Profile) where
         allowed = rw vs (judged-alike _ profile e es values (g .code) n k good full ∙ g .allowed);
       } in
       ap (fieldsFrom form profile seen values) (bytes-cons e es)
-      ∙ fields-step form profile seen values left (Field (rowOf e)) (takes-it form profile takes-e)
+      ∙ fields-step form profile seen values left (Field (rowOf e)) (stands-it form profile true stands-e)
       ∙ rw (vs, front-behind e (bytesOf es) (rowOf e) n)
       (all-taken es (seenWith (rowOf e) seen) (valuesWith (rowOf e) (e .values) values) good first (λ row h t. has row h t .1)
       (still-unseen _ g seen es without k good u) (length-with (rowOf e) (e .values) values n full))
@@ -173,7 +174,7 @@ module _ (form : Form) (profile : Profile) where
   unfolding stepAt
   never-end seen values left h e = by-found (fieldBy (getD left 0 0)) (rw (ne-eqb (length left) 0 (λ z. omega arith)) at e)
     where
-      by-tests : (r : ℕ) (a b : Bool) → cond a Broken (cond b (Field r) NotAllowed) ≡ End → ⊥
+      by-tests : (r : ℕ) (a b : Bool) → cond a Broken (cond b (Field r) (NotAllowed r)) ≡ End → ⊥
       by-tests r true b e = let z : _≡_ {A = ℕ} 0 1 = cc in omega arith
       by-tests r false true e = let z : _≡_ {A = ℕ} 0 1 = cc in omega arith
       by-tests r false false e = let z : _≡_ {A = ℕ} 0 1 = cc in omega arith
@@ -201,7 +202,7 @@ module _ (form : Form) (profile : Profile) where
           → fieldsFrom form profile seen values left .refusal ≡ Sound
           → GoodEntries (modelIn profile (stored (e ∷ es) values)) (e ∷ es) × KindFirst (e ∷ es) × HasAll form (e ∷ es) × Unseen seen (e ∷ es)
       go (Field row) st ih sound =
-          let t = takes form profile seen values left row st in
+          let t = stands form profile true seen values left row st in
           let vs = front-values e (bytesOf es) row (t .count) in
           let is-row = row-is e (t .in-table) (sym (t .code)) in
           let next = fields-step form profile seen values left (Field row) st
@@ -216,8 +217,8 @@ module _ (form : Form) (profile : Profile) where
             (λ r h none. ((λ c. false≢true (sym none ∙ ap (hasField form) (sym (row-is e h (sym c)) ∙ is-row) ∙ t .has)), has r h none)),
             (rw is-row (t .free), u′),
           )
-      go NotAllowed st ih sound =
-          let f = ap (λ (f : Fields). f .refusal) (fields-step form profile seen values left NotAllowed st) in
+      go (NotAllowed row) st ih sound =
+          let f = ap (λ (f : Fields). f .refusal) (fields-step form profile seen values left (NotAllowed row) st) in
           let z : _≡_ {A = ℕ} 0 1 = cc in absurd (omega arith)
       go Broken st ih sound =
           let f = ap (λ (f : Fields). f .refusal) (fields-step form profile seen values left Broken st) in

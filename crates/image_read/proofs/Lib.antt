@@ -1,9 +1,8 @@
--- `OnTheWay` has names for a record on its way through the reader, `Steps` is the walk over its fields, `Edges` where records begin
--- and end, `Marked` the IDs seen before, `Said` what a record comes to by what its head says. The theorems: `Sound` that reading gives only well-formed tables, `Entries`, `ByCode`
--- and `Order` that fields go by code and not by place.
+-- `OnTheWay` has names for a record on its way through the reader, `Steps` is the walk over its fields, `Marked` the IDs seen
+-- before, `Said` what a record comes to by what its head says. The theorems: `Sound` that reading gives only well-formed tables,
+-- `Entries`, `ByCode` and `Order` that fields go by code and not by place.
 pub mod OnTheWay
 pub mod Steps
-pub mod Edges
 pub mod Sound
 pub mod Marked
 pub mod Said

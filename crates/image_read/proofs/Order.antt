@@ -19,14 +19,14 @@ use Rattle.models.proofs.Laws.{fresh-allowed}
 use Rattle.panels.specs.Wall.{Wall}
 use Rattle.forms.specs.declared.Form.{Form}
 use Rattle.forms.specs.Forms.{hasField}
-use Rattle.image_read.specs.declared.Refusal.the-variants.{Nothing as Sound}
 use Rattle.image_read.specs.declared.Fields.{Fields}
-use Rattle.image_read.specs.Whole.{formOf, wholeRefusal, recordsIn}
+use Rattle.image_whole.specs.Whole.{formOf, wholeRefusal, recordsIn}
 use Rattle.image_read.specs.Fields.{fieldsIn}
-use Rattle.image_read.specs.Read.{isSound, recordRefusal, panelIn, refused, readRecords, readOf}
+use Rattle.image_whole.specs.Refusals.{isSound}
+use Rattle.image_read.specs.Read.{recordRefusal, panelIn, refused, readRecords, readOf}
 use Rattle.image_read.proofs.OnTheWay.{wallWith}
 use Rattle.image_read.specs.Entries.{Entry, bytesOf, freshEntry, Permuted, same, swapped, kept, twice, Without, HasAll, KindFirst, Reordered, givenOr, given, GiveAlike, SameHead}
-use Rattle.image_read.proofs.Steps.{none-seen}
+use Rattle.image_record.proofs.Steps.{none-seen}
 use Rattle.image_read.proofs.Entries.{rowOf, row-is, Good, GoodEntries, Unseen, stored, all-taken, no-fault}
 use Rattle.image_read.proofs.Said.{saidRefusal, saidPanel, refusal-said, panel-said, fields-sound}
 use Rattle.image_read.proofs.ByCode.{by-code, stored-full, stored-is}

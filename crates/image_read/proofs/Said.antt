@@ -1,5 +1,5 @@
 -- What a record comes to, by what its head says and by its fields, whatever its form. Assumes nothing.
-use mathlib.Core.Path.{_≡_}
+use mathlib.Core.Path.{_≡_, refl}
 use mathlib.Core.Bool.{Bool, true, false, cond, not, _&&_, false≢true}
 use mathlib.Core.List.{List, _++_}
 use Prim.Native.Nat.{ℕ, _≤_}
@@ -8,32 +8,41 @@ use borrow.Author.Tests.{le-leb}
 use lib.Dec.{eqb}
 use lib.ListN.{length, length-append}
 use Rattle.settings.specs.declared.Profile.{Profile}
+use Rattle.profiles.specs.declared.Numbered.the-variants.{Known, Unknown}
+use Rattle.profiles.specs.Numbers.{ifKnown}
 use Rattle.packet.specs.Packet.{monitorId, groupId}
 use Rattle.panels.specs.declared.Panel.{Panel}
-use Rattle.panels.specs.Wall.{Wall, placeOf, ifThere}
+use Rattle.panels.specs.Wall.{Wall}
 use Rattle.forms.specs.declared.Form.{Form}
 use Rattle.forms.specs.Forms.{headSize, headOf, holds}
 use Rattle.forms.proofs.Laws.{head-length, profile-back, behind-head}
-use Rattle.image_read.specs.declared.Refusal.{Refusal}
-use Rattle.image_read.specs.declared.Refusal.the-variants.{Nothing as Sound, Record}
+use Rattle.image_whole.specs.declared.Refusal.{Refusal}
+use Rattle.image_whole.specs.declared.Refusal.the-variants.{Nothing as Sound, Record}
+use Rattle.image_record.specs.Head.{idIn, headFits, headIn}
 use Rattle.image_read.specs.declared.Fields.{Fields}
 use Rattle.image_read.specs.Fields.{fieldsIn}
-use Rattle.image_read.specs.Read.{isSound, headFits, recordRefusal, panelIn}
-use Rattle.image_read.proofs.Edges.{sound-nothing}
+use Rattle.image_whole.specs.Refusals.{isSound}
+use Rattle.image_read.specs.Read.{recordRefusal, panelIn}
+use Rattle.image_whole.proofs.Edges.{sound-nothing}
 
 unfoldable pub saidRefusal : Wall → ℕ → ℕ → Fields → Refusal
 saidRefusal w id group f =
-    cond (not (eqb id 0) && not (eqb group 0) && ifThere (placeOf (monitorId id) w) false true) (f .refusal) Record
+    cond (not (eqb id 0) && not (eqb group 0) && not (idIn w id)) (f .refusal) Record
 
 unfoldable pub saidPanel : ℕ → ℕ → Profile → Fields → Panel
 saidPanel id group profile f = record { id = monitorId id; group = groupId group; profile = profile; values = f .values }
 
 module _ (form : Form) (id group : ℕ) (profile : Profile) (rest : List ℕ) (held : holds form profile ≡ true) where
   pub refusal-said : (w : Wall) → recordRefusal form w (headOf form id group profile ++ rest) ≡ saidRefusal w id group (fieldsIn form profile rest)
-  unfolding recordRefusal headFits saidRefusal
+  unfolding recordRefusal headIn headFits saidRefusal
   refusal-said w =
       let long : headSize form ≤ length (headOf form id group profile ++ rest) = omega (arith, head-length id group profile form, length-append (headOf form id group profile) rest) in
       rw (le-leb _ _ long, profile-back id group profile form rest held, behind-head id group profile form rest)
+      (go (not (eqb id 0) && not (eqb group 0) && not (idIn w id)))
+    where
+      go : (t : Bool) → ifKnown (cond t (Known profile) Unknown) (λ p. fieldsIn form p rest .refusal) Record ≡ cond t (fieldsIn form profile rest .refusal) Record
+      go true = refl
+      go false = refl
 
   pub panel-said : panelIn form (headOf form id group profile ++ rest) ≡ saidPanel id group profile (fieldsIn form profile rest)
   unfolding panelIn saidPanel
@@ -41,7 +50,7 @@ module _ (form : Form) (id group : ℕ) (profile : Profile) (rest : List ℕ) (h
 
 pub fields-sound : (w : Wall) (id group : ℕ) (f : Fields) → isSound (saidRefusal w id group f) ≡ true → f .refusal ≡ Sound
 unfolding saidRefusal
-fields-sound w id group f e = go (not (eqb id 0) && not (eqb group 0) && ifThere (placeOf (monitorId id) w) false true) e
+fields-sound w id group f e = go (not (eqb id 0) && not (eqb group 0) && not (idIn w id)) e
   where
     go : (t : Bool) → isSound (cond t (f .refusal) Record) ≡ true → f .refusal ≡ Sound
     go true e = sound-nothing _ e

@@ -1,52 +1,21 @@
--- The fields of a record, one after the other, by the record's form and profile. 01, "Setup image, form 1", refusals 17 and 18;
--- 02, A2 and A6: the kind is a field too, by which a tiling behind it is judged.
-use Prim.Native.Nat.{ℕ, zero, suc, _+_}
-use mathlib.Core.Bool.{Bool, true, false, cond, not, _&&_, _||_}
+-- The fields of a record, one after the other. 01, "Setup image, form 1", refusals 17 and 18.
+use Prim.Native.Nat.{ℕ, zero, suc}
+use mathlib.Core.Bool.{Bool, true, false}
 use mathlib.Core.List.{List}
-use lib.Dec.{ltb, eqb}
-use lib.ListN.{length, getD, take, drop, set, replicate}
+use lib.ListN.{length, set, replicate}
 use Rattle.settings.specs.declared.Profile.{Profile}
-use Rattle.finding.specs.declared.Found.{Found}
-use Rattle.finding.specs.declared.Found.the-variants.{Set, Get, Nothing}
-use Rattle.settings.specs.Settings.{byteCount, freshValues, valuesWith, rowCount, kindRow, tilingRow}
-use Rattle.finding.specs.Found.{fieldBy}
-use Rattle.models.specs.Models.{allowedFor, modelIn}
+use Rattle.settings.specs.Settings.{freshValues, valuesWith, rowCount}
 use Rattle.forms.specs.declared.Form.{Form}
-use Rattle.forms.specs.Forms.{hasField}
-use Rattle.image_read.specs.declared.Refusal.the-variants.{Nothing as Sound, Field as BadField, Value as BadValue}
-use Rattle.image_read.specs.declared.Step.{Step}
-use Rattle.image_read.specs.declared.Step.the-variants.{Field, NotAllowed, Broken, End}
+use Rattle.image_whole.specs.declared.Refusal.the-variants.{Nothing as Sound, Field as BadField, Value as BadValue}
+use Rattle.image_record.specs.declared.Step.{Step}
+use Rattle.image_record.specs.declared.Step.the-variants.{Field, NotAllowed, Broken, End}
+use Rattle.image_record.specs.Field.{valuesIn, behind, stepAt}
 use Rattle.image_read.specs.declared.Fields.{Fields}
-
--- the values of a row's field at the front of the bytes that are left: behind set code and length
-abbrev pub valuesIn : ℕ → List ℕ → List ℕ
-valuesIn row left = take (byteCount row) (drop 2 left)
-
--- a row's field is cut off, or its length byte is not the row's count
-abbrev pub misfits : ℕ → List ℕ → Bool
-misfits row left = ltb (length left) (2 + byteCount row) || not (eqb (getD left 1 0) (byteCount row))
-
--- a row has no field here: none in this form, or it was seen before in this record, or it is a kind behind the tiling
-abbrev pub misplaced : Form → List Bool → ℕ → Bool
-misplaced form seen row = not (hasField form row) || (getD seen row false || (eqb row kindRow && getD seen tilingRow false))
-
--- the field of a code that was found: 17, then 18, by the profile and by the kind among the values so far
-abbrev pub fieldOf : Form → Profile → Found → List Bool → List ℕ → List ℕ → Step
-fieldOf form profile (Set row) seen values left =
-    cond (misplaced form seen row || misfits row left)
-    Broken
-    (cond (allowedFor (modelIn profile values) row (valuesIn row left)) (Field row) NotAllowed)
-fieldOf form profile (Get row) seen values left = Broken
-fieldOf form profile Nothing seen values left = Broken
-
--- what stands at the front of the bytes that are left
-unfoldable pub stepAt : Form → Profile → List Bool → List ℕ → List ℕ → Step
-stepAt form profile seen values left = cond (eqb (length left) 0) End (fieldOf form profile (fieldBy (getD left 0 0)) seen values left)
 
 -- what a step comes to: a field goes on, and anything else stops the walk
 abbrev pub afterStep : Step → List ℕ → (ℕ → Fields) → Fields
 afterStep (Field row) values more = more row
-afterStep NotAllowed values more = record { refusal = BadValue; values = values }
+afterStep (NotAllowed row) values more = record { refusal = BadValue; values = values }
 afterStep Broken values more = record { refusal = BadField; values = values }
 afterStep End values more = record { refusal = Sound; values = values }
 
@@ -55,7 +24,7 @@ unfoldable pub gathered : Form → Profile → ℕ → List Bool → List ℕ �
 gathered form profile zero seen values left = record { refusal = Sound; values = values }
 gathered form profile (suc n) seen values left =
     afterStep (stepAt form profile seen values left) values
-    (λ row. gathered form profile n (set seen row true) (valuesWith row (valuesIn row left) values) (drop (2 + byteCount row) left))
+    (λ row. gathered form profile n (set seen row true) (valuesWith row (valuesIn row left) values) (behind row left))
 
 -- A step leaves at least a byte behind, so one step more than there are bytes is enough.
 unfoldable pub fieldsFrom : Form → Profile → List Bool → List ℕ → List ℕ → Fields

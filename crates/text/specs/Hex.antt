@@ -1,13 +1,10 @@
 -- Bytes in upper-case hex, two digits for each. 01, "The play program".
-use Prim.Native.Nat.{ℕ, _+_, _*_, _/_, _%_}
+use Prim.Native.Nat.{ℕ, _*_, _/_, _%_}
 use mathlib.Core.Bool.{cond}
 use mathlib.Core.List.{List, [], _∷_, _++_}
 use lib.ListN.{length, drop}
-use lib.Dec.{leb, ltb}
-
--- the ASCII code of a digit below 16: 0 to 9, then A to F
-abbrev pub digitOf : ℕ → ℕ
-digitOf d = cond (ltb d 10) (48 + d) (55 + d)
+use lib.Dec.{leb}
+use Rattle.digits.specs.Digits.{digitOf}
 
 unfoldable pub hexOf : List ℕ → List ℕ
 hexOf [] = []

@@ -1,9 +1,9 @@
 // What the programs read and print: steps of standard input, and bytes in upper-case hex.
 ghost use mathlib.Core.Path.{_≡_};
-ghost use Prim.Native.Nat.{_<_, _≤_};
+ghost use Prim.Native.Nat.{_≤_};
 ghost use lib.ListN.{length, take};
 ghost use Rattle.io.specs.Counts.{Counts};
-ghost use Rattle.text.specs.Hex.{digitOf, hexCount, hexOver};
+ghost use Rattle.text.specs.Hex.{hexCount, hexOver};
 ghost use Rattle.text.specs.Steps.{Within, longestStep};
 
 // A step's count is one byte.
@@ -14,14 +14,6 @@ pub enum Read {
     Step(usize),
     Cut,
     End,
-}
-
-// The ASCII code of an upper-case hex digit.
-fn digit(d: u8) -> u8
-    requires { ⌜ d < 16 ⌝ }
-    ensures { λ r. ⌜ r ≡ digitOf d ⌝ }
-{
-    if d < 10 { b'0' + d } else { b'A' - 10 + d }
 }
 
 // Puts two hex digits for each byte at the front of out and answers how many; where they do not all fit, none.
@@ -37,8 +29,8 @@ pub fn hex(bytes: &[u8], out: &mut [u8]) -> usize
     let mut i = 0;
     while i < n {
         let b = bytes[i];
-        out[2 * i] = digit(b / 16);
-        out[2 * i + 1] = digit(b % 16);
+        out[2 * i] = digits::high(b);
+        out[2 * i + 1] = digits::low(b);
         i += 1;
     }
     2 * n

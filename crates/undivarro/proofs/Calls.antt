@@ -20,10 +20,11 @@ use Rattle.answers.specs.Judged.{command}
 use Rattle.answers.specs.Played.{turned, playedBy, played, playedOn}
 use Rattle.answers.proofs.Formed.{played-formed}
 use Rattle.forms.specs.declared.Form.{Form}
-use Rattle.image_read.specs.declared.Refusal.{Refusal}
+use Rattle.image_whole.specs.declared.Refusal.{Refusal}
 use Rattle.image_read.specs.declared.Read.{Read}
 use Rattle.image_write.specs.Written.{setupOf, sizeOf, losesNothing, panelSize}
-use Rattle.image_read.specs.Read.{isSound, readRefusalOf, readOf, inTable}
+use Rattle.image_whole.specs.Refusals.{isSound, readRefusalOf}
+use Rattle.image_read.specs.Read.{readOf, inTable}
 use Rattle.image_read.proofs.Sound.{read-formed}
 use Rattle.undivarro.specs.Calls.{refused, given, refusalFor, afterBurst}
 

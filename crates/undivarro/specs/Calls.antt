@@ -10,11 +10,12 @@ use Rattle.packet.specs.Packet.{longest, damageOf, damageNumber}
 use Rattle.lists.specs.Lists.{laidOver}
 use Rattle.answers.specs.Reply.{sentBytes}
 use Rattle.answers.specs.Played.{played}
-use Rattle.image_read.specs.declared.Refusal.{Refusal}
+use Rattle.image_whole.specs.declared.Refusal.{Refusal}
 use Rattle.forms.specs.declared.Form.{Form}
 use Rattle.forms.specs.declared.Form.the-variants.{One, Two}
 use Rattle.image_write.specs.Written.{setupOf, sizeOf, losesNothing}
-use Rattle.image_read.specs.Read.{isSound, readRefusalOf, readOf}
+use Rattle.image_whole.specs.Refusals.{isSound, readRefusalOf}
+use Rattle.image_read.specs.Read.{readOf}
 use Rattle.undivarro.specs.declared.Outcome.{Outcome}
 
 pub record After : Type 0 where

@@ -14,7 +14,7 @@ ghost use Rattle.undivarro.specs.Calls.{refusedBy, refusalFor, afterMove
 use answers::Reply;
 use answers::Sent;
 use forms::Form;
-use image_read::Refusal;
+use image_whole::Refusal;
 use image_write::Written;
 use packet::LONGEST;
 use panels::Table;
@@ -44,7 +44,7 @@ fn has_room(form: Form, t: Table, answer: usize, out: usize) -> bool
 fn refusal_for(read: Refusal, held: bool, room: bool) -> u32
     ensures { λ r. ⌜ r ≡ refusalFor read held room ⌝ }
 {
-    let number = image_read::refusal_number(read);
+    let number = image_whole::refusal_number(read);
     if number != 0 {
         return number as u32;
     }

@@ -3,10 +3,11 @@ use mathlib.Core.Path.{_≡_, sym, ap, ap₂, _∙_}
 use mathlib.Core.Bool.{true}
 use borrow.Author.Tests.{eq-eqb, ne-eqb}
 use Rattle.panels.specs.declared.Table.{Table}
-use Rattle.image_read.specs.declared.Refusal.{Refusal}
+use Rattle.image_whole.specs.declared.Refusal.{Refusal}
 use Rattle.image_read.specs.declared.Read.{Read}
-use Rattle.image_read.specs.Whole.{wholeRefusal}
-use Rattle.image_read.specs.Read.{isSound, readRefusalOf, readOf, inTable}
+use Rattle.image_whole.specs.Whole.{wholeRefusal}
+use Rattle.image_whole.specs.Refusals.{isSound, readRefusalOf}
+use Rattle.image_read.specs.Read.{readOf, inTable}
 use borrow.Author.Needs.{needs}
 use Rattle.image_read.proofs.read_image.Statement.{statement}
 use Rattle.image_read.proofs.read_image.Tie as tie

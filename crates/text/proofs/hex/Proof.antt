@@ -8,7 +8,9 @@ use native.Mathlib.Omega.{arith}
 use borrow.Author.Tests.{le-leb, lt-leb}
 use lib.ListN.{length, getD, take, drop, set, length-set}
 use lib.Seq.{take-suc, take-all, length-take-le, drop-cons}
-use Rattle.text.specs.Hex.{digitOf, hexOf, hexCount, hexOver}
+use Rattle.digits.specs.Digits.{digitOf}
+use Rattle.text.specs.Hex.{hexOf, hexCount, hexOver}
+use borrow.Author.Needs.{needs}
 use Rattle.text.proofs.hex.Statement.{statement}
 use Rattle.text.proofs.hex.Tie as tie
 
@@ -71,8 +73,8 @@ loop-holds c = (omega arith, refl, refl)
 shared-slice-read-b : tie.Need-shared-slice-read-b Inv-loop μ-loop
 shared-slice-read-b c = omega arith
 
-digit-requires : tie.Need-digit-requires Inv-loop μ-loop
-digit-requires c κs = omega (arith, c .shared-slice-known2 .given (c .before .before .loop .i))
+high-requires : tie.Need-high-requires Inv-loop μ-loop
+high-requires c κs = search needs
 
 mul-out : tie.Need-mul-out Inv-loop μ-loop
 mul-out c = omega arith
@@ -80,8 +82,8 @@ mul-out c = omega arith
 slice-write-out : tie.Need-slice-write-out Inv-loop μ-loop
 slice-write-out c = omega arith
 
-digit-requires-2 : tie.Need-digit-requires-2 Inv-loop μ-loop
-digit-requires-2 c κs = omega arith
+low-requires : tie.Need-low-requires Inv-loop μ-loop
+low-requires c κs = search needs
 
 mul-out-2 : tie.Need-mul-out-2 Inv-loop μ-loop
 mul-out-2 c = omega arith
@@ -104,7 +106,7 @@ loop-again c =
     let a = loop .before .before .before .before .args in (
       omega arith,
       simp length-set (loop .loop .inv .1),
-      rw (c .before .digit .ensures, c .digit2 .ensures)
+      rw (c .before .high .ensures, c .low .ensures)
           (spell (a .bytes .now) (a .out .now) (loop .loop .out) (loop .loop .i) (omega arith) (omega arith) (loop .loop .inv .2)),
     )
 
@@ -135,10 +137,10 @@ hex-spec =
     returns
     loop-holds
     shared-slice-read-b
-    digit-requires
+    high-requires
     mul-out
     slice-write-out
-    digit-requires-2
+    low-requires
     mul-out-2
     add-out
     slice-write-out-2

@@ -16,18 +16,19 @@ use Rattle.panels.specs.WellFormed.{WellFormed}
 use Rattle.panels.proofs.Laws.{panels-of-table, count-is, grown}
 use Rattle.panels.proofs.Formed.{empty-formed}
 use Rattle.forms.specs.declared.Form.{Form}
-use Rattle.image_read.specs.declared.Refusal.{Refusal}
-use Rattle.image_read.specs.declared.Refusal.the-variants.{Nothing}
+use Rattle.image_whole.specs.declared.Refusal.{Refusal}
 use Rattle.image_read.specs.declared.Read.{Read}
 use Rattle.image_read.specs.declared.ReadPanel.{ReadPanel}
-use Rattle.image_read.specs.Whole.{formOf, countOf, edge, recordIn, recordsIn}
-use Rattle.image_read.specs.Read.{isSound, readRefusalOf, recordRefusal, refused, readRecords, inTable}
+use Rattle.image_whole.specs.Whole.{formOf, countOf, edge, recordIn, recordsIn}
+use Rattle.image_whole.specs.Refusals.{isSound, readRefusalOf}
+use Rattle.image_read.specs.Read.{recordRefusal, refused, readRecords, inTable}
 use Rattle.image_read.proofs.OnTheWay.{wallWith}
 use Rattle.lists.proofs.Each.{length-each}
-use Rattle.image_read.specs.Private.Marked.{Marks, panelBy}
-use Rattle.image_read.proofs.Edges.{fits, first-edge, edge-less, edge-inside}
+use Rattle.image_record.proofs.Heads.{Marks, none-marked, one-more}
+use Rattle.image_read.specs.Private.Marked.{panelBy}
+use Rattle.image_whole.proofs.Edges.{fits, first-edge, edge-less, edge-inside}
 use Rattle.image_read.proofs.Sound.{formed-with, records-step}
-use Rattle.image_read.proofs.Marked.{none-marked, one-more, refusal-alike, panel-alike}
+use Rattle.image_read.proofs.Marked.{refusal-alike, panel-alike}
 use Rattle.image_read.proofs.records.all.Statement.{statement}
 use Rattle.image_read.proofs.records.all.Tie as tie
 
@@ -125,11 +126,8 @@ part-panel-of-start c = edges c .0
 part-panel-of-end : tie.Need-part-panel-of-end Inv-loop μ-loop
 part-panel-of-end c = edges c .1
 
-slice-aggregate-panel-of : tie.Need-slice-aggregate-panel-of Inv-loop μ-loop
-slice-aggregate-panel-of c = sym (c .before .before .before .before .loop .inv .4)
-
 panel-of-requires : tie.Need-panel-of-requires Inv-loop μ-loop
-panel-of-requires c κs = c .before .before .before .before .loop .inv .4
+panel-of-requires c κs = search needs
 
 refusal-number-requires : tie.Need-refusal-number-requires Inv-loop μ-loop
 refusal-number-requires c κs = search needs
@@ -220,7 +218,6 @@ all-spec =
     sub-panel-of
     part-panel-of-start
     part-panel-of-end
-    slice-aggregate-panel-of
     panel-of-requires
     refusal-number-requires
     empty-table-requires-2

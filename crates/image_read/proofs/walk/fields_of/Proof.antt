@@ -1,27 +1,29 @@
 -- The invariant: the answer is what is left to gather behind the cursor. Assumes nothing.
-use mathlib.Core.Path.{_≡_, refl, sym, ap, _∙_}
+use mathlib.Core.Path.{_≡_, sym, ap, _∙_}
 use mathlib.Core.Bool.{true, false}
 use mathlib.Core.List.{List}
 use Prim.Native.Nat.{ℕ, _+_, _-_, _≤_}
 use native.Mathlib.Nat.{add-assoc}
 use native.Mathlib.Omega.{arith}
 use borrow.Author.Needs.{needs}
-use lib.ListN.{length, take, drop, replicate, length-set, length-take, length-drop}
+use lib.ListN.{length, take, drop, replicate, length-take, length-drop}
 use lib.Seq.{take-all, drop-drop}
 use Rattle.settings.specs.Settings.{byteCount, valuesWith, valueCount, rowCount}
 use Rattle.settings.proofs.Laws.{fresh-count}
 use Rattle.panels.proofs.Values.{length-with}
-use Rattle.image_read.specs.declared.Step.{Step}
-use Rattle.image_read.specs.declared.Step.the-variants.{Field}
-use Rattle.image_read.specs.Fields.{stepAt, fieldsFrom, fieldsIn, valuesIn, afterStep}
-use Rattle.image_read.proofs.OnTheWay.{seenWith, behind}
-use Rattle.image_read.proofs.Steps.{Takes, takes, fields-step}
+use Rattle.image_record.specs.declared.Step.{Step}
+use Rattle.image_record.specs.declared.Step.the-variants.{Field}
+use Rattle.image_record.specs.Field.{stepAt, valuesIn, behind}
+use Rattle.image_read.specs.Fields.{fieldsFrom, fieldsIn, afterStep}
+use Rattle.image_record.proofs.OnTheWay.{seenWith}
+use Rattle.image_record.proofs.Steps.{Stands, stands}
+use Rattle.image_read.proofs.Steps.{fields-step}
 use Rattle.image_read.proofs.walk.fields_of.Statement.{statement}
 use Rattle.image_read.proofs.walk.fields_of.Tie as tie
 
 abbrev Inv-loop : tie.InvT-loop
 Inv-loop form profile bytes values₀ seen₀ at₀ values seen at =
-    (at ≤ length bytes) × (length values ≡ valueCount) × (length seen ≡ rowCount) × (fieldsIn form profile bytes ≡ fieldsFrom form profile seen values (drop at bytes))
+    (at ≤ length bytes) × (length values ≡ valueCount) × (fieldsIn form profile bytes ≡ fieldsFrom form profile seen values (drop at bytes))
 
 abbrev μ-loop : tie.MeasureT-loop
 μ-loop form profile bytes values₀ seen₀ at₀ values seen at = length bytes - at
@@ -46,15 +48,15 @@ goes-on : (c : tie.After-step-at Inv-loop μ-loop) (s : Step) → c .step-at .re
     ≡ afterStep s values (λ row. fieldsFrom (a .form) (a .profile) (seenWith row (loop .loop .seen)) (valuesWith row (valuesIn row left) values) (behind row left))
 goes-on c s e =
     let loop = c .before .before .before .before in
-    loop .loop .inv .3 ∙ fields-step _ _ (loop .loop .seen) (loop .loop .values) _ s (stepped c ∙ e)
+    loop .loop .inv .2 ∙ fields-step _ _ (loop .loop .seen) (loop .loop .values) _ s (stepped c ∙ e)
 
 -- what stands there where a field is taken
 found : (c : tie.After-known-told Inv-loop μ-loop) → let loop = c .before .before .before .before .before .before .before in
     let a = loop .before .before .before .args in
-    Takes (a .form) (a .profile) (loop .loop .seen) (loop .loop .values) (drop (loop .loop .at) (a .bytes .now)) (c .before .step .given .0 .0)
+    Stands true (a .form) (a .profile) (loop .loop .seen) (loop .loop .values) (drop (loop .loop .at) (a .bytes .now)) (c .before .step .given .0 .0)
 found c =
     let call = c .before .before .before in
-    takes _ _ _ _ _ _ (stepped call ∙ c .before .step .given .1)
+    stands _ _ true _ _ _ _ (stepped call ∙ c .before .step .given .1)
 
 room : (c : tie.After-known-told Inv-loop μ-loop) → let loop = c .before .before .before .before .before .before .before in
     loop .loop .at + 2 + byteCount (c .before .step .given .0 .0) ≤ length (loop .before .before .before .args .bytes .now)
@@ -85,7 +87,7 @@ loop-holds c =
     let a = c .before .before .args in
     let fresh = c .fresh .ensures in
     let same = ap (λ (vs : List ℕ). fieldsFrom (a .form) (a .profile) (replicate rowCount false) vs (a .bytes .now)) (sym fresh) in
-    (omega arith, ap length fresh ∙ fresh-count (a .profile), refl, same)
+    (omega arith, ap length fresh ∙ fresh-count (a .profile), same)
 
 sub-step-at : tie.Need-sub-step-at Inv-loop μ-loop
 sub-step-at c = omega (arith, c .loop .inv)
@@ -96,14 +98,8 @@ part-step-at-start c = omega (arith, c .loop .inv)
 part-step-at-end : tie.Need-part-step-at-end Inv-loop μ-loop
 part-step-at-end c = omega (arith, c .loop .inv)
 
-slice-aggregate-step-at : tie.Need-slice-aggregate-step-at Inv-loop μ-loop
-slice-aggregate-step-at c = sym (c .before .before .loop .inv .2)
-
-slice-aggregate-step-at-2 : tie.Need-slice-aggregate-step-at-2 Inv-loop μ-loop
-slice-aggregate-step-at-2 c = sym (c .before .before .before .loop .inv .1)
-
 step-at-requires : tie.Need-step-at-requires Inv-loop μ-loop
-step-at-requires c κs = let loop = c .before .before .before in (loop .loop .inv .2, loop .loop .inv .1)
+step-at-requires c κs = search needs
 
 enum-known-step : tie.Need-enum-known-step Inv-loop μ-loop
 enum-known-step c = search needs
@@ -159,7 +155,6 @@ loop-again c =
     let rest : behind row left ≡ drop (at + 2 + byteCount row) bytes = drop-drop (2 + byteCount row) at bytes ∙ ap (λ (k : ℕ). drop k bytes) (sym (add-assoc at 2 (byteCount row))) in (
       omega (arith, n, room known),
       ap length taken ∙ length-with row (valuesIn row left) values (as-many counted) (loop .loop .inv .1),
-      length-set (loop .loop .seen) row true ∙ loop .loop .inv .2,
       goes-on call (Field row) (known .before .step .given .1) ∙ rw (rest, n, taken),
     )
 
@@ -192,8 +187,6 @@ fields-of-spec =
     sub-step-at
     part-step-at-start
     part-step-at-end
-    slice-aggregate-step-at
-    slice-aggregate-step-at-2
     step-at-requires
     enum-known-step
     add-from

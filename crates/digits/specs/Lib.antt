@@ -1,0 +1,2 @@
+-- What is right of digits.
+pub mod Digits

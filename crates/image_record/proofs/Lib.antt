@@ -1,0 +1,6 @@
+-- `Steps` is what stands at the front of a record's bytes, `Gathering` the values on the way through its fields, `Heads` its
+-- head; `OnTheWay` has a name that they share.
+pub mod OnTheWay
+pub mod Steps
+pub mod Gathering
+pub mod Heads

@@ -1,0 +1,77 @@
+-- Where the records of an image that is sound as a whole begin and end. Assumes nothing.
+use mathlib.Core.Path.{_≡_, refl}
+use mathlib.Core.Bool.{Bool, true, false, cond, false≢true}
+use mathlib.Core.List.{List}
+use Prim.Native.Nat.{ℕ, zero, suc, _+_, _-_, _*_, _≤_, _<_}
+use mathlib.Core.Logic.{⊎-elim}
+use native.Mathlib.Nat.{eq-or-lt-of-le}
+use native.Mathlib.Omega.{arith}
+use borrow.Author.Tests.{ltb-true, ltb-false, eqb-true, le-ltb}
+use lib.Dec.{ltb, eqb}
+use lib.ListN.{length}
+use Rattle.panels.specs.Wall.{mostPanels}
+use Rattle.lists.proofs.Both.{both}
+use Rattle.forms.specs.Forms.{isForm}
+use Rattle.image_whole.specs.declared.Refusal.{Refusal}
+use Rattle.image_whole.specs.declared.Refusal.the-variants.{Nothing, TooShort, OtherForm, TooMany, NoStarts, Starts, Record, Field, Value}
+use Rattle.image_whole.specs.Whole.{lastByte, countOf, startsAt, edge, rises, startsFit, wholeRefusal}
+use Rattle.image_whole.specs.Refusals.{isSound}
+
+pub sound-nothing : (r : Refusal) → isSound r ≡ true → r ≡ Nothing
+sound-nothing Nothing e = refl
+sound-nothing TooShort e = absurd (false≢true e)
+sound-nothing OtherForm e = absurd (false≢true e)
+sound-nothing TooMany e = absurd (false≢true e)
+sound-nothing NoStarts e = absurd (false≢true e)
+sound-nothing Starts e = absurd (false≢true e)
+sound-nothing Record e = absurd (false≢true e)
+sound-nothing Field e = absurd (false≢true e)
+sound-nothing Value e = absurd (false≢true e)
+
+pub record Fits (image : List ℕ) : Type 0 where
+  pub two : 2 ≤ length image
+  pub few : countOf image ≤ mostPanels
+  pub room : 2 * countOf image + 2 ≤ length image
+  pub starts : startsFit image ≡ true
+
+pub fits : (image : List ℕ) → isSound (wholeRefusal image) ≡ true → Fits image
+unfolding wholeRefusal
+fits image e = go _ _ _ _ _ refl refl refl refl refl e
+  where
+    go : (a b c d f : Bool) → ltb (length image) 2 ≡ a → isForm (lastByte image) ≡ b → ltb mostPanels (countOf image) ≡ c
+        → ltb (length image) (2 * countOf image + 2) ≡ d → startsFit image ≡ f
+        → isSound (cond a TooShort (cond b (cond c TooMany (cond d NoStarts (cond f Nothing Starts))) OtherForm)) ≡ true → Fits image
+    go true b c d f ea eb ec ed ef e = absurd (false≢true e)
+    go false false c d f ea eb ec ed ef e = absurd (false≢true e)
+    go false true true d f ea eb ec ed ef e = absurd (false≢true e)
+    go false true false true f ea eb ec ed ef e = absurd (false≢true e)
+    go false true false false false ea eb ec ed ef e = absurd (false≢true e)
+    go false true false false true ea eb ec ed ef e =
+        record { two = ltb-false _ _ ea; few = ltb-false _ _ ec; room = ltb-false _ _ ed; starts = ef }
+
+rising : (image : List ℕ) (k m : ℕ) → rises image k m ≡ true → (j : ℕ) → k ≤ j → j < k + m → edge image j < edge image (suc j)
+unfolding rises
+rising image k zero e j l h = absurd (omega arith)
+rising image k (suc m) e j l h =
+    let t = both _ _ e in
+    ⊎-elim (λ (same : k ≡ j). rw (← same) (ltb-true _ _ (t .0))) (λ (more : k < j). rising image (suc k) m (t .1) j more (omega arith)) (eq-or-lt-of-le l)
+
+module _ {image : List ℕ} (f : Fits image) where
+  pub first-edge : edge image 0 ≡ 0
+  unfolding startsFit
+  first-edge = eqb-true _ _ (both (eqb (edge image 0) 0) (rises image 0 (countOf image)) (f .starts) .0)
+
+  pub edge-less : (k : ℕ) → k < countOf image → edge image k < edge image (suc k)
+  unfolding startsFit
+  edge-less k h = rising image 0 (countOf image) (both (eqb (edge image 0) 0) (rises image 0 (countOf image)) (f .starts) .1) k (omega arith) (omega arith)
+
+  pub last-edge : edge image (countOf image) ≡ startsAt image
+  unfolding edge
+  last-edge = rw (le-ltb (countOf image) (countOf image) (omega arith))
+
+  up-to-last : (m k : ℕ) → k + m ≡ countOf image → edge image k ≤ startsAt image
+  up-to-last zero k e = let same : k ≡ countOf image = omega arith in rw same (omega (arith, last-edge))
+  up-to-last (suc m) k e = omega (arith, edge-less k (omega arith), up-to-last m (suc k) (omega arith))
+
+  pub edge-inside : (k : ℕ) → k ≤ countOf image → edge image k ≤ length image
+  edge-inside k h = omega (arith, up-to-last (countOf image - k) k (omega arith))
