@@ -20,6 +20,7 @@ use Rattle.panels.specs.Wall.{Wall}
 use Rattle.forms.specs.declared.Form.{Form}
 use Rattle.forms.specs.Forms.{hasField}
 use Rattle.image_read.specs.declared.Fields.{Fields}
+use Rattle.image_whole.specs.declared.Refusal.the-variants.{Nothing as Sound}
 use Rattle.image_whole.specs.Whole.{formOf, wholeRefusal, recordsIn}
 use Rattle.image_read.specs.Fields.{fieldsIn}
 use Rattle.image_whole.specs.Refusals.{isSound}

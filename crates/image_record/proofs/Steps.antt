@@ -4,7 +4,7 @@ use mathlib.Core.Bool.{Bool, true, false, cond, not, _&&_, _||_, false≢true}
 use mathlib.Core.List.{List}
 use Prim.Native.Nat.{ℕ, zero, suc, _+_, _≤_, _<_}
 use native.Mathlib.Omega.{arith}
-use borrow.Author.Tests.{ltb-false, eqb-true, eq-eqb, ne-eqb, le-ltb}
+use borrow.Author.Tests.{ltb-false, eqb-true, eqb-false, eq-eqb, ne-eqb, le-ltb}
 use lib.Dec.{ltb, eqb}
 use lib.ListN.{length, getD, replicate, length-drop}
 use lib.Seq.{getD-set-same, getD-set-other}
@@ -121,6 +121,15 @@ module _ (form : Form) (profile : Profile) where
       let found = ap fieldBy (s .code) ∙ field-found (s .in-table) in
       let long = le-ltb (length left) (2 + byteCount row) (s .whole) in
       simp (some, found) (rw (placed form (s .has) (s .free), long, eq-eqb (getD left 1 0) (byteCount row) (s .count), s .allowed))
+
+  -- a broken field has a code at least
+  pub broken-some : (seen : List Bool) (values left : List ℕ) → stepAt form profile seen values left ≡ Broken → 0 < length left
+  unfolding stepAt
+  broken-some seen values left e = go (eqb (length left) 0) refl e
+    where
+      go : (t : Bool) → eqb (length left) 0 ≡ t → cond t End (fieldOf form profile (fieldBy (getD left 0 0)) seen values left) ≡ Broken → 0 < length left
+      go true n e = let z : _≡_ {A = ℕ} 0 1 = cc in absurd (omega arith)
+      go false n e = let some = eqb-false (length left) 0 n in omega arith
 
 -- a field that is there leaves fewer bytes
 pub shorter : {t : Bool} {form : Form} {profile : Profile} {seen : List Bool} {values left : List ℕ} {row : ℕ}

@@ -16,6 +16,7 @@ use Rattle.panels.specs.WellFormed.{WellFormed}
 use Rattle.panels.proofs.Laws.{panels-of-table, count-is, grown}
 use Rattle.panels.proofs.Formed.{empty-formed}
 use Rattle.forms.specs.declared.Form.{Form}
+use Rattle.image_whole.specs.declared.Refusal.the-variants.{Nothing}
 use Rattle.image_whole.specs.declared.Refusal.{Refusal}
 use Rattle.image_read.specs.declared.Read.{Read}
 use Rattle.image_read.specs.declared.ReadPanel.{ReadPanel}

@@ -1,0 +1,23 @@
+-- How long a line can be. Assumes nothing.
+use mathlib.Core.Bool.{Bool, true, false, cond}
+use mathlib.Core.List.{[], _∷_, _++_}
+use Prim.Native.Nat.{ℕ, _+_, _/_, _%_, _≤_}
+use native.Mathlib.Omega.{arith}
+use lib.Dec.{ltb}
+use lib.ListN.{length}
+use Rattle.faults.specs.declared.Fault.{Fault}
+use Rattle.faults.specs.declared.Fault.the-variants.{Dropped, Broken, NotAllowed}
+use Rattle.faults.specs.Lines.{space, lineFeed, faultWords, lineOf, longestLine}
+
+pub line-short : (n : ℕ) (f : Fault) → length (lineOf n f) ≤ longestLine
+unfolding lineOf
+line-short n f = go (ltb n 10) f
+  where
+    go : (t : Bool) (f : Fault)
+        → length (cond t ((48 + n) ∷ []) ((48 + n / 10) ∷ (48 + n % 10) ∷ []) ++ space ∷ (faultWords f ++ lineFeed ∷ [])) ≤ longestLine
+    go true Dropped = omega arith
+    go true (Broken code) = omega arith
+    go true (NotAllowed code) = omega arith
+    go false Dropped = omega arith
+    go false (Broken code) = omega arith
+    go false (NotAllowed code) = omega arith

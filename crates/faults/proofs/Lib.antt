@@ -1,0 +1,2 @@
+-- `Laws` has how long a line can be.
+pub mod Laws

@@ -1,0 +1,100 @@
+// The records of an image that is sound as a whole, one after the other: dropped, or kept as a panel behind the last.
+ghost use mathlib.Core.Path.{_≡_};
+ghost use mathlib.Core.Bool.{true};
+ghost use mathlib.Core.List.{[]};
+ghost use Prim.Native.Nat.{_+_, _*_, _≤_, _<_};
+ghost use lib.ListN.{length};
+ghost use Rattle.lists.specs.Lists.{laidAt, laidOver};
+ghost use Rattle.faults.specs.Lines.{longestLine};
+ghost use Rattle.image_whole.specs.Refusals.{isSound};
+ghost use Rattle.image_whole.specs.Whole.{wholeRefusal};
+ghost use Rattle.image_salvage.specs.Kept.{mostFaults};
+ghost use Rattle.image_salvage.specs.Salvaged.{linesOf, salvageOf, textOf, salvagedAs};
+ghost use Rattle.image_salvage.specs.Private.Marked.{recordBy, faultsBy};
+use crate::KeptRecord;
+use crate::LINES_CAP;
+use crate::Salvaged;
+use crate::fields;
+use faults::Fault;
+use forms::Form;
+use image_record::ID_COUNT;
+use image_whole::Refusal;
+use packet::GroupId;
+use packet::MonitorId;
+use panels::Panel;
+use profiles::Numbered;
+
+// What is kept of the record with this number, behind others whose IDs are marked as seen; its faults are told from a place of
+// the text on.
+fn record(
+    form: Form,
+    number: u8,
+    bytes: &[u8],
+    seen: &[bool; ID_COUNT],
+    lines: &mut [u8],
+    from: usize,
+) -> KeptRecord
+    requires { ⌜ from + mostFaults * longestLine ≤ length (now lines) ⌝ }
+    ensures { λ r. ⌜ r ≡ recordBy form number from (now (seen .entry)) (now (bytes .entry)) ⌝ }
+    ensures { λ _. ⌜ now (lines .exit) ≡ laidAt from (linesOf number (faultsBy form (now (seen .entry)) (now (bytes .entry)))) (now (lines .entry)) ⌝ }
+{
+    let head = image_record::head_in(form, bytes, seen);
+    let Numbered::Known(profile) = head else {
+        let panel = panels::blank_panel();
+        let next = fields::tell(number, Fault::Dropped, lines, from);
+        return KeptRecord {
+            kept: false,
+            panel,
+            next,
+        };
+    };
+    let behind = &bytes[forms::head_size(form)..];
+    let fields = fields::kept(form, profile, number, behind, lines, from);
+    let values = fields.values;
+    let next = fields.next;
+    let panel = Panel {
+        id: MonitorId(bytes[0]),
+        group: GroupId(bytes[1]),
+        profile,
+        values,
+    };
+    KeptRecord {
+        kept: true,
+        panel,
+        next,
+    }
+}
+
+// All records, in order.
+pub fn all(image: &[u8], lines: &mut [u8; LINES_CAP]) -> Salvaged
+    requires { ⌜ isSound (wholeRefusal (now image)) ≡ true ⌝ }
+    ensures { λ r. ⌜ r ≡ salvagedAs (now (image .entry)) ⌝ }
+    ensures { λ _. ⌜ now (lines .exit) ≡ laidOver (textOf (salvageOf (now (image .entry)))) (now (lines .entry)) ⌝ }
+{
+    let form = image_whole::form_of(image);
+    let n = image_whole::count_of(image);
+    let mut t = panels::empty_table();
+    let mut seen = [false; ID_COUNT];
+    let mut start = 0;
+    let mut next = 0;
+    let mut k = 0;
+    while k < n {
+        let end = image_whole::edge_at(image, n, k + 1);
+        k += 1;
+        let record = record(form, k as u8, &image[start..end], &seen, lines, next);
+        start = end;
+        next = record.next;
+        if record.kept {
+            let panel = record.panel;
+            seen[panel.id.0 as usize] = true;
+            let count = t.count;
+            t.panels[count] = panel;
+            t.count = count + 1;
+        }
+    }
+    Salvaged {
+        refusal: Refusal::Nothing,
+        table: t,
+        told: next,
+    }
+}
