@@ -1,7 +1,7 @@
 -- The walk over a record's fields, step by step. Assumes nothing.
 use mathlib.Core.Path.{_≡_, refl, sym, ap, _∙_}
 use mathlib.Core.Bool.{Bool, false}
-use mathlib.Core.List.{List, [], _∷_, _++_, flatten}
+use mathlib.Core.List.{List, [], _∷_, _++_, append-nil, flatten}
 use Prim.Native.Nat.{ℕ, zero, suc, _+_, _≤_}
 use lib.ListN.{length, getD}
 use Rattle.settings.specs.declared.Profile.{Profile}
@@ -28,6 +28,9 @@ lines-more number fault faults = refl
 pub lines-none : (number : ℕ) → linesOf number [] ≡ []
 unfolding linesOf flatten
 lines-none number = refl
+
+pub lines-one : (number : ℕ) (fault : Fault) → linesOf number (fault ∷ []) ≡ lineOf number fault
+lines-one number fault = lines-more number fault [] ∙ rw (lines-none number) (append-nil (lineOf number fault))
 
 module _ (form : Form) (profile : Profile) (n : ℕ) (seen : List Bool) (values left : List ℕ) where
   pub kept-step : (s : Step) → stepAt form profile seen values left ≡ s
