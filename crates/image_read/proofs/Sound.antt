@@ -24,7 +24,7 @@ use Rattle.forms.specs.Forms.{headSize, profileIn, hasField}
 use Rattle.image_whole.specs.declared.Refusal.the-variants.{Record}
 use Rattle.image_whole.specs.Refusals.{isSound}
 use Rattle.image_whole.specs.Whole.{formOf, countOf, recordIn, recordsIn, wholeRefusal}
-use Rattle.image_whole.proofs.Edges.{fits}
+use Rattle.image_whole.proofs.Edges.{fits, record-next}
 use Rattle.image_record.specs.declared.Step.{Step}
 use Rattle.image_record.specs.declared.Step.the-variants.{Field, NotAllowed, Broken, End}
 use Rattle.image_record.specs.Head.{idIn, headIn}
@@ -100,11 +100,8 @@ pub records-step : (form : Form) (image : List ℕ) (w : Wall) (k : ℕ) → k <
     → readRecords form w (drop k (recordsIn image))
     ≡ cond (isSound (recordRefusal form w (recordIn image k))) (readRecords form (wallWith form w (recordIn image k)) (drop (k + 1) (recordsIn image)))
     (refused (recordRefusal form w (recordIn image k)))
-unfolding readRecords recordsIn
-records-step form image w k h =
-    let ls = each (recordIn image) (countOf image) in
-    let n = length-each (recordIn image) (countOf image) in
-    rw (drop-cons ls k [] (omega arith), in-each (recordIn image) (countOf image) {k = k} [] h, add-one)
+unfolding readRecords
+records-step form image w k h = rw (record-next image k h)
 
 records-formed : (form : Form) (w : Wall) (records : List (List ℕ)) → length w + length records ≤ mostPanels → GoodWall w → WellFormed (tableOf (readRecords form w records .wall))
 unfolding readRecords

@@ -1,5 +1,8 @@
--- `Laying` is text laid piece behind piece where what is to come is known, `Walk` the walk over a
--- record's fields, `Loop` that walk as the code comes round.
+-- `Laying` is text laid piece behind piece where what is to come is known, `Walk` the walk over a record's fields, `Bounds` how
+-- many faults it can tell, `Loop` that walk as the code comes round. The theorems: `Sound` that what is kept is well-formed.
 pub mod Laying
 pub mod Walk
+pub mod Bounds
 pub mod Loop
+pub mod Sound
+pub mod Rounds

@@ -1,20 +1,24 @@
 -- Where the records of an image that is sound as a whole begin and end. Assumes nothing.
 use mathlib.Core.Path.{_≡_, refl}
 use mathlib.Core.Bool.{Bool, true, false, cond, false≢true}
-use mathlib.Core.List.{List}
+use mathlib.Core.List.{List, [], _∷_}
 use Prim.Native.Nat.{ℕ, zero, suc, _+_, _-_, _*_, _≤_, _<_}
 use mathlib.Core.Logic.{⊎-elim}
 use native.Mathlib.Nat.{eq-or-lt-of-le}
+use native.Mathlib.Numerals.{add-one}
 use native.Mathlib.Omega.{arith}
 use borrow.Author.Tests.{ltb-true, ltb-false, eqb-true, le-ltb}
 use lib.Dec.{ltb, eqb}
-use lib.ListN.{length}
+use lib.ListN.{length, drop}
+use lib.Seq.{drop-cons}
 use Rattle.panels.specs.Wall.{mostPanels}
+use Rattle.lists.specs.Lists.{each}
 use Rattle.lists.proofs.Both.{both}
+use Rattle.lists.proofs.Each.{in-each, length-each}
 use Rattle.forms.specs.Forms.{isForm}
 use Rattle.image_whole.specs.declared.Refusal.{Refusal}
 use Rattle.image_whole.specs.declared.Refusal.the-variants.{Nothing, TooShort, OtherForm, TooMany, NoStarts, Starts, Record, Field, Value}
-use Rattle.image_whole.specs.Whole.{lastByte, countOf, startsAt, edge, rises, startsFit, wholeRefusal}
+use Rattle.image_whole.specs.Whole.{lastByte, countOf, startsAt, edge, rises, startsFit, wholeRefusal, recordIn, recordsIn}
 use Rattle.image_whole.specs.Refusals.{isSound}
 
 pub sound-nothing : (r : Refusal) → isSound r ≡ true → r ≡ Nothing
@@ -55,6 +59,18 @@ rising image k zero e j l h = absurd (omega arith)
 rising image k (suc m) e j l h =
     let t = both _ _ e in
     ⊎-elim (λ (same : k ≡ j). rw (← same) (ltb-true _ _ (t .0))) (λ (more : k < j). rising image (suc k) m (t .1) j more (omega arith)) (eq-or-lt-of-le l)
+
+-- the records from one on
+pub record-next : (image : List ℕ) (k : ℕ) → k < countOf image → drop k (recordsIn image) ≡ recordIn image k ∷ drop (k + 1) (recordsIn image)
+unfolding recordsIn
+record-next image k h =
+    let ls = each (recordIn image) (countOf image) in
+    let n = length-each (recordIn image) (countOf image) in
+    rw (drop-cons ls k [] (omega arith), in-each (recordIn image) (countOf image) {k = k} [] h, add-one)
+
+pub record-count : (image : List ℕ) → length (recordsIn image) ≡ countOf image
+unfolding recordsIn
+record-count image = length-each (recordIn image) (countOf image)
 
 module _ {image : List ℕ} (f : Fits image) where
   pub first-edge : edge image 0 ≡ 0

@@ -19,8 +19,8 @@ faultsBy form seen bytes =
     ifKnown (headIn form (marked seen) bytes) (λ profile. keptOf form profile (drop (headSize form) bytes) .faults) (Dropped ∷ [])
 
 unfoldable pub recordBy : Form → ℕ → ℕ → List Bool → List ℕ → KeptRecord
-recordBy form number from seen bytes =
-    let next = from + length (linesOf number (faultsBy form seen bytes)) in
-    ifKnown (headIn form (marked seen) bytes)
-    (λ profile. record { kept = true; panel = headed bytes profile (keptOf form profile (drop (headSize form) bytes) .values); next = next })
-    (record { kept = false; panel = blank; next = next })
+recordBy form number from seen bytes = record {
+  kept = ifKnown (headIn form (marked seen) bytes) (λ profile. true) false;
+  panel = ifKnown (headIn form (marked seen) bytes) (λ profile. headed bytes profile (keptOf form profile (drop (headSize form) bytes) .values)) blank;
+  next = from + length (linesOf number (faultsBy form seen bytes));
+}
