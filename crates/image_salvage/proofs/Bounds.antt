@@ -1,5 +1,4 @@
 -- How many faults a record can have, and how long its lines are. Assumes nothing.
-use mathlib.Core.Path.{_≡_}
 use mathlib.Core.Bool.{Bool}
 use mathlib.Core.List.{List, [], _∷_}
 use Prim.Native.Nat.{ℕ, zero, suc, _*_, _≤_}
@@ -15,7 +14,7 @@ use Rattle.image_record.specs.declared.Step.{Step}
 use Rattle.image_record.specs.declared.Step.the-variants.{Field, NotAllowed, Broken, End}
 use Rattle.image_record.specs.Field.{valuesIn, behind, stepAt}
 use Rattle.image_record.proofs.OnTheWay.{seenWith}
-use Rattle.image_salvage.specs.Kept.{Kept, keptBy, keptFrom}
+use Rattle.image_salvage.specs.Kept.{keptBy, keptFrom}
 use Rattle.image_salvage.specs.Salvaged.{linesOf}
 use Rattle.image_salvage.proofs.Walk.{lines-more, lines-none}
 

@@ -1,7 +1,7 @@
 -- What is so each time the walk over a record's fields comes round, and what it comes to. Assumes nothing.
 use mathlib.Core.Path.{_≡_, refl, sym, ap, subst, _∙_}
 use mathlib.Core.Bool.{Bool, true, false}
-use mathlib.Core.List.{List, [], _∷_, _++_, append-nil}
+use mathlib.Core.List.{List, [], _∷_, _++_}
 use Prim.Native.Nat.{ℕ, suc, _+_, _-_, _*_, _≤_, _<_}
 use native.Mathlib.Nat.{add-assoc, add-zero}
 use native.Mathlib.Omega.{arith}
@@ -15,7 +15,6 @@ use Rattle.faults.specs.declared.Fault.{Fault}
 use Rattle.faults.specs.declared.Fault.the-variants.{Broken as BrokenCode, NotAllowed as NotAllowedCode}
 use Rattle.faults.specs.Lines.{lineOf, longestLine}
 use Rattle.faults.proofs.Laws.{line-short}
-use Rattle.image_record.specs.declared.Step.{Step}
 use Rattle.image_record.specs.declared.Step.the-variants.{Field, NotAllowed, Broken, End}
 use Rattle.image_record.specs.Field.{valuesIn, behind, stepAt}
 use Rattle.image_record.proofs.OnTheWay.{seenWith}

@@ -1,8 +1,8 @@
 -- What is so each time the loop over an image's records comes round, and what it comes to. Assumes nothing.
 use mathlib.Core.Path.{_≡_, refl, sym, ap, subst, _∙_}
-use mathlib.Core.Bool.{Bool, true, false, cond, false≢true}
+use mathlib.Core.Bool.{Bool, true, false, false≢true}
 use mathlib.Core.List.{List, [], _∷_, _++_}
-use Prim.Native.Nat.{ℕ, suc, _+_, _*_, _≤_, _<_}
+use Prim.Native.Nat.{ℕ, _+_, _*_, _≤_, _<_}
 use native.Mathlib.Nat.{zero-add}
 use native.Mathlib.Numerals.{add-one}
 use native.Mathlib.Omega.{arith}
@@ -26,10 +26,9 @@ use Rattle.forms.specs.Forms.{headSize}
 use Rattle.faults.specs.declared.Fault.{Fault}
 use Rattle.faults.specs.declared.Fault.the-variants.{Dropped}
 use Rattle.faults.specs.Lines.{longestLine}
-use Rattle.image_whole.specs.Refusals.{isSound}
-use Rattle.image_whole.specs.Whole.{formOf, countOf, edge, wholeRefusal, recordIn, recordsIn}
+use Rattle.image_whole.specs.Whole.{formOf, countOf, edge, recordIn, recordsIn}
 use Rattle.image_whole.proofs.Edges.{Fits, first-edge, record-next, record-count}
-use Rattle.image_record.specs.Head.{idIn, marked, headIn, headed}
+use Rattle.image_record.specs.Head.{marked, headIn, headed}
 use Rattle.image_record.proofs.Heads.{Marks, none-marked, one-more as one-marked, head-alike}
 use Rattle.image_salvage.specs.declared.KeptRecord.{KeptRecord}
 use Rattle.image_salvage.specs.Kept.{keptOf, mostFaults}

@@ -1,5 +1,5 @@
 -- What is kept is in range, and each panel that is kept is good behind the wall. Assumes nothing.
-use mathlib.Core.Path.{_≡_, refl, sym, ap, subst, _∙_}
+use mathlib.Core.Path.{_≡_, refl, sym, subst}
 use mathlib.Core.Bool.{Bool, true, false, cond}
 use mathlib.Core.List.{List, [], _∷_, _++_}
 use Prim.Native.Nat.{ℕ, zero, suc, _+_, _≤_}
@@ -14,7 +14,6 @@ use Rattle.panels.proofs.Formed.{formed, empty-formed}
 use Rattle.panels.proofs.Values.{InRange}
 use Rattle.forms.specs.declared.Form.{Form}
 use Rattle.forms.specs.Forms.{headSize}
-use Rattle.faults.specs.declared.Fault.{Fault}
 use Rattle.faults.specs.declared.Fault.the-variants.{Dropped}
 use Rattle.image_whole.specs.Refusals.{isSound}
 use Rattle.image_whole.specs.Whole.{formOf, recordsIn, wholeRefusal}

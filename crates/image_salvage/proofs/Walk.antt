@@ -2,22 +2,22 @@
 use mathlib.Core.Path.{_≡_, refl, sym, ap, _∙_}
 use mathlib.Core.Bool.{Bool, false}
 use mathlib.Core.List.{List, [], _∷_, _++_, append-nil, flatten}
-use Prim.Native.Nat.{ℕ, zero, suc, _+_, _≤_}
-use lib.ListN.{length, getD}
+use Prim.Native.Nat.{ℕ, suc}
+use lib.ListN.{getD}
 use Rattle.settings.specs.declared.Profile.{Profile}
-use Rattle.settings.specs.Settings.{freshValues, valuesOf, valuesWith}
+use Rattle.settings.specs.Settings.{valuesWith}
 use Rattle.panels.proofs.Values.{with-own}
 use Rattle.forms.specs.declared.Form.{Form}
 use Rattle.faults.specs.declared.Fault.{Fault}
-use Rattle.faults.specs.declared.Fault.the-variants.{Broken as BrokenCode, NotAllowed as NotAllowedCode}
+use Rattle.faults.specs.declared.Fault.the-variants.{NotAllowed as NotAllowedCode}
 use Rattle.faults.specs.Lines.{lineOf}
 use Rattle.image_record.specs.declared.Step.{Step}
-use Rattle.image_record.specs.declared.Step.the-variants.{Field, NotAllowed, Broken, End}
-use Rattle.image_record.specs.Field.{valuesIn, behind, stepAt}
+use Rattle.image_record.specs.declared.Step.the-variants.{NotAllowed}
+use Rattle.image_record.specs.Field.{behind, stepAt}
 use Rattle.image_record.proofs.OnTheWay.{seenWith}
 use Rattle.image_record.proofs.Steps.{stands}
 use Rattle.image_record.proofs.Gathering.{Gathering}
-use Rattle.image_salvage.specs.Kept.{Kept, telling, keptBy, keptFrom}
+use Rattle.image_salvage.specs.Kept.{telling, keptBy, keptFrom}
 use Rattle.image_salvage.specs.Salvaged.{linesOf}
 
 -- the lines of a fault and of those behind it

@@ -32,8 +32,8 @@ salvagedFrom form w [] = record { wall = w; faults = [] }
 salvagedFrom form w (bytes ∷ records) =
     ifKnown (headIn form (idIn w) bytes)
     (λ profile.
-        let kept = keptOf form profile (drop (headSize form) bytes) in
-        behindFaults (kept .faults) (salvagedFrom form (w ++ headed bytes profile (kept .values) ∷ []) records))
+    let kept = keptOf form profile (drop (headSize form) bytes) in
+    behindFaults (kept .faults) (salvagedFrom form (w ++ headed bytes profile (kept .values) ∷ []) records))
     (behindFaults (Dropped ∷ []) (salvagedFrom form w records))
 
 -- nothing of an image that 11 to 15 refuse

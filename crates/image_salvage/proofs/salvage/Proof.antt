@@ -1,34 +1,42 @@
+-- An image that is refused as a whole keeps nothing; otherwise its records decide. Assumes nothing.
+use mathlib.Core.Path.{_≡_, refl, sym, ap, ap₂, _∙_}
+use mathlib.Core.Bool.{true}
 use borrow.Author.Needs.{needs}
+use borrow.Author.Tests.{eq-eqb, ne-eqb}
+use Rattle.lists.specs.Lists.{laidOver}
+use Rattle.panels.specs.declared.Table.{Table}
+use Rattle.image_whole.specs.declared.Refusal.{Refusal}
+use Rattle.image_whole.specs.Refusals.{isSound, readRefusalOf}
+use Rattle.image_whole.specs.Whole.{wholeRefusal}
+use Rattle.image_salvage.specs.declared.Salvaged.{Salvaged}
+use Rattle.image_salvage.specs.Salvaged.{salvageOf, textFrom}
 use Rattle.image_salvage.proofs.salvage.Statement.{statement}
 use Rattle.image_salvage.proofs.salvage.Tie as tie
-use Rattle.image_salvage.proofs.salvage.Reads as reads
-use Rattle.image_salvage.proofs.salvage.Lts as lts
-use Rattle.image_salvage.proofs.records.all.Reads as all-reads
-use Rattle.image_whole.proofs.refusal_number.Reads as refusal-number-reads
-use Rattle.image_whole.proofs.refusal_of.Reads as refusal-of-reads
-use Rattle.panels.proofs.empty_table.Reads as empty-table-reads
 
--- src/lib.rt:47:9
+-- past the test the image is sound as a whole
+sound : (c : tie.Else1) → isSound (wholeRefusal (c .before .before .before .before .args .image .now)) ≡ true
+sound c = eq-eqb _ 0 (sym (c .before .refusal-number .ensures ∙ ap readRefusalOf (c .before .before .refusal-of .ensures)) ∙ c .if1 .left)
+
 refusal-of-requires : tie.Need-refusal-of-requires
 refusal-of-requires c κs = search needs
 
--- src/lib.rt:48:8
 refusal-number-requires : tie.Need-refusal-number-requires
 refusal-number-requires c κs = search needs
 
--- src/lib.rt:49:13
 empty-table-requires : tie.Need-empty-table-requires
 empty-table-requires c κs = search needs
 
--- src/lib.rt:50:9
 returns : tie.Need-returns
-returns c = ?
+unfolding salvageOf textFrom laidOver
+returns c =
+    let number = c .before .before in
+    let refusal = number .before .refusal-of .ensures in
+    let no = ne-eqb _ 0 (λ e. c .before .if1 .taken (number .refusal-number .ensures ∙ ap readRefusalOf refusal ∙ e)) in
+    rw no (ap₂ {C = Salvaged} (λ (r : Refusal) (t : Table). record { refusal = r; table = t; told = 0 }) refusal (c .empty-table .ensures), refl)
 
--- src/lib.rt:56:5
 all-requires : tie.Need-all-requires
-all-requires c κs = ?
+all-requires c κs = sound (c .before)
 
--- src/lib.rt:43:1
 returns-2 : tie.Need-returns-2
 returns-2 c = search needs
 

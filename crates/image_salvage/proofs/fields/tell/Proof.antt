@@ -4,10 +4,9 @@ use mathlib.Core.List.{List, _++_}
 use Prim.Native.Nat.{ℕ, _+_, _-_, _≤_}
 use native.Mathlib.Omega.{arith}
 use borrow.Author.Needs.{needs}
-use borrow.Rule.Slice.PartMut.{midOf, putMid, same-len-mid}
+use borrow.Rule.Slice.PartMut.{midOf, putMid}
 use lib.ListN.{length, take, drop, length-append, length-take, length-drop}
 use lib.Seq.{take-at}
-use Rattle.lists.specs.Lists.{laidAt}
 use Rattle.lists.proofs.Laid.{laid-copy}
 use Rattle.faults.specs.declared.Line.{Line}
 use Rattle.faults.specs.Lines.{lineOf, longestLine}

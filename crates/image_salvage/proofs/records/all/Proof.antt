@@ -1,8 +1,7 @@
 -- The invariant: the records that are left come to what all come to. Assumes nothing.
-use mathlib.Core.Path.{_≡_, sym, ap, ap₂, subst, _∙_}
-use mathlib.Core.Bool.{true, false}
+use mathlib.Core.Path.{_≡_, sym, ap, ap₂, _∙_}
 use mathlib.Core.List.{List}
-use Prim.Native.Nat.{ℕ, suc, _+_, _-_, _*_, _≤_, _<_}
+use Prim.Native.Nat.{ℕ, suc, _+_, _-_, _≤_, _<_}
 use native.Mathlib.Numerals.{add-one}
 use native.Mathlib.Omega.{arith}
 use borrow.Author.Needs.{needs}
@@ -10,7 +9,6 @@ use lib.ListN.{length, take, drop}
 use Rattle.lists.specs.Lists.{laidAt}
 use Rattle.forms.specs.declared.Form.{Form}
 use Rattle.panels.specs.declared.Table.{Table}
-use Rattle.panels.specs.Wall.{mostPanels}
 use Rattle.panels.proofs.Laws.{count-is}
 use Rattle.image_whole.specs.declared.Refusal.the-variants.{Nothing}
 use Rattle.image_whole.specs.Whole.{formOf, countOf, edge, wholeRefusal, recordIn}
@@ -75,7 +73,7 @@ read c =
     ap₂ (λ (e s : ℕ). take (e - s) (drop s image)) next (loop .loop .inv .place) in (
       c .«record» .ensures .0 ∙ ap₂ (λ (f : Form) (b : List ℕ). recordBy f (k + 1) (loop .loop .next) (loop .loop .seen) b) form part,
       c .«record» .ensures .1
-      ∙ ap₂ (λ (f : Form) (b : List ℕ). laidAt (loop .loop .next) (linesOf (k + 1) (faultsBy f (loop .loop .seen) b)) (loop .loop .lines)) form part,
+          ∙ ap₂ (λ (f : Form) (b : List ℕ). laidAt (loop .loop .next) (linesOf (k + 1) (faultsBy f (loop .loop .seen) b)) (loop .loop .lines)) form part,
     )
 
 form-of-requires : tie.Need-form-of-requires Inv-loop μ-loop

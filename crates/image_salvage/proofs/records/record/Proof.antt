@@ -1,7 +1,7 @@
 -- A head that misfits drops the record; otherwise the fields behind it decide. Assumes nothing.
 use mathlib.Core.Path.{_≡_, sym, ap, ap₂, _∙_}
 use mathlib.Core.Bool.{true, false}
-use mathlib.Core.List.{List, [], _∷_}
+use mathlib.Core.List.{List}
 use Prim.Native.Nat.{ℕ, _+_, _-_, _≤_}
 use native.Mathlib.Omega.{arith}
 use borrow.Author.Needs.{needs}
@@ -56,27 +56,21 @@ behind c =
 head-in-requires : tie.Need-head-in-requires
 head-in-requires c κs = search needs
 
--- src/records.rt:42:25
 enum-known-head : tie.Need-enum-known-head
 enum-known-head c = search needs
 
--- src/records.rt:43:13
 enum-told : tie.Need-enum-told
 enum-told c = search needs
 
--- src/records.rt:43:13
 blank-panel-requires : tie.Need-blank-panel-requires
 blank-panel-requires c κs = search needs
 
--- src/records.rt:44:13
 tell-requires : tie.Need-tell-requires
 tell-requires c κs = search needs
 
--- src/records.rt:45:9
 same-length : tie.Need-same-length
 same-length c = search needs
 
--- src/records.rt:45:9
 returns : tie.Need-returns
 unfolding faultsBy recordBy
 returns c =
@@ -88,41 +82,32 @@ returns c =
     rw (unknown, lines-one (a .number) Dropped)
     (ap₂ {C = KeptRecord} (λ (p : Panel) (n : ℕ). record { kept = false; panel = p; next = n }) (tell .before .before .blank-panel .ensures) (tell .tell .ensures .0), tell .tell .ensures .1)
 
--- src/records.rt:51:25
 head-size-requires : tie.Need-head-size-requires
 head-size-requires c κs = search needs
 
--- src/records.rt:51:18
 sub-behind : tie.Need-sub-behind
 sub-behind c = omega (arith, c .head-size .ensures, whole (c .before))
 
--- src/records.rt:51:18
 part-behind-start : tie.Need-part-behind-start
 part-behind-start c = omega (arith, c .head-size .ensures, whole (c .before))
 
--- src/records.rt:51:18
 part-behind-end : tie.Need-part-behind-end
 part-behind-end c = search needs
 
--- src/records.rt:52:9
 kept-requires : tie.Need-kept-requires
 kept-requires c κs = search needs
 
--- src/records.rt:56:23
 shared-slice-read-t26 : tie.Need-shared-slice-read-t26
 shared-slice-read-t26 c =
     let told = c .before .before .before .before .before .before .before .before in omega (arith, whole told, head-some (start told .args .form))
 
--- src/records.rt:57:24
 shared-slice-read-t29 : tie.Need-shared-slice-read-t29
 shared-slice-read-t29 c =
     let told = c .before .before .before .before .before .before .before .before .before in omega (arith, whole told, head-some (start told .args .form))
 
--- src/records.rt:29:1
 same-length-2 : tie.Need-same-length-2
 same-length-2 c = search needs
 
--- src/records.rt:29:1
 returns-2 : tie.Need-returns-2
 unfolding faultsBy recordBy
 returns-2 c =
