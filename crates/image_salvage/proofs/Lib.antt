@@ -6,3 +6,4 @@ pub mod Bounds
 pub mod Loop
 pub mod Sound
 pub mod Rounds
+pub mod Told

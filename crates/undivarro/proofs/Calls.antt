@@ -47,14 +47,14 @@ module _ (image : List ℕ) (read : Read) (is-read : read ≡ inTable (readOf im
   pub wall-read : panelsOf (read .table) ≡ readOf image .wall
   wall-read = ap (λ (r : Read). panelsOf (r .table)) is-read ∙ panels-of-table (readOf image .wall)
 
-  module _ (form : Form) (answer out : ℕ) (held room : Bool) (is-held : held ≡ losesNothing form (panelsOf (read .table)))
-      (is-room : room ≡ (leb longest answer && leb (sizeOf form (panelsOf (read .table))) out)) (n : ℕ) (is-refusal : n ≡ refusalFor (read .refusal) held room) where
-    pub refusal-is : n ≡ refusalFor (readOf image .refusal) (losesNothing form (readOf image .wall)) (leb longest answer && leb (sizeOf form (readOf image .wall)) out)
+  module _ (form : Form) (least answer out : ℕ) (held room : Bool) (is-held : held ≡ losesNothing form (panelsOf (read .table)))
+      (is-room : room ≡ (leb least answer && leb (sizeOf form (panelsOf (read .table))) out)) (n : ℕ) (is-refusal : n ≡ refusalFor (read .refusal) held room) where
+    pub refusal-is : n ≡ refusalFor (readOf image .refusal) (losesNothing form (readOf image .wall)) (leb least answer && leb (sizeOf form (readOf image .wall)) out)
     refusal-is =
         is-refusal ∙ ap (λ (r : Read). refusalFor (r .refusal) held room) is-read
-        ∙ ap₂ (refusalFor (readOf image .refusal)) (is-held ∙ ap (losesNothing form) wall-read) (is-room ∙ ap (λ (w : Wall). leb longest answer && leb (sizeOf form w) out) wall-read)
+        ∙ ap₂ (refusalFor (readOf image .refusal)) (is-held ∙ ap (losesNothing form) wall-read) (is-room ∙ ap (λ (w : Wall). leb least answer && leb (sizeOf form w) out) wall-read)
 
-    pub enough : n ≡ 0 → (losesNothing form (readOf image .wall) ≡ true) × ((longest ≤ answer) × (sizeOf form (readOf image .wall) ≤ out))
+    pub enough : n ≡ 0 → (losesNothing form (readOf image .wall) ≡ true) × ((least ≤ answer) × (sizeOf form (readOf image .wall) ≤ out))
     enough z =
         let (held, room) = all-there (readOf image .refusal) _ _ (sym refusal-is ∙ z) in
         let (a, b) = both _ _ room in

@@ -1,11 +1,12 @@
 -- What a call from C leaves: four numbers, and every byte of both buffers. 01, "For C"; 02, A2: play and read write form 2, and
--- back writes form 1; 02, A3: play tells what is wrong with the burst.
+-- back writes form 1; 02, A3: play tells what is wrong with the burst; 02, A7.
 use Prim.Native.Nat.{ℕ}
-use mathlib.Core.Bool.{Bool, cond, _&&_}
+use mathlib.Core.Bool.{Bool, true, cond, _&&_}
 use mathlib.Core.List.{List, []}
 use lib.Dec.{leb, eqb}
 use lib.ListN.{length, replicate}
 use Rattle.packet.specs.declared.Damage.{Damage}
+use Rattle.packet.specs.declared.Damage.the-variants.{Nothing}
 use Rattle.packet.specs.Packet.{longest, damageOf, damageNumber}
 use Rattle.lists.specs.Lists.{laidOver}
 use Rattle.answers.specs.Reply.{sentBytes}
@@ -16,6 +17,8 @@ use Rattle.forms.specs.declared.Form.the-variants.{One, Two}
 use Rattle.image_write.specs.Written.{setupOf, sizeOf, losesNothing}
 use Rattle.image_whole.specs.Refusals.{isSound, readRefusalOf}
 use Rattle.image_read.specs.Read.{readOf}
+use Rattle.image_whole.specs.Whole.{wholeRefusal}
+use Rattle.image_salvage.specs.Salvaged.{salvageOf, textOf, linesCap}
 use Rattle.undivarro.specs.declared.Outcome.{Outcome}
 
 pub record After : Type 0 where
@@ -64,3 +67,12 @@ afterRead = afterMove Two
 
 abbrev pub afterBack : List ℕ → List ℕ → After
 afterBack = afterMove One
+
+-- What is kept of an image that passes 11 to 15, in form 2, and the text of its lines (02, A7). There is room where the lines'
+-- buffer has it for those of any image, and the output for the image of what is kept.
+unfoldable pub afterSalvage : List ℕ → List ℕ → List ℕ → After
+afterSalvage image lines out =
+    let s = salvageOf image in
+    let room = leb linesCap (length lines) && leb (sizeOf Two (s .wall)) (length out) in
+    let n = refusalFor (wholeRefusal image) true room in
+    cond (eqb n 0) (given (textOf s) (setupOf Two (s .wall)) Nothing lines out) (refused n lines out)

@@ -1,19 +1,21 @@
-// The exported functions, for C: a setup image read, a burst played on it, and the setup written out again.
+// The exported functions, for C: a setup image read, a burst played on it, and the setup written out again; or what can be kept
+// of an image that the reader refuses.
 ghost use mathlib.Core.Path.{_≡_};
 ghost use Prim.Native.Nat.{_≤_};
 ghost use mathlib.Core.Bool.{true, _&&_};
 ghost use lib.Dec.{leb};
-ghost use lib.ListN.{length};
+ghost use lib.ListN.{length, take};
 ghost use Rattle.packet.specs.Packet.{longest};
 ghost use Rattle.lists.specs.Lists.{laidOver};
 ghost use Rattle.panels.specs.Wall.{panelsOf};
 ghost use Rattle.panels.specs.WellFormed.{WellFormed};
 ghost use Rattle.answers.specs.Reply.{sentBytes};
 ghost use Rattle.image_write.specs.Written.{sizeOf, setupOf, losesNothing};
-ghost use Rattle.undivarro.specs.Calls.{refusedBy, refusalFor, afterMove, afterPlay, afterRead, afterBack};
+ghost use Rattle.undivarro.specs.Calls.{refusedBy, refusalFor, afterMove, afterPlay, afterRead, afterBack, afterSalvage};
 use answers::Reply;
 use answers::Sent;
 use forms::Form;
+use image_salvage::LINES_CAP;
 use image_whole::Refusal;
 use image_write::Written;
 use packet::LONGEST;
@@ -29,12 +31,12 @@ pub struct Outcome {
     pub damage: u32,
 }
 
-// Room for any answer, and for a table's image.
-fn has_room(form: Form, t: Table, answer: usize, out: usize) -> bool
+// Room for any answer or for any lines, which is at least so much, and for a table's image.
+fn has_room(form: Form, t: Table, least: usize, answer: usize, out: usize) -> bool
     requires { ⌜ WellFormed t ⌝ }
-    ensures { λ r. ⌜ r ≡ (leb longest answer && leb (sizeOf form (panelsOf t)) out) ⌝ }
+    ensures { λ r. ⌜ r ≡ (leb least answer && leb (sizeOf form (panelsOf t)) out) ⌝ }
 {
-    if answer < LONGEST {
+    if answer < least {
         return false;
     }
     image_write::size_of(form, t) <= out
@@ -93,6 +95,14 @@ fn put_setup(form: Form, t: Table, out: &mut [u8]) -> u32
     }
 }
 
+// The first bytes of a text at the front of an output.
+fn put_text(text: &[u8], told: usize, out: &mut [u8])
+    requires { ⌜ (told ≤ length (now text)) × (told ≤ length (now out)) ⌝ }
+    ensures { λ _. ⌜ now (out .exit) ≡ laidOver (take told (now (text .entry))) (now (out .entry)) ⌝ }
+{
+    bytes::copy(&text[..told], out);
+}
+
 // A setup image of either form read, and its table written in a form.
 fn moved(form: Form, image: &[u8], out: &mut [u8]) -> Outcome
     ensures { λ r. ⌜ r ≡ afterMove form (now (image .entry)) (now (out .entry)) .outcome ⌝ }
@@ -102,7 +112,7 @@ fn moved(form: Form, image: &[u8], out: &mut [u8]) -> Outcome
     let table = read.table;
     let why = read.refusal;
     let held = image_write::loses_nothing(form, table);
-    let refusal = refusal_for(why, held, has_room(form, table, LONGEST, out.len()));
+    let refusal = refusal_for(why, held, has_room(form, table, LONGEST, LONGEST, out.len()));
     if refusal != 0 {
         return refused(refusal);
     }
@@ -130,7 +140,7 @@ pub extern "C" fn undivarro_play(
     let read = image_read::read_image(image);
     let table = read.table;
     let why = read.refusal;
-    let room = has_room(Form::Two, table, answer.len(), out.len());
+    let room = has_room(Form::Two, table, LONGEST, answer.len(), out.len());
     let refusal = refusal_for(why, true, room);
     if refusal != 0 {
         return refused(refusal);
@@ -165,4 +175,31 @@ pub extern "C" fn undivarro_back(image: &[u8], out: &mut [u8]) -> Outcome
     ensures { λ _. ⌜ now (out .exit) ≡ afterBack (now (image .entry)) (now (out .entry)) .out ⌝ }
 {
     moved(Form::One, image, out)
+}
+
+// What can be kept of a setup image of either form that passes 11 to 15, in form 2, and the lines of its faults.
+#[no_mangle]
+pub extern "C" fn undivarro_salvage(image: &[u8], lines: &mut [u8], out: &mut [u8]) -> Outcome
+    ensures { λ r. ⌜ r ≡ afterSalvage (now (image .entry)) (now (lines .entry)) (now (out .entry)) .outcome ⌝ }
+    ensures { λ _. ⌜ now (lines .exit) ≡ afterSalvage (now (image .entry)) (now (lines .entry)) (now (out .entry)) .answer ⌝ }
+    ensures { λ _. ⌜ now (out .exit) ≡ afterSalvage (now (image .entry)) (now (lines .entry)) (now (out .entry)) .out ⌝ }
+{
+    let mut text = [0u8; LINES_CAP];
+    let salvaged = image_salvage::salvage(image, &mut text);
+    let table = salvaged.table;
+    let why = salvaged.refusal;
+    let told = salvaged.told;
+    let room = has_room(Form::Two, table, LINES_CAP, lines.len(), out.len());
+    let refusal = refusal_for(why, true, room);
+    if refusal != 0 {
+        return refused(refusal);
+    }
+    put_text(&text, told, lines);
+    let written = put_setup(Form::Two, table, out);
+    Outcome {
+        refusal: 0,
+        answered: told as u32,
+        written,
+        damage: 0,
+    }
 }

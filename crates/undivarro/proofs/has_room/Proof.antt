@@ -5,13 +5,12 @@ use native.Mathlib.Omega.{arith}
 use borrow.Author.Tests.{lt-leb, le-leb}
 use borrow.Author.Needs.{needs}
 use lib.Dec.{leb}
-use Rattle.packet.specs.Packet.{longest}
 use Rattle.undivarro.proofs.has_room.Statement.{statement}
 use Rattle.undivarro.proofs.has_room.Tie as tie
 
 returns : tie.Need-returns
 returns c =
-    let short = lt-leb longest (c .before .args .answer) (omega arith) in
+    let short = lt-leb (c .before .args .least) (c .before .args .answer) (omega arith) in
     sym (rw short)
 
 size-of-requires : tie.Need-size-of-requires
@@ -20,7 +19,7 @@ size-of-requires c κs = search needs
 returns-2 : tie.Need-returns-2
 returns-2 c =
     let a = c .before .before .args in
-    let room = le-leb longest (a .answer) (omega arith) in
+    let room = le-leb (a .least) (a .answer) (omega arith) in
     ap (λ (n : ℕ). leb n (a .out)) (c .size-of .ensures) ∙ sym (rw room)
 
 pub has-room-spec : {M : Type 1} → statement M

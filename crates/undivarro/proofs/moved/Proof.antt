@@ -36,7 +36,7 @@ number : (c : tie.After-refusal-for) → let a = start (read-of c) .args in
 number c =
     let room = c .before in
     let held = room .before in
-    refusal-is _ _ (read-of c .read-image .ensures) _ longest _ _ _ (held .loses-nothing .ensures) (room .has-room .ensures) _ (c .refusal-for .ensures)
+    refusal-is _ _ (read-of c .read-image .ensures) _ longest longest _ _ _ (held .loses-nothing .ensures) (room .has-room .ensures) _ (c .refusal-for .ensures)
 
 there : (c : tie.Else1) → let a = start (read-of (c .before)) .args in
     let w = readOf (a .image .now) .wall in
@@ -45,7 +45,7 @@ there c =
     let refusal = c .before in
     let room = refusal .before in
     let held = room .before in
-    enough _ _ (read-of refusal .read-image .ensures) _ longest _ _ _ (held .loses-nothing .ensures) (room .has-room .ensures) _ (refusal .refusal-for .ensures) (c .if1 .left)
+    enough _ _ (read-of refusal .read-image .ensures) _ longest longest _ _ _ (held .loses-nothing .ensures) (room .has-room .ensures) _ (refusal .refusal-for .ensures) (c .if1 .left)
 
 read-image-requires : tie.Need-read-image-requires
 read-image-requires c κs = search needs

@@ -33,13 +33,13 @@ number : (c : tie.After-refusal-for) → let a = start (read-of c) .args in
 number c =
     let read = read-of c in
     let a = start read .args in
-    refusal-is _ _ (read .read-image .ensures) Two (length (a .answer .now)) (length (a .out .now)) _ _ (sym (two-holds _)) (c .before .has-room .ensures) _ (c .refusal-for .ensures)
+    refusal-is _ _ (read .read-image .ensures) Two longest (length (a .answer .now)) (length (a .out .now)) _ _ (sym (two-holds _)) (c .before .has-room .ensures) _ (c .refusal-for .ensures)
 
 there : (c : tie.Else1) → let a = start (read-of (c .before)) .args in
     (longest ≤ length (a .answer .now)) × (sizeOf Two (readOf (a .image .now) .wall) ≤ length (a .out .now))
 there c =
     let refusal = c .before in
-    enough _ _ (read-of refusal .read-image .ensures) Two _ _ _ _ (sym (two-holds _)) (refusal .before .has-room .ensures) _ (refusal .refusal-for .ensures) (c .if1 .left) .1
+    enough _ _ (read-of refusal .read-image .ensures) Two longest _ _ _ _ (sym (two-holds _)) (refusal .before .has-room .ensures) _ (refusal .refusal-for .ensures) (c .if1 .left) .1
 
 read-image-requires : tie.Need-read-image-requires
 read-image-requires c κs = search needs
