@@ -1,7 +1,7 @@
 -- How many lines an image can have, and how long their text is. Assumes nothing.
-use mathlib.Core.Path.{_≡_, refl, sym, ap, subst, _∙_}
+use mathlib.Core.Path.{_≡_, refl, sym, ap, subst}
 use mathlib.Core.Bool.{Bool, true, false, cond}
-use mathlib.Core.List.{List, [], _∷_, _++_, flatten}
+use mathlib.Core.List.{List, [], _∷_, flatten}
 use Prim.Native.Nat.{ℕ, suc, _*_, _≤_}
 use native.Mathlib.Omega.{arith}
 use lib.ListN.{length, drop, replicate, length-append}
@@ -14,10 +14,10 @@ use Rattle.forms.specs.Forms.{headSize}
 use Rattle.faults.specs.declared.Fault.{Fault}
 use Rattle.faults.specs.Lines.{longestLine}
 use Rattle.image_whole.specs.Refusals.{isSound}
-use Rattle.image_whole.specs.Whole.{formOf, countOf, recordsIn, wholeRefusal}
+use Rattle.image_whole.specs.Whole.{formOf, recordsIn, wholeRefusal}
 use Rattle.image_whole.proofs.Edges.{fits, record-count}
 use Rattle.image_record.specs.Head.{idIn, headIn}
-use Rattle.image_salvage.specs.Kept.{keptOf, mostFaults}
+use Rattle.image_salvage.specs.Kept.{mostFaults}
 use Rattle.image_salvage.specs.Salvaged.{Salvage, salvagedFrom, salvageOf, linesOf, textFrom, textOf, linesCap}
 use Rattle.image_salvage.proofs.Bounds.{faults-few, lines-short}
 use Rattle.image_salvage.proofs.Sound.{record-dropped, record-kept}

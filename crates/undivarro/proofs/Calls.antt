@@ -29,7 +29,7 @@ use Rattle.image_read.proofs.Sound.{read-formed}
 use Rattle.undivarro.specs.Calls.{refused, given, refusalFor, afterBurst}
 
 -- where nothing is refused nothing would be lost, and there is room
-all-there : (read : Refusal) (held room : Bool) → refusalFor read held room ≡ 0 → (held ≡ true) × (room ≡ true)
+pub all-there : (read : Refusal) (held room : Bool) → refusalFor read held room ≡ 0 → (held ≡ true) × (room ≡ true)
 unfolding refusalFor
 all-there read held room e = go (isSound read) refl held room e
   where

@@ -112,7 +112,11 @@ fn moved(form: Form, image: &[u8], out: &mut [u8]) -> Outcome
     let table = read.table;
     let why = read.refusal;
     let held = image_write::loses_nothing(form, table);
-    let refusal = refusal_for(why, held, has_room(form, table, LONGEST, LONGEST, out.len()));
+    let refusal = refusal_for(
+        why,
+        held,
+        has_room(form, table, LONGEST, LONGEST, out.len()),
+    );
     if refusal != 0 {
         return refused(refusal);
     }
