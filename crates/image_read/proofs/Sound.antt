@@ -2,18 +2,16 @@
 use mathlib.Core.Path.{_≡_, refl}
 use mathlib.Core.Bool.{Bool, true, false, cond, false≢true}
 use mathlib.Core.List.{List, [], _∷_}
-use Prim.Native.Nat.{ℕ, zero, suc, _+_, _≤_, _<_}
-use native.Mathlib.Numerals.{add-one}
+use Prim.Native.Nat.{ℕ, _+_, _≤_, _<_}
 use native.Mathlib.Omega.{arith}
-use lib.ListN.{length, drop, replicate, length-append}
-use lib.Seq.{drop-cons}
+use lib.ListN.{length, drop, length-append}
 use Rattle.settings.specs.declared.Profile.{Profile}
 use Rattle.profiles.specs.declared.Numbered.{Numbered}
 use Rattle.profiles.specs.declared.Numbered.the-variants.{Known, Unknown}
 use Rattle.profiles.specs.Numbers.{ifKnown}
-use Rattle.settings.specs.Settings.{freshValues, valuesOf, valuesWith, rowCount}
+use Rattle.settings.specs.Settings.{freshValues, valuesOf}
 use Rattle.lists.specs.Lists.{each}
-use Rattle.lists.proofs.Each.{in-each, length-each}
+use Rattle.lists.proofs.Each.{length-each}
 use Rattle.panels.specs.declared.Table.{Table}
 use Rattle.panels.specs.Wall.{Wall, tableOf, panelsOf, mostPanels}
 use Rattle.panels.specs.WellFormed.{GoodWall, WellFormed}
@@ -25,15 +23,11 @@ use Rattle.image_whole.specs.declared.Refusal.the-variants.{Record}
 use Rattle.image_whole.specs.Refusals.{isSound}
 use Rattle.image_whole.specs.Whole.{formOf, countOf, recordIn, recordsIn, wholeRefusal}
 use Rattle.image_whole.proofs.Edges.{fits, record-next}
-use Rattle.image_record.specs.declared.Step.{Step}
-use Rattle.image_record.specs.declared.Step.the-variants.{Field, NotAllowed, Broken, End}
 use Rattle.image_record.specs.Head.{idIn, headIn}
-use Rattle.image_record.specs.Field.{stepAt, valuesIn, behind}
-use Rattle.image_record.proofs.OnTheWay.{seenWith}
-use Rattle.image_record.proofs.Steps.{stands}
-use Rattle.image_record.proofs.Gathering.{Gathering, none-gathered, taken-on}
+use Rattle.image_record.proofs.Gathering.{Gathering, none-gathered}
+use Rattle.image_record.proofs.Runs.{run-gathers}
 use Rattle.image_record.proofs.Heads.{head-known, headed-good}
-use Rattle.image_read.specs.Fields.{afterStep, gathered, fieldsFrom, fieldsIn}
+use Rattle.image_read.specs.Fields.{fieldsFrom, fieldsIn}
 use Rattle.image_read.specs.Read.{recordRefusal, panelWith, panelIn, refused, readRecords, readOf, inTable}
 use Rattle.image_read.proofs.OnTheWay.{wallWith}
 
@@ -45,28 +39,9 @@ pub record Gathered (form : Form) (profile : Profile) (values : List ℕ) : Type
 at-last : {form : Form} {profile : Profile} {seen : List Bool} {values : List ℕ} → Gathering form profile seen values → Gathered form profile values
 at-last g = record { inRange = g .inRange; fresh = λ row e. g .fresh row (g .fields row e) }
 
-module _ (form : Form) (profile : Profile) where
-  gathered-so : (n : ℕ) (seen : List Bool) (values left : List ℕ) → Gathering form profile seen values
-      → Gathered form profile (gathered form profile n seen values left .values)
-  unfolding gathered
-  gathered-so zero seen values left g = at-last g
-  gathered-so (suc n) seen values left g =
-      go (stepAt form profile seen values left) refl (λ row. gathered-so n (seenWith row seen) (valuesWith row (valuesIn row left) values) (behind row left))
-    where
-      go : (s : Step) → stepAt form profile seen values left ≡ s
-          → ((row : ℕ) → Gathering form profile (seenWith row seen) (valuesWith row (valuesIn row left) values)
-          → Gathered form profile (gathered form profile n (seenWith row seen) (valuesWith row (valuesIn row left) values) (behind row left) .values))
-          → Gathered form profile
-          (afterStep s values (λ row. gathered form profile n (seenWith row seen) (valuesWith row (valuesIn row left) values) (behind row left)) .values)
-      go (Field row) e ih = ih row (taken-on form profile g (stands form profile true seen values left row e))
-      go (NotAllowed row) e ih = at-last g
-      go Broken e ih = at-last g
-      go End e ih = at-last g
-
-  pub fields-gathered : (left : List ℕ) → Gathered form profile (fieldsIn form profile left .values)
-  unfolding fieldsFrom
-  fields-gathered left = gathered-so (suc (length left)) (replicate rowCount false) (freshValues profile) left
-      (none-gathered form profile)
+pub fields-gathered : (form : Form) (profile : Profile) (left : List ℕ) → Gathered form profile (fieldsIn form profile left .values)
+unfolding fieldsFrom
+fields-gathered form profile left = at-last (run-gathers form profile _ _ left (none-gathered form profile))
 
 -- a record that is not refused has a head that fits and a profile that is known
 pub head-of : (form : Form) (w : Wall) (bytes : List ℕ) → isSound (recordRefusal form w bytes) ≡ true

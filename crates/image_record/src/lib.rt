@@ -1,19 +1,16 @@
-// One record of a setup image of either form: its head, and the field that stands at the front of its bytes.
+// One record of a setup image of either form: its head, and its fields, taken up to one that cannot be.
+mod fields;
+
 ghost use mathlib.Core.Path.{_≡_};
-ghost use Prim.Native.Nat.{_+_, _≤_, _<_};
+ghost use Prim.Native.Nat.{_≤_};
 ghost use lib.ListN.{length};
-ghost use Rattle.settings.specs.Settings.{rowCount};
-ghost use Rattle.models.specs.Models.{allowedFor, modelIn};
 ghost use Rattle.forms.specs.Forms.{headSize, profileIn};
 ghost use Rattle.image_record.specs.Head.{marked, headFits, headIn};
-ghost use Rattle.image_record.specs.Field.{misplaced, stepAt};
-use finding::Found;
+ghost use Rattle.image_record.specs.Run.{runFrom, stopOf};
 use forms::Form;
 use profiles::Numbered;
-use settings::KIND_ROW;
 use settings::Profile;
 use settings::ROW_COUNT;
-use settings::TILING_ROW;
 use settings::VALUE_COUNT;
 
 // How many IDs there are.
@@ -25,6 +22,12 @@ pub enum Step {
     NotAllowed(usize),
     Broken,
     End,
+}
+
+// How many bytes of fields were taken, and what stands behind them.
+pub struct Stop {
+    pub step: Step,
+    pub taken: usize,
 }
 
 // A whole head, neither ID nor group 0, and an ID not seen before.
@@ -65,62 +68,29 @@ pub fn head_in(form: Form, bytes: &[u8], seen: &[bool; ID_COUNT]) -> Numbered
     profile_in(form, bytes)
 }
 
-// Whether a row has no field here: none in this form, or it was seen before, or it is a kind behind the tiling.
-fn is_misplaced(form: Form, row: usize, seen: &[bool; ROW_COUNT]) -> bool
-    requires { ⌜ row < rowCount ⌝ }
-    ensures { λ r. ⌜ r ≡ misplaced form (now (seen .entry)) row ⌝ }
-{
-    if !forms::has_field(form, row) {
-        return true;
-    }
-    if seen[row] {
-        return true;
-    }
-    row == KIND_ROW && seen[TILING_ROW]
-}
-
-// Whether a field's values are allowed, by the profile and by the kind among the values gathered; only a tiling goes by the kind.
-fn is_allowed(profile: Profile, row: usize, vs: &[u8], values: &[u8; VALUE_COUNT]) -> bool
-    requires { ⌜ row < rowCount ⌝ }
-    ensures { λ r. ⌜ r ≡ allowedFor (modelIn profile (now (values .entry))) row (now (vs .entry)) ⌝ }
-{
-    if row != TILING_ROW {
-        return settings::in_ranges(profile, row, vs);
-    }
-    let model = models::model_in(profile, values);
-    models::allowed(model, row, vs)
-}
-
-// What stands at the front of the bytes that are left, where some rows were seen before and some values gathered.
-pub fn step_at(
+// Takes the fields at the front of the bytes that are left, as long as they can be: each one's row is seen, and its values are
+// among those gathered.
+pub fn take_fields(
     form: Form,
     profile: Profile,
     left: &[u8],
-    seen: &[bool; ROW_COUNT],
-    values: &[u8; VALUE_COUNT],
-) -> Step
-    ensures { λ r. ⌜ r ≡ stepAt form profile (now (seen .entry)) (now (values .entry)) (now (left .entry)) ⌝ }
+    seen: &mut [bool; ROW_COUNT],
+    values: &mut [u8; VALUE_COUNT],
+) -> Stop
+    ensures { λ r. ⌜ r ≡ stopOf (now (left .entry)) (runFrom form profile (now (seen .entry)) (now (values .entry)) (now (left .entry))) ⌝ }
+    ensures { λ _. ⌜ now (seen .exit) ≡ runFrom form profile (now (seen .entry)) (now (values .entry)) (now (left .entry)) .seen ⌝ }
+    ensures { λ _. ⌜ now (values .exit) ≡ runFrom form profile (now (seen .entry)) (now (values .entry)) (now (left .entry)) .values ⌝ }
 {
-    let n = left.len();
-    if n == 0 {
-        return Step::End;
+    let mut at = 0;
+    loop {
+        let step = fields::step_at(form, profile, &left[at..], seen, values);
+        let Step::Field(row) = step else {
+            return Stop { step, taken: at };
+        };
+        let first = at + 2;
+        let end = first + settings::byte_count(row);
+        settings::store(row, &left[first..end], values);
+        seen[row] = true;
+        at = end;
     }
-    let found = finding::find_field(left[0]);
-    let Found::Set(row) = found else {
-        return Step::Broken;
-    };
-    let count = settings::byte_count(row);
-    if is_misplaced(form, row, seen) {
-        return Step::Broken;
-    }
-    if n < 2 + count {
-        return Step::Broken;
-    }
-    if left[1] as usize != count {
-        return Step::Broken;
-    }
-    if !is_allowed(profile, row, &left[2..2 + count], values) {
-        return Step::NotAllowed(row);
-    }
-    Step::Field(row)
 }

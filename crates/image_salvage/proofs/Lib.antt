@@ -1,5 +1,6 @@
 -- `Laying` is text laid piece behind piece where what is to come is known, `Walk` the walk over a record's fields, `Bounds` how
--- many faults it can tell, `Loop` that walk as the code comes round. The theorems: `Sound` that what is kept is well-formed.
+-- many faults it can tell, `Loop` that walk as the code comes round, `Rounds` the loop over the records. The theorems: `Sound` that
+-- what is kept is well-formed, `Told` how many lines there are and how long they are.
 pub mod Laying
 pub mod Walk
 pub mod Bounds

@@ -1,6 +1,6 @@
 -- What is so each time the walk over a record's fields comes round, and what it comes to. Assumes nothing.
 use mathlib.Core.Path.{_≡_, refl, sym, ap, subst, _∙_}
-use mathlib.Core.Bool.{Bool, true, false}
+use mathlib.Core.Bool.{Bool, false}
 use mathlib.Core.List.{List, [], _∷_, _++_}
 use Prim.Native.Nat.{ℕ, suc, _+_, _-_, _*_, _≤_, _<_}
 use native.Mathlib.Nat.{add-assoc, add-zero}
@@ -8,7 +8,7 @@ use native.Mathlib.Omega.{arith}
 use lib.ListN.{length, getD, drop, replicate, length-drop}
 use lib.Seq.{getD-drop, drop-drop}
 use Rattle.settings.specs.declared.Profile.{Profile}
-use Rattle.settings.specs.Settings.{byteCount, freshValues, valuesWith, rowCount}
+use Rattle.settings.specs.Settings.{byteCount, freshValues, rowCount}
 use Rattle.lists.specs.Lists.{laidAt}
 use Rattle.forms.specs.declared.Form.{Form}
 use Rattle.faults.specs.declared.Fault.{Fault}
@@ -16,14 +16,16 @@ use Rattle.faults.specs.declared.Fault.the-variants.{Broken as BrokenCode, NotA
 use Rattle.faults.specs.Lines.{lineOf, longestLine}
 use Rattle.faults.proofs.Laws.{line-short}
 use Rattle.image_record.specs.declared.Step.the-variants.{Field, NotAllowed, Broken, End}
-use Rattle.image_record.specs.Field.{valuesIn, behind, stepAt}
+use Rattle.image_record.specs.Field.{behind}
+use Rattle.image_record.specs.Run.{Run, runFrom}
 use Rattle.image_record.proofs.OnTheWay.{seenWith}
-use Rattle.image_record.proofs.Steps.{Stands, stands, broken-some}
-use Rattle.image_record.proofs.Gathering.{Gathering, none-gathered, taken-on, passed-on}
+use Rattle.image_record.proofs.Steps.{Stands, broken-some}
+use Rattle.image_record.proofs.Gathering.{Gathering, none-gathered, passed-on}
+use Rattle.image_record.proofs.Runs.{run-stopped, run-gathers, run-left}
 use Rattle.image_salvage.specs.Kept.{Kept, telling, keptFrom, keptOf, mostFaults}
 use Rattle.image_salvage.specs.Salvaged.{linesOf}
 use Rattle.image_salvage.proofs.Laying.{Laying, begun, one-more, all-laid}
-use Rattle.image_salvage.proofs.Walk.{lines-more, lines-none, kept-step, kept-passed}
+use Rattle.image_salvage.proofs.Walk.{lines-more, lines-none, kept-step, kept-passed, behind-run}
 
 module _ (form : Form) (profile : Profile) (number : ℕ) (bytes first : List ℕ) (from : ℕ) where
   abbrev whole : Kept
@@ -56,7 +58,7 @@ module _ (form : Form) (profile : Profile) (number : ℕ) (bytes first : List �
 
   module _ {lines values : List ℕ} {seen : List Bool} {at next k : ℕ} (enough : from + mostFaults * longestLine ≤ length first)
       (t : Turn lines values seen at next k) where
-    ended : (rest : Kept) → left seen values at k ≡ rest → rest .faults ≡ [] → rest .values ≡ values → Over lines values next
+    ended : (rest : Kept) → left seen values at k ≡ rest → rest .faults ≡ [] → {last : List ℕ} → rest .values ≡ last → Over lines last next
     ended rest e none same =
         let nothing : linesOf number (left seen values at k .faults) ≡ [] = rw (e, none) (lines-none number) in
         let (n, l) = all-laid (subst (Laying from first text lines next) nothing (t .laying)) (omega arith) in
@@ -67,12 +69,31 @@ module _ (form : Form) (profile : Profile) (number : ℕ) (bytes first : List �
     unfolding keptFrom
     used-up h = let none : mostFaults - k ≡ 0 = omega arith in ended (record { values = values; faults = [] }) (rw none) refl refl
 
+    -- the run from here on
+    abbrev run : Run
+    run = runFrom form profile seen values (drop at bytes)
+
+    abbrev there : ℕ
+    there = at + (length (drop at bytes) - length (run .left))
+
+    pub run-inside : there ≤ length bytes
+    run-inside = omega (arith, length-drop at bytes, t .inside, run-left form profile seen values (drop at bytes) .0)
+
+    pub run-behind : drop there bytes ≡ run .left
+    run-behind = sym (drop-drop (length (drop at bytes) - length (run .left)) at bytes) ∙ run-left form profile seen values (drop at bytes) .1
+
+    pub code : getD (run .left) 0 0 ≡ getD bytes there 0
+    code = ap (λ (l : List ℕ). getD l 0 0) (sym run-behind) ∙ getD-drop there bytes 0 0 ∙ rw add-zero
+
     module _ (more : k < mostFaults) where
       here : left seen values at k ≡ keptFrom form profile (suc (mostFaults - (k + 1))) seen values (drop at bytes)
       here = let n : mostFaults - k ≡ suc (mostFaults - (k + 1)) = omega arith in rw n
 
-      pub at-end : stepAt form profile seen values (drop at bytes) ≡ End → Over lines values next
-      at-end e = ended (record { values = values; faults = [] }) (here ∙ kept-step form profile _ seen values (drop at bytes) End e) refl refl
+      pub at-end : run .step ≡ End → Over lines (run .values) next
+      at-end e = ended (record { values = run .values; faults = [] }) (here ∙ kept-step form profile _ seen values (drop at bytes) End e) refl refl
+
+      pub at-field : (row : ℕ) → run .step ≡ Field row → Over lines (run .values) next
+      at-field row e = absurd (run-stopped form profile seen values (drop at bytes) .no-field row e)
 
       -- a line is laid, and its fault was the next
       pub line-room : next + longestLine ≤ length lines
@@ -87,19 +108,18 @@ module _ (form : Form) (profile : Profile) (number : ℕ) (bytes first : List �
           let lines-are : linesOf number (left seen values at k .faults) ≡ lineOf number fault ++ linesOf number faults = rw e (lines-more number fault faults) in
           one-more (lineOf number fault) (subst (Laying from first text lines next) lines-are (t .laying)) (line-fits fault)
 
-      code : getD (drop at bytes) 0 0 ≡ getD bytes at 0
-      code = getD-drop at bytes 0 0 ∙ rw add-zero
+      pub broken-inside : run .step ≡ Broken → there < length bytes
+      broken-inside e =
+          let some = broken-some form profile (run .seen) (run .values) (run .left) (run-stopped form profile seen values (drop at bytes) .there ∙ e) in
+          omega (arith, some, ap length run-behind, length-drop there bytes)
 
-      pub broken-inside : stepAt form profile seen values (drop at bytes) ≡ Broken → at < length bytes
-      broken-inside e = omega (arith, broken-some form profile seen values (drop at bytes) e, length-drop at bytes)
-
-      pub at-broken : stepAt form profile seen values (drop at bytes) ≡ Broken → {after : List ℕ} {place : ℕ}
-          → after ≡ laidAt next (lineOf number (BrokenCode (getD bytes at 0))) lines → place ≡ next + length (lineOf number (BrokenCode (getD bytes at 0)))
-          → Over after values place
+      pub at-broken : run .step ≡ Broken → {after : List ℕ} {place : ℕ}
+          → after ≡ laidAt next (lineOf number (BrokenCode (getD bytes there 0))) lines → place ≡ next + length (lineOf number (BrokenCode (getD bytes there 0)))
+          → Over after (run .values) place
       at-broken e {after} {place} laid placed =
-          let fault = BrokenCode (getD bytes at 0) in
-          let is : left seen values at k ≡ record { values = values; faults = fault ∷ [] } =
-          here ∙ kept-step form profile _ seen values (drop at bytes) Broken e ∙ ap {B = Kept} (λ (c : ℕ). record { values = values; faults = BrokenCode c ∷ [] }) code in
+          let fault = BrokenCode (getD bytes there 0) in
+          let is : left seen values at k ≡ record { values = run .values; faults = fault ∷ [] } =
+          here ∙ kept-step form profile _ seen values (drop at bytes) Broken e ∙ ap {B = Kept} (λ (c : ℕ). record { values = run .values; faults = BrokenCode c ∷ [] }) code in
           let l = told fault [] (ap (λ (r : Kept). r .faults) is) in
           let (n, all) = all-laid (subst (Laying from first text _ _) (lines-none number) l) (omega arith) in
           record {
@@ -109,51 +129,56 @@ module _ (form : Form) (profile : Profile) (number : ℕ) (bytes first : List �
             laid = laid ∙ all;
           }
 
-      module _ {b : Bool} {row : ℕ} (s : Stands b form profile seen values (drop at bytes) row) where
-        pub field-inside : at + 2 + byteCount row ≤ length bytes
-        field-inside = omega (arith, s .whole, length-drop at bytes, t .inside)
+      pub passed : {row : ℕ} → run .step ≡ NotAllowed row → Stands false form profile (run .seen) (run .values) (run .left) row
+      passed {row} e = behind-run form profile k seen values (drop at bytes) false row e
 
-        rest : behind row (drop at bytes) ≡ drop (at + 2 + byteCount row) bytes
-        rest = drop-drop (2 + byteCount row) at bytes ∙ ap (λ (j : ℕ). drop j bytes) (sym (add-assoc at 2 (byteCount row)))
+      pub passed-inside : {row : ℕ} → run .step ≡ NotAllowed row → there + 2 + byteCount row ≤ length bytes
+      passed-inside e = omega (arith, passed e .whole, ap length run-behind, length-drop there bytes, run-inside)
 
-      -- one step more, where what the code has is what it should have
-      pub at-field : (row : ℕ) → stepAt form profile seen values (drop at bytes) ≡ Field row → {after : List ℕ} {count : ℕ}
-          → after ≡ valuesWith row (valuesIn row (drop at bytes)) values → count ≡ byteCount row
-          → Turn lines after (seenWith row seen) (at + 2 + count) next (k + 1)
-      at-field row e {after} {count} stored counted =
-          let s = stands form profile true seen values (drop at bytes) row e in
-          let vs = valuesWith row (valuesIn row (drop at bytes)) values in
-          let is : left seen values at k ≡ left (seenWith row seen) vs (at + 2 + byteCount row) (k + 1) =
-          here ∙ kept-step form profile _ seen values (drop at bytes) (Field row) e ∙ rw (rest s) in
-          subst (λ (v : List ℕ). Turn lines v (seenWith row seen) (at + 2 + count) next (k + 1)) (sym stored)
-          (subst (λ (n : ℕ). Turn lines vs (seenWith row seen) (at + 2 + n) next (k + 1)) (sym counted)
-          (record {
-            steps = omega arith;
-            inside = field-inside s;
-            room = omega (arith, t .room);
-            gathering = taken-on form profile (t .gathering) s;
-            laying = subst (λ (r : Kept). Laying from first text lines next (linesOf number (r .faults))) is (t .laying);
-            kept = ap (λ (r : Kept). r .values) (sym is) ∙ t .kept;
-          }))
-
-      pub at-passed : (row : ℕ) → stepAt form profile seen values (drop at bytes) ≡ NotAllowed row → {after : List ℕ} {place count : ℕ}
-          → after ≡ laidAt next (lineOf number (NotAllowedCode (getD bytes at 0))) lines
-          → place ≡ next + length (lineOf number (NotAllowedCode (getD bytes at 0))) → count ≡ byteCount row
-          → Turn after values (seenWith row seen) (at + 2 + count) place (k + 1)
+      -- one run more, where what the code has is what it should have
+      pub at-passed : (row : ℕ) → run .step ≡ NotAllowed row → {after : List ℕ} {place count : ℕ}
+          → after ≡ laidAt next (lineOf number (NotAllowedCode (getD bytes there 0))) lines
+          → place ≡ next + length (lineOf number (NotAllowedCode (getD bytes there 0))) → count ≡ byteCount row
+          → Turn after (run .values) (seenWith row (run .seen)) (there + 2 + count) place (k + 1)
       at-passed row e {after} {place} {count} laid placed counted =
-          let s = stands form profile false seen values (drop at bytes) row e in
-          let fault = NotAllowedCode (getD bytes at 0) in
+          let fault = NotAllowedCode (getD bytes there 0) in
           let line = lineOf number fault in
-          let is : left seen values at k ≡ telling fault (left (seenWith row seen) values (at + 2 + byteCount row) (k + 1)) =
-          here ∙ kept-passed form profile _ seen values (drop at bytes) row (t .gathering) e ∙ rw (rest s, code) in
-          subst (λ (l : List ℕ). Turn l values (seenWith row seen) (at + 2 + count) place (k + 1)) (sym laid)
-          (subst (λ (n : ℕ). Turn (laidAt next line lines) values (seenWith row seen) (at + 2 + count) n (k + 1)) (sym placed)
-          (subst (λ (n : ℕ). Turn (laidAt next line lines) values (seenWith row seen) (at + 2 + n) (next + length line) (k + 1)) (sym counted)
+          let seen-on = seenWith row (run .seen) in
+          let rest : behind row (run .left) ≡ drop (there + 2 + byteCount row) bytes =
+          ap (behind row) (sym run-behind) ∙ drop-drop (2 + byteCount row) there bytes ∙ ap (λ (j : ℕ). drop j bytes) (sym (add-assoc there 2 (byteCount row))) in
+          let is : left seen values at k ≡ telling fault (left seen-on (run .values) (there + 2 + byteCount row) (k + 1)) =
+          here ∙ kept-passed form profile _ seen values (drop at bytes) row (t .gathering) e ∙ rw (rest, code) in
+          subst (λ (l : List ℕ). Turn l (run .values) seen-on (there + 2 + count) place (k + 1)) (sym laid)
+          (subst (λ (n : ℕ). Turn (laidAt next line lines) (run .values) seen-on (there + 2 + count) n (k + 1)) (sym placed)
+          (subst (λ (n : ℕ). Turn (laidAt next line lines) (run .values) seen-on (there + 2 + n) (next + length line) (k + 1)) (sym counted)
           (record {
             steps = omega arith;
-            inside = field-inside s;
+            inside = passed-inside e;
             room = omega (arith, t .room, line-short number fault);
-            gathering = passed-on form profile (t .gathering) s;
+            gathering = passed-on form profile (run-gathers form profile seen values (drop at bytes) (t .gathering)) (passed e);
             laying = told fault _ (ap (λ (r : Kept). r .faults) is);
             kept = ap (λ (r : Kept). r .values) (sym is) ∙ t .kept;
           })))
+
+      -- the same of what the code calls so: where the run stopped, and what it left
+      module _ {stop : ℕ} (stop-is : stop ≡ there) where
+        line-is : (f : ℕ → Fault) {after : List ℕ} {place : ℕ}
+            → after ≡ laidAt next (lineOf number (f (getD bytes stop 0))) lines → place ≡ next + length (lineOf number (f (getD bytes stop 0)))
+            → (after ≡ laidAt next (lineOf number (f (getD bytes there 0))) lines) × (place ≡ next + length (lineOf number (f (getD bytes there 0))))
+        line-is f laid placed =
+            (laid ∙ ap (λ (j : ℕ). laidAt next (lineOf number (f (getD bytes j 0))) lines) stop-is, placed ∙ ap (λ (j : ℕ). next + length (lineOf number (f (getD bytes j 0)))) stop-is)
+
+        pub broken-over : run .step ≡ Broken → {after : List ℕ} {place : ℕ}
+            → after ≡ laidAt next (lineOf number (BrokenCode (getD bytes stop 0))) lines → place ≡ next + length (lineOf number (BrokenCode (getD bytes stop 0)))
+            → Over after (run .values) place
+        broken-over e laid placed = let (l, p) = line-is BrokenCode laid placed in at-broken e l p
+
+        pub passed-turn : {row : ℕ} → run .step ≡ NotAllowed row → {after last : List ℕ} {marks : List Bool} {place count : ℕ}
+            → after ≡ laidAt next (lineOf number (NotAllowedCode (getD bytes stop 0))) lines
+            → place ≡ next + length (lineOf number (NotAllowedCode (getD bytes stop 0))) → count ≡ byteCount row → last ≡ run .values → marks ≡ run .seen
+            → Turn after last (seenWith row marks) (stop + 2 + count) place (k + 1)
+        passed-turn {row} e {after} {last} {marks} {place} {count} laid placed counted last-is marks-is =
+            let (l, p) = line-is NotAllowedCode laid placed in
+            subst (λ (v : List ℕ). Turn after v (seenWith row marks) (stop + 2 + count) place (k + 1)) (sym last-is)
+            (subst (λ (m : List Bool). Turn after (run .values) (seenWith row m) (stop + 2 + count) place (k + 1)) (sym marks-is)
+            (subst (λ (j : ℕ). Turn after (run .values) (seenWith row (run .seen)) (j + 2 + count) place (k + 1)) (sym stop-is) (at-passed row e l p counted)))

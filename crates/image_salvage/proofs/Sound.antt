@@ -21,13 +21,13 @@ use Rattle.image_whole.proofs.Edges.{fits, record-count}
 use Rattle.image_record.specs.declared.Step.{Step}
 use Rattle.image_record.specs.declared.Step.the-variants.{Field, NotAllowed, Broken, End}
 use Rattle.image_record.specs.Head.{idIn, headIn, headed}
-use Rattle.image_record.specs.Field.{stepAt}
-use Rattle.image_record.proofs.Steps.{stands}
-use Rattle.image_record.proofs.Gathering.{Gathering, none-gathered, taken-on, passed-on}
+use Rattle.image_record.specs.Run.{runFrom}
+use Rattle.image_record.proofs.Gathering.{Gathering, none-gathered, passed-on}
+use Rattle.image_record.proofs.Runs.{run-gathers}
 use Rattle.image_record.proofs.Heads.{headed-good}
 use Rattle.image_salvage.specs.Kept.{Kept, keptFrom, keptOf, mostFaults}
 use Rattle.image_salvage.specs.Salvaged.{Salvage, behindFaults, salvagedFrom, salvageOf}
-use Rattle.image_salvage.proofs.Walk.{kept-step, kept-passed}
+use Rattle.image_salvage.proofs.Walk.{kept-step, kept-passed, behind-run}
 
 module _ (form : Form) (profile : Profile) where
   -- the values that a walk comes to
@@ -40,18 +40,19 @@ module _ (form : Form) (profile : Profile) where
   from-in-range : (n : ℕ) (seen : List Bool) (values left : List ℕ) → Gathering form profile seen values → Ranged n seen values left
   unfolding keptFrom
   from-in-range zero seen values left g = g .inRange
-  from-in-range (suc n) seen values left g = go (stepAt form profile seen values left) refl (from-in-range n)
+  from-in-range (suc n) seen values left g = go (runFrom form profile seen values left .step) refl (from-in-range n)
     where
-      go : (s : Step) → stepAt form profile seen values left ≡ s
+      on : Gathering form profile (runFrom form profile seen values left .seen) (runFrom form profile seen values left .values)
+      on = run-gathers form profile seen values left g
+
+      go : (s : Step) → runFrom form profile seen values left .step ≡ s
           → ((seen : List Bool) (values left : List ℕ) → Gathering form profile seen values → Ranged n seen values left) → Ranged (suc n) seen values left
-      go (Field row) e ih =
-          ranged (suc n) seen values left (kept-step form profile n seen values left (Field row) e)
-          (ih _ _ _ (taken-on form profile g (stands form profile true seen values left row e)))
+      go (Field row) e ih = ranged (suc n) seen values left (kept-step form profile n seen values left (Field row) e) (on .inRange)
       go (NotAllowed row) e ih =
           ranged (suc n) seen values left (kept-passed form profile n seen values left row g e)
-          (ih _ _ _ (passed-on form profile g (stands form profile false seen values left row e)))
-      go Broken e ih = ranged (suc n) seen values left (kept-step form profile n seen values left Broken e) (g .inRange)
-      go End e ih = ranged (suc n) seen values left (kept-step form profile n seen values left End e) (g .inRange)
+          (ih _ _ _ (passed-on form profile on (behind-run form profile n seen values left false row e)))
+      go Broken e ih = ranged (suc n) seen values left (kept-step form profile n seen values left Broken e) (on .inRange)
+      go End e ih = ranged (suc n) seen values left (kept-step form profile n seen values left End e) (on .inRange)
 
   pub kept-in-range : (left : List ℕ) → InRange profile (keptOf form profile left .values)
   kept-in-range left = from-in-range mostFaults _ _ left (none-gathered form profile)

@@ -5,7 +5,7 @@ use mathlib.Core.List.{List, [], _∷_, _++_, append-nil, flatten}
 use Prim.Native.Nat.{ℕ, suc}
 use lib.ListN.{getD}
 use Rattle.settings.specs.declared.Profile.{Profile}
-use Rattle.settings.specs.Settings.{valuesWith}
+use Rattle.settings.specs.Settings.{freshValues, valuesOf, valuesWith}
 use Rattle.panels.proofs.Values.{with-own}
 use Rattle.forms.specs.declared.Form.{Form}
 use Rattle.faults.specs.declared.Fault.{Fault}
@@ -13,10 +13,12 @@ use Rattle.faults.specs.declared.Fault.the-variants.{NotAllowed as NotAllowedCo
 use Rattle.faults.specs.Lines.{lineOf}
 use Rattle.image_record.specs.declared.Step.{Step}
 use Rattle.image_record.specs.declared.Step.the-variants.{NotAllowed}
-use Rattle.image_record.specs.Field.{behind, stepAt}
+use Rattle.image_record.specs.Field.{behind}
+use Rattle.image_record.specs.Run.{Run, runFrom}
 use Rattle.image_record.proofs.OnTheWay.{seenWith}
-use Rattle.image_record.proofs.Steps.{stands}
+use Rattle.image_record.proofs.Steps.{Stands, fieldStep, stands}
 use Rattle.image_record.proofs.Gathering.{Gathering}
+use Rattle.image_record.proofs.Runs.{run-stopped, run-gathers}
 use Rattle.image_salvage.specs.Kept.{telling, keptBy, keptFrom}
 use Rattle.image_salvage.specs.Salvaged.{linesOf}
 
@@ -33,18 +35,27 @@ pub lines-one : (number : ℕ) (fault : Fault) → linesOf number (fault ∷ [])
 lines-one number fault = lines-more number fault [] ∙ rw (lines-none number) (append-nil (lineOf number fault))
 
 module _ (form : Form) (profile : Profile) (n : ℕ) (seen : List Bool) (values left : List ℕ) where
-  pub kept-step : (s : Step) → stepAt form profile seen values left ≡ s
+  abbrev run : Run
+  run = runFrom form profile seen values left
+
+  -- one run more
+  pub kept-step : (s : Step) → run .step ≡ s
       → keptFrom form profile (suc n) seen values left
-      ≡ keptBy profile s values left (λ row vs. keptFrom form profile n (seenWith row seen) (valuesWith row vs values) (behind row left))
+      ≡ keptBy s (run .values) (getD (run .left) 0 0)
+      (λ row. keptFrom form profile n (seenWith row (run .seen)) (valuesWith row (valuesOf row (freshValues profile)) (run .values)) (behind row (run .left)))
   unfolding keptFrom
   kept-step s e = rw e
 
+  -- what stands behind it
+  pub behind-run : (b : Bool) (row : ℕ) → run .step ≡ fieldStep b row → Stands b form profile (run .seen) (run .values) (run .left) row
+  behind-run b row e = stands form profile b (run .seen) (run .values) (run .left) row (run-stopped form profile seen values left .there ∙ e)
+
   -- a row that is not allowed was not seen, so it is fresh, and stays as it is
-  pub kept-passed : (row : ℕ) → Gathering form profile seen values → stepAt form profile seen values left ≡ NotAllowed row
+  pub kept-passed : (row : ℕ) → Gathering form profile seen values → run .step ≡ NotAllowed row
       → keptFrom form profile (suc n) seen values left
-      ≡ telling (NotAllowedCode (getD left 0 0)) (keptFrom form profile n (seenWith row seen) values (behind row left))
+      ≡ telling (NotAllowedCode (getD (run .left) 0 0)) (keptFrom form profile n (seenWith row (run .seen)) (run .values) (behind row (run .left)))
   kept-passed row g e =
-      let fresh = g .fresh row (stands form profile false seen values left row e .free .new) in
-      let same = ap (λ (vs : List ℕ). valuesWith row vs values) (sym fresh) ∙ with-own row values in
+      let fresh = run-gathers form profile seen values left g .fresh row (behind-run false row e .free .new) in
+      let same = ap (λ (vs : List ℕ). valuesWith row vs (run .values)) (sym fresh) ∙ with-own row (run .values) in
       kept-step (NotAllowed row) e
-      ∙ ap (λ (vs : List ℕ). telling (NotAllowedCode (getD left 0 0)) (keptFrom form profile n (seenWith row seen) vs (behind row left))) same
+      ∙ ap (λ (vs : List ℕ). telling (NotAllowedCode (getD (run .left) 0 0)) (keptFrom form profile n (seenWith row (run .seen)) vs (behind row (run .left)))) same

@@ -11,7 +11,8 @@ use Rattle.faults.specs.declared.Fault.{Fault}
 use Rattle.faults.specs.declared.Fault.the-variants.{Broken as BrokenCode, NotAllowed as NotAllowedCode}
 use Rattle.image_record.specs.declared.Step.{Step}
 use Rattle.image_record.specs.declared.Step.the-variants.{Field, NotAllowed, Broken, End}
-use Rattle.image_record.specs.Field.{valuesIn, behind, stepAt}
+use Rattle.image_record.specs.Field.{behind}
+use Rattle.image_record.specs.Run.{runFrom}
 
 pub record Kept : Type 0 where
   pub values : List ℕ
@@ -21,22 +22,23 @@ pub record Kept : Type 0 where
 abbrev pub telling : Fault → Kept → Kept
 telling fault kept = record { values = kept .values; faults = fault ∷ kept .faults }
 
--- What the step at the front of the bytes that are left comes to: a field goes on with its values, one that is not allowed with
--- the fresh ones, and a broken one stops the walk. The code of a fault is the byte in the code's place.
-abbrev pub keptBy : Profile → Step → List ℕ → List ℕ → (ℕ → List ℕ → Kept) → Kept
-keptBy profile (Field row) values left more = more row (valuesIn row left)
-keptBy profile (NotAllowed row) values left more = telling (NotAllowedCode (getD left 0 0)) (more row (valuesOf row (freshValues profile)))
-keptBy profile Broken values left more = record { values = values; faults = BrokenCode (getD left 0 0) ∷ [] }
-keptBy profile End values left more = record { values = values; faults = [] }
+-- What the step at which a run of fields stopped comes to: a field that is not allowed is told and goes on, and a broken one is
+-- told and ends it. The code is the byte in the code's place. A run does not stop at a field that can be taken.
+abbrev pub keptBy : Step → List ℕ → ℕ → (ℕ → Kept) → Kept
+keptBy (Field row) values code more = record { values = values; faults = [] }
+keptBy (NotAllowed row) values code more = telling (NotAllowedCode code) (more row)
+keptBy Broken values code more = record { values = values; faults = BrokenCode code ∷ [] }
+keptBy End values code more = record { values = values; faults = [] }
 
--- field after field, n steps at most: a row that was met is seen, and what it goes on with stands at its place
+-- run after run, n at most: the row that is not allowed is seen, and the fresh values stand at its place
 unfoldable pub keptFrom : Form → Profile → ℕ → List Bool → List ℕ → List ℕ → Kept
 keptFrom form profile zero seen values left = record { values = values; faults = [] }
 keptFrom form profile (suc n) seen values left =
-    keptBy profile (stepAt form profile seen values left) values left
-    (λ row vs. keptFrom form profile n (set seen row true) (valuesWith row vs values) (behind row left))
+    let run = runFrom form profile seen values left in
+    keptBy (run .step) (run .values) (getD (run .left) 0 0)
+    (λ row. keptFrom form profile n (set (run .seen) row true) (valuesWith row (valuesOf row (freshValues profile)) (run .values)) (behind row (run .left)))
 
--- A row is met once, and then a field is broken or there is none: one step more than there are rows is enough.
+-- A row is met once, and then a field is broken or there is none: one run more than there are rows is enough.
 abbrev pub mostFaults : ℕ
 mostFaults = rowCount + 1
 

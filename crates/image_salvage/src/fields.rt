@@ -50,15 +50,10 @@ pub fn kept(
     let mut k = 0;
     while k < MOST_FAULTS {
         k += 1;
-        let step = image_record::step_at(form, profile, &bytes[at..], &seen, &values);
+        let stop = image_record::take_fields(form, profile, &bytes[at..], &mut seen, &mut values);
+        at += stop.taken;
+        let step = stop.step;
         match step {
-            Step::Field(row) => {
-                let first = at + 2;
-                let end = first + settings::byte_count(row);
-                settings::store(row, &bytes[first..end], &mut values);
-                seen[row] = true;
-                at = end;
-            }
             Step::NotAllowed(row) => {
                 next = tell(number, Fault::NotAllowed(bytes[at]), lines, next);
                 seen[row] = true;
@@ -66,6 +61,9 @@ pub fn kept(
             }
             Step::Broken => {
                 next = tell(number, Fault::Broken(bytes[at]), lines, next);
+                return KeptFields { values, next };
+            }
+            Step::Field(_) => {
                 return KeptFields { values, next };
             }
             Step::End => {

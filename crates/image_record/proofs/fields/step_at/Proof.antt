@@ -23,8 +23,8 @@ use Rattle.forms.specs.declared.Form.{Form}
 use Rattle.image_record.specs.declared.Step.the-variants.{Field, NotAllowed, Broken}
 use Rattle.image_record.specs.Field.{valuesIn, misplaced, fieldOf, stepAt}
 use borrow.Author.Needs.{needs}
-use Rattle.image_record.proofs.step_at.Statement.{statement}
-use Rattle.image_record.proofs.step_at.Tie as tie
+use Rattle.image_record.proofs.fields.step_at.Statement.{statement}
+use Rattle.image_record.proofs.fields.step_at.Tie as tie
 
 -- the tests, in order
 module _ (form : Form) (profile : Profile) (seen : List Bool) (values left : List ℕ) where

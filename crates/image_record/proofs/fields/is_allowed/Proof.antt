@@ -4,8 +4,8 @@ use borrow.Author.Needs.{needs}
 use Rattle.models.specs.declared.Model.{Model}
 use Rattle.models.specs.Models.{allowedFor, modelIn}
 use Rattle.models.proofs.Laws.{by-ranges}
-use Rattle.image_record.proofs.is_allowed.Statement.{statement}
-use Rattle.image_record.proofs.is_allowed.Tie as tie
+use Rattle.image_record.proofs.fields.is_allowed.Statement.{statement}
+use Rattle.image_record.proofs.fields.is_allowed.Tie as tie
 
 in-ranges-requires : tie.Need-in-ranges-requires
 in-ranges-requires c κs = search needs

@@ -7,8 +7,8 @@ use lib.ListN.{getD}
 use Rattle.settings.specs.Settings.{kindRow, tilingRow}
 use Rattle.image_record.specs.Field.{misplaced}
 use borrow.Author.Needs.{needs}
-use Rattle.image_record.proofs.is_misplaced.Statement.{statement}
-use Rattle.image_record.proofs.is_misplaced.Tie as tie
+use Rattle.image_record.proofs.fields.is_misplaced.Statement.{statement}
+use Rattle.image_record.proofs.fields.is_misplaced.Tie as tie
 
 has-field-requires : tie.Need-has-field-requires
 has-field-requires c κs = search needs
