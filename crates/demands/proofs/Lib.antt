@@ -8,6 +8,9 @@ pub mod Profiles
 pub mod ToOne
 pub mod Tiling
 pub mod Forms
+pub mod Unseen
+pub mod Walked
+pub mod KeptWalk
 pub mod Power
 pub mod Again
 pub mod HostAndBox

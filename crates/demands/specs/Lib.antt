@@ -8,6 +8,7 @@ pub mod Damage
 pub mod Profiles
 pub mod Tiling
 pub mod Forms
+pub mod Salvage
 pub mod Power
 pub mod Again
 pub mod WrongBoxes

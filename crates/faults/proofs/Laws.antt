@@ -7,14 +7,14 @@ use lib.Dec.{ltb}
 use lib.ListN.{length}
 use Rattle.faults.specs.declared.Fault.{Fault}
 use Rattle.faults.specs.declared.Fault.the-variants.{Dropped, Broken, NotAllowed}
-use Rattle.faults.specs.Lines.{space, lineFeed, faultWords, lineOf, longestLine}
+use Rattle.faults.specs.Lines.{space, lineFeed, decimal, faultNumber, codeWords, lineOf, longestLine}
 
 pub line-short : (n : ℕ) (f : Fault) → length (lineOf n f) ≤ longestLine
 unfolding lineOf
 line-short n f = go (ltb n 10) f
   where
     go : (t : Bool) (f : Fault)
-        → length (cond t ((48 + n) ∷ []) ((48 + n / 10) ∷ (48 + n % 10) ∷ []) ++ space ∷ (faultWords f ++ lineFeed ∷ [])) ≤ longestLine
+        → length (cond t ((48 + n) ∷ []) ((48 + n / 10) ∷ (48 + n % 10) ∷ []) ++ space ∷ (decimal (faultNumber f) ++ codeWords f ++ lineFeed ∷ [])) ≤ longestLine
     go true Dropped = omega arith
     go true (Broken code) = omega arith
     go true (NotAllowed code) = omega arith

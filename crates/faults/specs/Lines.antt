@@ -23,14 +23,20 @@ decimal n = cond (ltb n 10) ((48 + n) ∷ []) ((48 + n / 10) ∷ (48 + n % 10) �
 abbrev pub hex : ℕ → List ℕ
 hex code = digitOf (code / 16) ∷ digitOf (code % 16) ∷ []
 
--- the refusal's number, and the code where one is told
-abbrev pub faultWords : Fault → List ℕ
-faultWords Dropped = decimal 16
-faultWords (Broken code) = decimal 17 ++ space ∷ hex code
-faultWords (NotAllowed code) = decimal 18 ++ space ∷ hex code
+-- the refusal's number
+abbrev pub faultNumber : Fault → ℕ
+faultNumber Dropped = 16
+faultNumber (Broken code) = 17
+faultNumber (NotAllowed code) = 18
+
+-- and the code, where one is told
+abbrev pub codeWords : Fault → List ℕ
+codeWords Dropped = []
+codeWords (Broken code) = space ∷ hex code
+codeWords (NotAllowed code) = space ∷ hex code
 
 unfoldable pub lineOf : ℕ → Fault → List ℕ
-lineOf number fault = decimal number ++ space ∷ (faultWords fault ++ lineFeed ∷ [])
+lineOf number fault = decimal number ++ space ∷ (decimal (faultNumber fault) ++ codeWords fault ++ lineFeed ∷ [])
 
 -- how many bytes the longest has
 abbrev pub longestLine : ℕ
