@@ -1,0 +1,73 @@
+-- Form 2 holds every wall, and there is room, so the image is written. Assumes nothing.
+use mathlib.Core.Path.{_≡_, sym, ap, _∙_}
+use Prim.Native.Nat.{_≤_}
+use native.Mathlib.Omega.{arith}
+use lib.ListN.{length}
+use Rattle.lists.specs.Lists.{laidOver}
+use Rattle.panels.specs.Wall.{panelsOf}
+use Rattle.forms.specs.declared.Form.the-variants.{Two}
+use Rattle.image_write.specs.declared.Written.{Written}
+use Rattle.image_write.specs.Written.{setupOf, sizeOf, recordSize, bytesWritten}
+use Rattle.image_write.proofs.Losing.{two-holds, is-written}
+use borrow.Author.Needs.{needs}
+use Rattle.salvage.proofs.write_kept.Statement.{statement}
+use Rattle.salvage.proofs.write_kept.Tie as tie
+
+room : (c : tie.Start) → sizeOf Two (panelsOf (c .args .t)) ≤ length (c .args .out .now)
+unfolding recordSize
+room c = omega (arith, c .pre .0 .few, c .pre .1)
+
+-- what was written, whatever the match told
+laid : (c : tie.After-write-image) (s : Written) → c .write-image .result ≡ s
+    → let a = c .before .before .before .args in
+    (bytesWritten s ≡ sizeOf Two (panelsOf (a .t))) × (c .write-image .last .1 .1 .0 ≡ laidOver (setupOf Two (panelsOf (a .t))) (a .out .now))
+laid c s e =
+    let start = c .before .before .before in
+    let w = panelsOf (start .args .t) in
+    let f = is-written Two w _ (two-holds w) (room start) in
+    (ap bytesWritten (sym e ∙ c .write-image .ensures .0 ∙ f .0), c .write-image .ensures .1 ∙ f .1)
+
+write-image-requires : tie.Need-write-image-requires
+write-image-requires c κs = search needs
+
+enum-known-written : tie.Need-enum-known-written
+enum-known-written c = search needs
+
+enum-told : tie.Need-enum-told
+enum-told c = search needs
+
+enum-told-2 : tie.Need-enum-told-2
+enum-told-2 c = search needs
+
+same-length : tie.Need-same-length
+same-length c = search needs
+
+returns : tie.Need-returns
+returns c = laid (c .before .before .before .before .before) _ (c .before .written .given .1)
+
+same-length-2 : tie.Need-same-length-2
+same-length-2 c = search needs
+
+returns-2 : tie.Need-returns-2
+returns-2 c = laid (c .before .before .before .before) _ (c .enum-told .given .1)
+
+same-length-3 : tie.Need-same-length-3
+same-length-3 c = search needs
+
+returns-3 : tie.Need-returns-3
+returns-3 c = laid (c .before .before .before .before) _ (c .enum-told2 .given .1)
+
+pub write-kept-spec : {M : Type 1} → statement M
+write-kept-spec =
+    tie.close
+    (tie.spec
+    write-image-requires
+    enum-known-written
+    enum-told
+    enum-told-2
+    same-length
+    returns
+    same-length-2
+    returns-2
+    same-length-3
+    returns-3)
