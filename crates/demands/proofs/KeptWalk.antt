@@ -21,7 +21,7 @@ use Rattle.image_record.proofs.Steps.{stands}
 use Rattle.image_record.proofs.Gathering.{Gathering, taken-on, passed-on, there}
 use Rattle.image_record.proofs.Runs.{run-stopped, run-gathers}
 use Rattle.image_read.specs.Entries.{Entry}
-use Rattle.image_salvage.specs.Kept.{Kept, telling, keptFrom}
+use Rattle.image_salvage.specs.Kept.{Kept, keptFrom}
 use Rattle.image_salvage.proofs.Walk.{kept-step, kept-passed, behind-run}
 use Rattle.demands.proofs.Unseen.{unseen, one-less}
 use Rattle.demands.proofs.Walked.{Walked, stay, took, told, walked-on, entryAt}
@@ -95,7 +95,7 @@ module _ (form : Form) (profile : Profile) where
             rest = k .rest;
             walk = walked-on a (told row h (k .walk));
             ends = ⊎-elim (λ x. inl (x .0, ap (λ (fs : List Fault). NotAllowed (getD (r .left) 0 0) ∷ fs) (x .1)))
-            (λ x. inr (x .0, ap (λ (fs : List Fault). NotAllowed (getD (r .left) 0 0) ∷ fs) (x .1))) (k .ends);
+                (λ x. inr (x .0, ap (λ (fs : List Fault). NotAllowed (getD (r .left) 0 0) ∷ fs) (x .1))) (k .ends);
           })
       go BrokenStep e ih =
           let (es, a) = run-walked seen values left in

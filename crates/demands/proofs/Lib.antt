@@ -11,6 +11,9 @@ pub mod Forms
 pub mod Unseen
 pub mod Walked
 pub mod KeptWalk
+pub mod Salvage
+pub mod SameFaults
+pub mod LinesTell
 pub mod Power
 pub mod Again
 pub mod HostAndBox

@@ -1,16 +1,16 @@
 -- The fields of a record that is kept, as the walk over them meets them, and what is told of its values. Assumes nothing.
 use mathlib.Core.Path.{_≡_, refl, sym, ap, ap₂, subst, _∙_}
-use mathlib.Core.Bool.{Bool, true, false, cond, false≢true}
-use mathlib.Core.Logic.{_⊎_, inl, inr, ⊎-elim}
+use mathlib.Core.Bool.{Bool, true, false, false≢true}
+use mathlib.Core.Logic.{inl, inr, ⊎-elim}
 use mathlib.Core.List.{List, [], _∷_, _++_, append-assoc, flatten, List·Memᴰ, List·Memᴰ·head, List·Memᴰ·tail}
-use Prim.Native.Nat.{ℕ, zero, suc, _+_, _≤_, _<_}
+use Prim.Native.Nat.{ℕ, _<_}
 use native.Mathlib.Omega.{arith}
 use borrow.Author.Tests.{eqb-true, eqb-false}
 use lib.Dec.{eqb}
-use lib.ListN.{length, getD, take, drop, set, replicate, length-take, length-drop, take-append-drop}
+use lib.ListN.{length, getD, drop, length-take, length-drop, take-append-drop}
 use lib.Seq.{getD-set-same, getD-set-other, drop-cons, drop-drop}
 use Rattle.settings.specs.declared.Profile.{Profile}
-use Rattle.settings.specs.Settings.{setCode, byteCount, freshValues, valuesOf, valuesWith, rowCount}
+use Rattle.settings.specs.Settings.{setCode, byteCount, valuesOf, valuesWith, rowCount}
 use Rattle.models.specs.Models.{modelIn}
 use Rattle.models.proofs.Laws.{allowed-many}
 use Rattle.panels.proofs.Values.{set-row, other-row}
@@ -19,7 +19,7 @@ use Rattle.faults.specs.declared.Fault.{Fault}
 use Rattle.faults.specs.declared.Fault.the-variants.{NotAllowed}
 use Rattle.image_record.specs.Field.{valuesIn, behind}
 use Rattle.image_record.proofs.OnTheWay.{seenWith}
-use Rattle.image_record.proofs.Steps.{Stands, seen-apart}
+use Rattle.image_record.proofs.Steps.{Stands}
 use Rattle.image_record.proofs.Gathering.{Gathering, taken-on, passed-on, there}
 use Rattle.image_read.specs.Entries.{Entry, bytesOf, Without}
 use Rattle.image_read.proofs.Order.{codes-apart}
