@@ -14,6 +14,7 @@ pub mod KeptWalk
 pub mod Salvage
 pub mod SameFaults
 pub mod LinesTell
+pub mod SalvageCases
 pub mod Power
 pub mod Again
 pub mod HostAndBox

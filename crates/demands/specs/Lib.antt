@@ -9,6 +9,7 @@ pub mod Profiles
 pub mod Tiling
 pub mod Forms
 pub mod Salvage
+pub mod SalvageCases
 pub mod Power
 pub mod Again
 pub mod WrongBoxes
