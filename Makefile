@@ -1,4 +1,4 @@
-.PHONY: play mixed-wall check test
+.PHONY: play mixed-wall salvage check test
 # the play program on the sample session
 play:
 	@tools/prove play
@@ -8,6 +8,11 @@ play:
 mixed-wall:
 	@tools/prove mixed_wall
 	@tools/run mixed_wall
+
+# the salvage program on a sample image
+salvage:
+	@tools/prove salvage
+	@tools/bytes <tests/flooded.hex | tools/run salvage
 
 # every day: the layout, all proofs and the programs; after a change only what it touches
 check:

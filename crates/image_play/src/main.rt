@@ -4,13 +4,11 @@ ghost use Prim.Native.Nat.{_≤_, _<_};
 ghost use lib.ListN.{length};
 ghost use Rattle.panels.specs.WellFormed.{WellFormed};
 use forms::Form;
+use image_write::LARGEST;
 use image_write::Written;
-use panels::MOST_PANELS;
 use panels::Table;
 
-// The bytes of the largest image, in form 2, and their hex digits.
-const LARGEST: usize = 45 * MOST_PANELS + 2;
-
+// The hex digits of the largest image.
 const MOST_DIGITS: usize = 2 * LARGEST;
 
 // An image of the input, which stands at the front of the buffer; or the input stopped inside one; or it was at its end.

@@ -6,6 +6,7 @@ ghost use Rattle.panels.specs.Wall.{panelsOf};
 ghost use Rattle.panels.specs.WellFormed.{WellFormed};
 ghost use Rattle.image_write.specs.Written.{fieldsSize, recordSize, sizeOf, losesNothing, writtenOf, outputOf};
 use forms::Form;
+use panels::MOST_PANELS;
 use panels::Table;
 use settings::ROW_COUNT;
 use settings::VALUE_COUNT;
@@ -24,6 +25,9 @@ const START_SIZE: usize = 2;
 
 // The bytes behind the starts: count and form.
 const TRAILER_SIZE: usize = 2;
+
+// The bytes of the largest image, that of a full table in form 2, whose records have a head of 3 bytes.
+pub const LARGEST: usize = (3 + ALL_FIELDS + START_SIZE) * MOST_PANELS + TRAILER_SIZE;
 
 // An image's size, once it is written; or the form would lose something; or the output has no room for it.
 pub enum Written {

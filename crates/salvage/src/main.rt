@@ -9,20 +9,17 @@ ghost use Rattle.panels.specs.WellFormed.{WellFormed};
 ghost use Rattle.image_write.specs.Written.{setupOf, sizeOf};
 use forms::Form;
 use image_salvage::LINES_CAP;
+use image_write::LARGEST;
 use image_write::Written;
 use libc::STDERR_FILENO;
 use libc::STDIN_FILENO;
 use libc::STDOUT_FILENO;
-use panels::MOST_PANELS;
 use panels::Table;
 
 // The longest image that is taken, and room for one byte more, which tells that the input is longer.
 const LONGEST: usize = 4096;
 
 const ROOM: usize = LONGEST + 1;
-
-// The bytes of the largest image that is written, in form 2.
-const LARGEST: usize = 45 * MOST_PANELS + 2;
 
 // A file's name, which stands at the front of the buffer; or none is given; or the arguments are not what the program takes.
 enum Name {
