@@ -39,6 +39,7 @@ module _ (form : Form) (profile : Profile) (number : ℕ) (bytes first : List �
 
   -- what is left comes to what the whole comes to, and its lines are still to be laid
   pub record Turn (lines values : List ℕ) (seen : List Bool) (at next k : ℕ) : Type 0 where
+    pub enough : from + mostFaults * longestLine ≤ length first
     pub steps : k ≤ mostFaults
     pub inside : at ≤ length bytes
     pub room : next ≤ from + longestLine * k
@@ -53,15 +54,14 @@ module _ (form : Form) (profile : Profile) (number : ℕ) (bytes first : List �
     pub place : next ≡ from + length (linesOf number (keptOf form profile bytes .faults))
     pub laid : lines ≡ laidAt from (linesOf number (keptOf form profile bytes .faults)) first
 
-  pub begins : from ≤ length first → Turn first (freshValues profile) (replicate rowCount false) 0 from 0
-  begins h = record { steps = omega arith; inside = omega arith; room = omega arith; gathering = none-gathered form profile; laying = begun from first _ h; kept = refl }
+  pub begins : from + mostFaults * longestLine ≤ length first → Turn first (freshValues profile) (replicate rowCount false) 0 from 0
+  begins h = record { enough = h; steps = omega arith; inside = omega arith; room = omega arith; gathering = none-gathered form profile; laying = begun from first _ (omega arith); kept = refl }
 
-  module _ {lines values : List ℕ} {seen : List Bool} {at next k : ℕ} (enough : from + mostFaults * longestLine ≤ length first)
-      (t : Turn lines values seen at next k) where
+  module _ {lines values : List ℕ} {seen : List Bool} {at next k : ℕ} (t : Turn lines values seen at next k) where
     ended : (rest : Kept) → left seen values at k ≡ rest → rest .faults ≡ [] → {last : List ℕ} → rest .values ≡ last → Over lines last next
     ended rest e none same =
         let nothing : linesOf number (left seen values at k .faults) ≡ [] = rw (e, none) (lines-none number) in
-        let (n, l) = all-laid (subst (Laying from first text lines next) nothing (t .laying)) (omega arith) in
+        let (n, l) = all-laid (subst (Laying from first text lines next) nothing (t .laying)) (omega (arith, t .enough)) in
         record { long = t .laying .long; kept = sym same ∙ ap (λ (r : Kept). r .values) (sym e) ∙ t .kept; place = n; laid = l }
 
     -- no steps are left
@@ -97,10 +97,10 @@ module _ (form : Form) (profile : Profile) (number : ℕ) (bytes first : List �
 
       -- a line is laid, and its fault was the next
       pub line-room : next + longestLine ≤ length lines
-      line-room = omega (arith, t .room, t .laying .long)
+      line-room = omega (arith, t .enough, t .room, t .laying .long)
 
       line-fits : (fault : Fault) → next + length (lineOf number fault) ≤ length first
-      line-fits fault = omega (arith, t .room, line-short number fault)
+      line-fits fault = omega (arith, t .enough, t .room, line-short number fault)
 
       told : (fault : Fault) (faults : List Fault) → left seen values at k .faults ≡ fault ∷ faults
           → Laying from first text (laidAt next (lineOf number fault) lines) (next + length (lineOf number fault)) (linesOf number faults)
@@ -121,7 +121,7 @@ module _ (form : Form) (profile : Profile) (number : ℕ) (bytes first : List �
           let is : left seen values at k ≡ record { values = run .values; faults = fault ∷ [] } =
           here ∙ kept-step form profile _ seen values (drop at bytes) Broken e ∙ ap {B = Kept} (λ (c : ℕ). record { values = run .values; faults = BrokenCode c ∷ [] }) code in
           let l = told fault [] (ap (λ (r : Kept). r .faults) is) in
-          let (n, all) = all-laid (subst (Laying from first text _ _) (lines-none number) l) (omega arith) in
+          let (n, all) = all-laid (subst (Laying from first text _ _) (lines-none number) l) (omega (arith, t .enough)) in
           record {
             long = ap length laid ∙ l .long;
             kept = ap (λ (r : Kept). r .values) (sym is) ∙ t .kept;
@@ -152,6 +152,7 @@ module _ (form : Form) (profile : Profile) (number : ℕ) (bytes first : List �
           (subst (λ (n : ℕ). Turn (laidAt next line lines) (run .values) seen-on (there + 2 + count) n (k + 1)) (sym placed)
           (subst (λ (n : ℕ). Turn (laidAt next line lines) (run .values) seen-on (there + 2 + n) (next + length line) (k + 1)) (sym counted)
           (record {
+            enough = t .enough;
             steps = omega arith;
             inside = passed-inside e;
             room = omega (arith, t .room, line-short number fault);

@@ -58,7 +58,7 @@ step c s e = ap (λ (s : Stop). s .step) (sym (ran c .0)) ∙ e
 
 stop-inside : (c : tie.After-take-fields Inv-loop μ-loop) → let loop = in-loop c .before in
     loop .loop .at + c .take-fields .result .taken ≤ length (start loop .args .bytes .now)
-stop-inside c = let loop = in-loop c .before in rw (stop c) (run-inside _ _ _ _ _ _ (start loop .pre) (loop .loop .inv))
+stop-inside c = let loop = in-loop c .before in rw (stop c) (run-inside _ _ _ _ _ _ (loop .loop .inv))
 
 -- what a field that is not allowed leaves behind it
 abbrev ran-told : tie.After-known-told Inv-loop μ-loop → tie.After-take-fields Inv-loop μ-loop
@@ -69,14 +69,12 @@ told-inside : (c : tie.After-known-told Inv-loop μ-loop) → let take = ran-tol
     loop .loop .at + take .take-fields .result .taken + 2 + byteCount (c .before .step .given .0 .0) ≤ length (start loop .args .bytes .now)
 told-inside c =
     let take = ran-told c in
-    let loop = in-loop take .before in
-    rw (stop take) (passed-inside _ _ _ _ _ _ (start loop .pre) (loop .loop .inv) (in-loop take .loop-test .taken) (step take _ (c .before .step .given .1)))
+    rw (stop take) (passed-inside _ _ _ _ _ _ (in-loop take .before .loop .inv) (in-loop take .loop-test .taken) (step take _ (c .before .step .given .1)))
 
 row-there : (c : tie.After-known-told Inv-loop μ-loop) → c .before .step .given .0 .0 < rowCount
 row-there c =
     let take = ran-told c in
-    let loop = in-loop take .before in
-    passed _ _ _ _ _ _ (start loop .pre) (loop .loop .inv) (in-loop take .loop-test .taken) (step take _ (c .before .step .given .1)) .in-table
+    passed _ _ _ _ _ _ (in-loop take .before .loop .inv) (in-loop take .loop-test .taken) (step take _ (c .before .step .given .1)) .in-table
 
 -- what a broken field leaves
 broken : (c : tie.After-tell2 Inv-loop μ-loop) → let loop = in-loop (c .before .before .before .before .before .before) .before in
@@ -85,8 +83,7 @@ broken : (c : tie.After-tell2 Inv-loop μ-loop) → let loop = in-loop (c .befor
 broken c =
     let told = c .before .before .before in
     let take = told .before .before .before in
-    let loop = in-loop take .before in
-    broken-over _ _ _ _ _ _ (start loop .pre) (loop .loop .inv) (in-loop take .loop-test .taken) (stop take) (step take _ (told .enum-told .given .1)) (c .tell2 .ensures .1) (c .tell2 .ensures .0)
+    broken-over _ _ _ _ _ _ (in-loop take .before .loop .inv) (in-loop take .loop-test .taken) (stop take) (step take _ (told .enum-told .given .1)) (c .tell2 .ensures .1) (c .tell2 .ensures .0)
 
 fresh-requires : tie.Need-fresh-requires Inv-loop μ-loop
 fresh-requires c κs = tt
@@ -96,7 +93,7 @@ loop-holds c =
     let s = c .before .before .before in
     let a = s .args in
     subst (λ (vs : List ℕ). Turn (a .form) (a .profile) (a .number) (a .bytes .now) (a .lines .now) (a .from) (a .lines .now) vs (replicate rowCount false) 0 (a .from) 0)
-    (sym (c .fresh .ensures)) (begins (a .form) (a .profile) (a .number) (a .bytes .now) (a .lines .now) (a .from) (omega (arith, s .pre)))
+    (sym (c .fresh .ensures)) (begins (a .form) (a .profile) (a .number) (a .bytes .now) (a .lines .now) (a .from) (s .pre))
 
 add-k : tie.Need-add-k Inv-loop μ-loop
 add-k c = omega arith
@@ -125,8 +122,7 @@ shared-slice-read-t24 c = omega (arith, told-inside (c .before))
 tell-requires : tie.Need-tell-requires Inv-loop μ-loop
 tell-requires c κs =
     let take = c .before .before .before .before .before .before in
-    let loop = in-loop take .before in
-    line-room _ _ _ _ _ _ (start loop .pre) (loop .loop .inv) (in-loop take .loop-test .taken)
+    line-room _ _ _ _ _ _ (in-loop take .before .loop .inv) (in-loop take .loop-test .taken)
 
 array-write-seen : tie.Need-array-write-seen Inv-loop μ-loop
 array-write-seen c = row-there (c .before .before .before .before .before)
@@ -148,9 +144,8 @@ loop-again c =
     let tell = c .before .before .before in
     let known = tell .before .before .before in
     let take = ran-told known in
-    let loop = in-loop take .before in
     let (_, seen, values) = ran take in
-    passed-turn _ _ _ _ _ _ (start loop .pre) (loop .loop .inv) (in-loop take .loop-test .taken) (stop take) (step take _ (known .before .step .given .1)) (tell .tell .ensures .1)
+    passed-turn _ _ _ _ _ _ (in-loop take .before .loop .inv) (in-loop take .loop-test .taken) (stop take) (step take _ (known .before .step .given .1)) (tell .tell .ensures .1)
     (tell .tell .ensures .0) (c .byte-count .ensures) values seen
 
 enum-told : tie.Need-enum-told Inv-loop μ-loop
@@ -160,14 +155,12 @@ shared-slice-read-t33 : tie.Need-shared-slice-read-t33 Inv-loop μ-loop
 shared-slice-read-t33 c =
     let told = c .before in
     let take = told .before .before .before in
-    let loop = in-loop take .before in
-    rw (stop take) (broken-inside _ _ _ _ _ _ (start loop .pre) (loop .loop .inv) (in-loop take .loop-test .taken) (step take _ (told .enum-told .given .1)))
+    rw (stop take) (broken-inside _ _ _ _ _ _ (in-loop take .before .loop .inv) (in-loop take .loop-test .taken) (step take _ (told .enum-told .given .1)))
 
 tell-requires-2 : tie.Need-tell-requires-2 Inv-loop μ-loop
 tell-requires-2 c κs =
     let take = c .before .before .before .before .before in
-    let loop = in-loop take .before in
-    line-room _ _ _ _ _ _ (start loop .pre) (loop .loop .inv) (in-loop take .loop-test .taken)
+    line-room _ _ _ _ _ _ (in-loop take .before .loop .inv) (in-loop take .loop-test .taken)
 
 same-length : tie.Need-same-length Inv-loop μ-loop
 same-length c = broken (c .before .before) .long
@@ -188,8 +181,7 @@ same-length-2 c = in-loop (c .before .before .before) .before .loop .inv .laying
 returns-2 : tie.Need-returns-2 Inv-loop μ-loop
 returns-2 c =
     let take = c .before .before .before in
-    let loop = in-loop take .before in
-    let over = at-field _ _ _ _ _ _ (start loop .pre) (loop .loop .inv) (in-loop take .loop-test .taken) _ (step take _ (c .enum-told2 .given .1)) in
+    let over = at-field _ _ _ _ _ _ (in-loop take .before .loop .inv) (in-loop take .loop-test .taken) _ (step take _ (c .enum-told2 .given .1)) in
     (ran take .2 ∙ over .kept, (over .place, over .laid))
 
 enum-told-3 : tie.Need-enum-told-3 Inv-loop μ-loop
@@ -201,8 +193,7 @@ same-length-3 c = in-loop (c .before .before .before) .before .loop .inv .laying
 returns-3 : tie.Need-returns-3 Inv-loop μ-loop
 returns-3 c =
     let take = c .before .before .before in
-    let loop = in-loop take .before in
-    let over = at-end _ _ _ _ _ _ (start loop .pre) (loop .loop .inv) (in-loop take .loop-test .taken) (step take _ (c .enum-told3 .given .1)) in
+    let over = at-end _ _ _ _ _ _ (in-loop take .before .loop .inv) (in-loop take .loop-test .taken) (step take _ (c .enum-told3 .given .1)) in
     (ran take .2 ∙ over .kept, (over .place, over .laid))
 
 same-length-4 : tie.Need-same-length-4 Inv-loop μ-loop
@@ -211,7 +202,7 @@ same-length-4 c = c .before .loop .inv .laying .long
 returns-4 : tie.Need-returns-4 Inv-loop μ-loop
 returns-4 c =
     let loop = c .before in
-    let over = used-up _ _ _ _ _ _ (start loop .pre) (loop .loop .inv) (omega arith) in
+    let over = used-up _ _ _ _ _ _ (loop .loop .inv) (omega arith) in
     (over .kept, (over .place, over .laid))
 
 pub kept-spec : {M : Type 1} → statement M
