@@ -35,34 +35,67 @@ static bool ends_in_line(int fd, const char *path)
     return in_line;
 }
 
+int log_is_not(const char *path, const char *other, const char *what)
+{
+    if (!same_file(path, other))
+        return DONE;
+    fprintf(stderr, "rig: the log %s is the %s %s itself; give the log a file of its own\n", path, what, other);
+    return BAD;
+}
+
+static bool open_file(struct log *log, int flags)
+{
+    log->fd = open(log->path, O_WRONLY | O_APPEND | O_CREAT | O_CLOEXEC | flags, 0666);
+    log->in_line = log->fd >= 0 && ends_in_line(log->fd, log->path);
+    return log->fd >= 0;
+}
+
 int open_log(struct log *log, const char *path, const char *image_path)
 {
-    if (same_file(path, image_path)) {
-        fprintf(stderr, "rig: the log %s is the setup %s itself; give the log a file of its own\n", path, image_path);
+    if (log_is_not(path, image_path, "setup") != DONE)
         return BAD;
-    }
     log->path = path;
-    log->fd = open(path, O_WRONLY | O_APPEND | O_CREAT | O_CLOEXEC, 0666);
-    if (log->fd < 0) {
-        fprintf(stderr, "rig: cannot open the log %s: %s; no burst was played; name a file that can be written to\n", path,
-                strerror(errno));
-        return BAD;
-    }
-    log->in_line = ends_in_line(log->fd, path);
-    return DONE;
+    if (open_file(log, 0))
+        return DONE;
+    fprintf(stderr, "rig: cannot open the log %s: %s; no burst was played; name a file that can be written to\n", path,
+            strerror(errno));
+    return BAD;
+}
+
+/* In UTC, so that no hour comes twice. */
+static void print_time(FILE *to, const struct timespec *at)
+{
+    struct tm utc;
+    char text[sizeof "2026-11-16T12:00:00"];
+    if (gmtime_r(&at->tv_sec, &utc) && strftime(text, sizeof text, "%Y-%m-%dT%H:%M:%S", &utc) > 0)
+        fprintf(to, "%s.%03ldZ ", text, at->tv_nsec / 1000000);
+}
+
+static void print_bytes(FILE *to, const struct played *played)
+{
+    if (played->len == 0)
+        fputs(" -", to);
+    for (size_t i = 0; i < played->shown; i++)
+        fprintf(to, " %02X", played->burst[i]);
+    if (played->shown < played->len)
+        fputs(" ...", to);
 }
 
 static void print_line(FILE *to, const struct played *played)
 {
+    const struct reply *reply = played->reply;
+    if (played->at)
+        print_time(to, played->at);
     fprintf(to, "%lu:", played->number);
-    if (played->len == 0)
-        fputs(" -", to);
-    for (size_t i = 0; i < played->len; i++)
-        fprintf(to, " %02X", played->burst[i]);
+    print_bytes(to, played);
     fputs(": ", to);
-    say_burst(to, played->burst, played->len, played->damage);
+    say_burst(to, played->burst, played->len, reply->damage);
     fputs(": ", to);
-    say_answer(to, played->burst, played->len, played->answer, played->answer_len);
+    if (played->failure)
+        fprintf(to, "silence, since the setup is not kept (cannot %s, %s)", played->failure->failed_at,
+                strerror(played->failure->error));
+    else
+        say_answer(to, played->burst, played->len, reply->answer, reply->len);
     fputc('\n', to);
 }
 
@@ -82,16 +115,29 @@ static bool write_line(struct log *log, const struct played *played)
     int error = errno;
     free(line);
     errno = error;
+    if (good)
+        log->in_line = false;
     return good;
 }
 
 int log_burst(struct log *log, const struct played *played)
 {
-    if (!write_line(log, played)) {
-        fprintf(stderr, "rig: cannot write to the log %s: %s; the burst of line %lu was played, but its answer is held "
-                "back; make room for the log, or name another\n", log->path, strerror(errno), played->number);
-        return BAD;
-    }
-    log->in_line = false;
-    return DONE;
+    if (write_line(log, played))
+        return DONE;
+    fprintf(stderr, "rig: cannot write to the log %s: %s; the burst of line %lu was played, but its answer is held back; "
+            "make room for the log, or name another\n", log->path, strerror(errno), played->number);
+    return BAD;
+}
+
+bool try_log(struct log *log, const struct played *played)
+{
+    if (log->fd < 0 && !open_file(log, O_NONBLOCK))
+        return false;
+    if (write_line(log, played))
+        return true;
+    int error = errno;
+    close(log->fd);
+    log->fd = -1;
+    errno = error;
+    return false;
 }

@@ -4,8 +4,8 @@
 #include <stdbool.h>
 #include <stdio.h>
 #include <stdlib.h>
-#include <string.h>
 
+#include "box.h"
 #include "commands.h"
 #include "log.h"
 #include "setup.h"
@@ -54,32 +54,28 @@ struct session {
 
 static int keep_if_changed(struct session *session, const struct setup *after)
 {
-    struct setup *setup = &session->setup;
-    /* Both are in form 2 with all fields, so other bytes are other settings. */
-    if (after->len == setup->len && memcmp(after->bytes, setup->bytes, after->len) == 0)
+    if (same_setup(after, &session->setup))
         return DONE;
     int status = keep(session->path, after);
     if (status == DONE)
-        *setup = *after;
+        session->setup = *after;
     return status;
 }
 
 /* The answer is printed last: one that was printed speaks of a setup that is kept, and stands in the log. */
-static int play_burst(struct session *session, unsigned long number, const uint8_t *burst, size_t len)
+static int play_one(struct session *session, unsigned long number, const uint8_t *burst, size_t len)
 {
-    uint8_t answer[UNDIVARRO_ANSWER_CAP];
-    struct setup after;
-    struct undivarro_result r = undivarro_play(session->setup.bytes, session->setup.len, burst, len, answer, sizeof answer,
-                                               after.bytes, sizeof after.bytes);
-    if (r.refusal)
-        return refused(session->path, r.refusal);
-    after.len = r.image_len;
-    int status = keep_if_changed(session, &after);
+    struct reply reply;
+    uint32_t refusal = play_burst(&session->setup, burst, len, &reply);
+    if (refusal)
+        return refused(session->path, refusal);
+    int status = keep_if_changed(session, &reply.after);
     if (status == DONE && session->log)
-        status = log_burst(session->log, &(struct played){number, burst, len, r.damage, answer, r.answer_len});
+        status = log_burst(session->log, &(struct played){.number = number, .burst = burst, .len = len, .shown = len,
+                                                          .reply = &reply});
     if (status != DONE)
         return status;
-    print_answer(answer, r.answer_len);
+    print_answer(reply.answer, reply.len);
     return printed();
 }
 
@@ -92,7 +88,7 @@ static int play_lines(struct session *session)
     for (unsigned long number = 1; status == DONE && (len = getline(&line, &cap, stdin)) >= 0; number++) {
         size_t burst_len, wrong_at;
         if (hex_line(line, (size_t)len, &burst_len, &wrong_at)) {
-            status = play_burst(session, number, (const uint8_t *)line, burst_len);
+            status = play_one(session, number, (const uint8_t *)line, burst_len);
         } else {
             fprintf(stderr, "rig: line %lu, place %zu: a burst has two hex digits for each byte, and spaces only between "
                     "bytes; the lines before were played\n", number, wrong_at);

@@ -1,4 +1,4 @@
-/* The bench rig: bursts played on a setup that is kept in a file. */
+/* The bench rig: bursts from a line or from a file, played on a setup that is kept in a file. */
 #include <stdio.h>
 #include <string.h>
 
@@ -6,60 +6,108 @@
 #include "status.h"
 
 static const char usage[] =
-    "usage: rig play IMAGE [--log FILE]   plays bursts from standard input, one in hex on each line\n"
+    "usage: rig serve DEVICE IMAGE [--baud N] [--quiet MS] [--log FILE]   answers on a serial line\n"
+    "       rig play IMAGE [--log FILE]   plays bursts from standard input, one in hex on each line\n"
     "       rig new IMAGE [PANEL ...]     a new setup of up to 32 fresh panels, in this order\n"
     "       rig show IMAGE                the panels of a setup\n"
+    "       rig diff A B                  what differs between two setups\n"
     "       rig back IMAGE NEW            the setup in form 1, for an older box, in a new file NEW\n"
     "       rig salvage IMAGE NEW         what can be kept of a setup that is refused, in a new file NEW\n"
     "\n"
-    "A burst's bytes have two hex digits each, with or without spaces between bytes; an empty line is an empty burst. The\n"
-    "answer is printed in hex, or - for silence. IMAGE is written at each burst that changes a setting, before its answer\n"
-    "is printed, and at no other time. With --log a line for each burst is put at the end of FILE, before its answer is\n"
-    "printed: the burst in hex, what it asks for or what was wrong with it, and the answer in words. A PANEL is\n"
+    "DEVICE is a serial device or a pseudo-terminal. It is opened raw, 8N1, at N baud: 1200, 2400, 4800, 9600, 19200, 38400\n"
+    "or 57600, and 9600 where nothing is said. MS milliseconds without a byte end a burst; where nothing is said it is the\n"
+    "time of three and a half bytes, but at least 20 ms. SIGTERM and SIGINT end it between two bursts.\n"
+    "For play, a burst's bytes have two hex digits each, with or without spaces between bytes; an empty line is an empty\n"
+    "burst. The answer is printed in hex, or - for silence.\n"
+    "IMAGE is written at each burst that changes a setting, before its answer goes out, and at no other time. With --log a\n"
+    "line for each burst is put at the end of FILE, before its answer goes out: the burst in hex, what it asks for or what\n"
+    "was wrong with it, and the answer in words; for serve with the time in front. A PANEL is\n"
     "ID:GROUP[:phoenix][:15x10]: IDs are 1 to 255, groups 1 to 255, and group 255 is group off; a panel is general unless\n"
     ":phoenix is given, and of the 5 by 5 kind unless :15x10 is given, which is 15 wide and 10 high. Setups of form 1 and\n"
     "form 2 are read, and form 2 is written; form 1 has no Phoenix and no 15x10 panels, and no tiling. A setup that is\n"
     "refused with 16, 17 or 18 can be salvaged: each fault is printed with what it means, and IMAGE stays as it is.\n"
-    "Exit status: 0 done, 1 the setup image was refused, 2 bad arguments, input or files.\n";
+    "Exit status: 0 done, 1 the setup image was refused, 2 bad arguments, input or files; of diff: 0 alike, 1 different,\n"
+    "2 anything that was wrong.\n";
 
-/* The arguments of a command in words, or NULL if there is no such command. */
-static const char *arguments_of(const char *command)
+static int run_serve(int count, char **given)
 {
-    if (strcmp(command, "play") == 0)
-        return "one IMAGE, and --log FILE where a log is wanted";
-    if (strcmp(command, "show") == 0)
-        return "one IMAGE";
-    if (strcmp(command, "new") == 0)
-        return "an IMAGE and then panels";
-    if (strcmp(command, "back") == 0 || strcmp(command, "salvage") == 0)
-        return "an IMAGE and a NEW file";
-    return NULL;
+    struct serving serving;
+    int status = read_serving(count, given, &serving);
+    return status == DONE ? serve(&serving) : status;
+}
+
+static int run_play(int count, char **given)
+{
+    if (count == 1)
+        return play(given[0], NULL);
+    return count == 3 && strcmp(given[1], "--log") == 0 ? play(given[0], given[2]) : MISFIT;
+}
+
+static int run_new(int count, char **given)
+{
+    return count >= 1 ? make_new(given[0], (size_t)count - 1, given + 1) : MISFIT;
+}
+
+static int run_show(int count, char **given)
+{
+    return count == 1 ? show(given[0]) : MISFIT;
+}
+
+static int run_diff(int count, char **given)
+{
+    return count == 2 ? diff(given[0], given[1]) : MISFIT;
+}
+
+static int run_back(int count, char **given)
+{
+    return count == 2 ? back(given[0], given[1]) : MISFIT;
+}
+
+static int run_salvage(int count, char **given)
+{
+    return count == 2 ? salvage(given[0], given[1]) : MISFIT;
+}
+
+static const struct command {
+    const char *name;
+    int (*run)(int count, char **given);
+    const char *takes;
+} commands[] = {
+    {"serve", run_serve, "a DEVICE and an IMAGE, and then --baud N, --quiet MS and --log FILE where they are wanted"},
+    {"play", run_play, "one IMAGE, and --log FILE where a log is wanted"},
+    {"new", run_new, "an IMAGE and then panels"},
+    {"show", run_show, "one IMAGE"},
+    {"diff", run_diff, "two setups"},
+    {"back", run_back, "an IMAGE and a NEW file"},
+    {"salvage", run_salvage, "an IMAGE and a NEW file"},
+};
+enum { COMMANDS = sizeof commands / sizeof commands[0] };
+
+static int misused(void)
+{
+    fputs(usage, stderr);
+    return BAD;
 }
 
 int main(int argc, char **argv)
 {
+    if (argc < 2) {
+        fputs("rig: no command is given\n", stderr);
+        return misused();
+    }
     if (argc == 2 && (strcmp(argv[1], "--help") == 0 || strcmp(argv[1], "help") == 0)) {
         fputs(usage, stdout);
         return printed();
     }
-    if (argc == 3 && strcmp(argv[1], "play") == 0)
-        return play(argv[2], NULL);
-    if (argc == 5 && strcmp(argv[1], "play") == 0 && strcmp(argv[3], "--log") == 0)
-        return play(argv[2], argv[4]);
-    if (argc >= 3 && strcmp(argv[1], "new") == 0)
-        return make_new(argv[2], (size_t)argc - 3, argv + 3);
-    if (argc == 3 && strcmp(argv[1], "show") == 0)
-        return show(argv[2]);
-    if (argc == 4 && strcmp(argv[1], "back") == 0)
-        return back(argv[2], argv[3]);
-    if (argc == 4 && strcmp(argv[1], "salvage") == 0)
-        return salvage(argv[2], argv[3]);
-    if (argc < 2)
-        fputs("rig: no command is given\n", stderr);
-    else if (arguments_of(argv[1]))
-        fprintf(stderr, "rig: %s takes %s\n", argv[1], arguments_of(argv[1]));
-    else
-        fprintf(stderr, "rig: %s is no command\n", argv[1]);
-    fputs(usage, stderr);
-    return BAD;
+    for (const struct command *c = commands; c < commands + COMMANDS; c++) {
+        if (strcmp(argv[1], c->name) != 0)
+            continue;
+        int status = c->run(argc - 2, argv + 2);
+        if (status != MISFIT)
+            return status;
+        fprintf(stderr, "rig: %s takes %s\n", c->name, c->takes);
+        return misused();
+    }
+    fprintf(stderr, "rig: %s is no command\n", argv[1]);
+    return misused();
 }

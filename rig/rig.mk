@@ -17,7 +17,8 @@ endif
 rig_out := target/rig
 rig_programs := $(addprefix $(rig_out)/bin/,rig rig-stopped compare bench)
 rig_files := $(wildcard rig/*.h) include/undivarro.h rig/rig.mk
-rig_sources := $(addprefix rig/,rig.c play.c new.c show.c back.c salvage.c setup.c setup_file.c write_all.c log.c words.c \
+rig_sources := $(addprefix rig/,rig.c serve.c serving.c device.c receiver.c play.c box.c new.c show.c diff.c back.c salvage.c \
+    setup.c setup_file.c write_all.c log.c words.c value_text.c \
     checksum.c status.c names.c tiling.c record.c told.c)
 case_sources := $(addprefix rig/,cases.c case_images.c case_bursts.c case_data.c case_records.c case_fields.c \
     case_spoilings.c case_wrecks.c case_values.c case_tilings.c random.c checksum.c)

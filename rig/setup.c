@@ -6,6 +6,7 @@
 #include <stdio.h>
 #include <string.h>
 #include <sys/stat.h>
+#include <unistd.h>
 
 #include "status.h"
 
@@ -45,15 +46,34 @@ int load(const char *path, struct setup *setup, uint8_t *form)
     return DONE;
 }
 
-int keep(const char *path, const struct setup *setup)
+int hold(const char *path, int *held)
+{
+    *held = hold_setup(path);
+    if (*held >= 0 || errno == ENOENT)
+        return DONE;
+    return errno == EWOULDBLOCK ? taken(path) : not_done("hold", path);
+}
+
+static int keep_held(const char *path, int *held, const struct setup *setup)
 {
     const char *failed_at;
-    enum kept kept = keep_setup(path, setup->bytes, setup->len, &failed_at);
+    enum kept kept = keep_setup(path, held, setup->bytes, setup->len, &failed_at);
     if (kept == KEPT)
         return DONE;
     fprintf(stderr, "rig: %s: cannot %s: %s; %s\n", path, failed_at, strerror(errno),
             kept == NOT_KEPT ? "it is as it was" : "it has the new setup, but a power cut may bring back what was there");
     return BAD;
+}
+
+int keep(const char *path, const struct setup *setup)
+{
+    int held, status = hold(path, &held);
+    if (status != DONE)
+        return status;
+    status = keep_held(path, &held, setup);
+    if (held >= 0)
+        close(held);
+    return status;
 }
 
 int keep_new(const char *path, const struct setup *setup)
@@ -64,6 +84,11 @@ int keep_new(const char *path, const struct setup *setup)
         return BAD;
     }
     return keep(path, setup);
+}
+
+bool same_setup(const struct setup *setup, const struct setup *other)
+{
+    return setup->len == other->len && memcmp(setup->bytes, other->bytes, setup->len) == 0;
 }
 
 size_t panel_count(const struct setup *setup)

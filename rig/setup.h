@@ -19,10 +19,17 @@ int load_image(const char *path, uint8_t image[SETUP_FILE_LIMIT + 1], size_t *le
  * is the file's. */
 int load(const char *path, struct setup *setup, uint8_t *form);
 
+/* Holds the setup at path for this program alone, or says that another has it. *held is then -1 where there is none. */
+int hold(const char *path, int *held);
+
+/* Held while it is written. */
 int keep(const char *path, const struct setup *setup);
 
 /* In a new file; one that is there is left alone. */
 int keep_new(const char *path, const struct setup *setup);
+
+/* Both in form 2 with all fields, as loaded or played: other bytes are other settings. */
+bool same_setup(const struct setup *setup, const struct setup *other);
 
 /* The records of a setup in form 2. */
 size_t panel_count(const struct setup *setup);

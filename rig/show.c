@@ -7,8 +7,9 @@
 #include "setup.h"
 #include "status.h"
 #include "tiling.h"
+#include "value_text.h"
 
-enum { TEXT = 64 };                     /* room for what stands in one column */
+enum { TEXT = 2 * VALUE_TEXT };         /* room for what stands in one column */
 
 /* Some of a setting's values. */
 struct column {
@@ -28,36 +29,10 @@ static const struct column tiling_columns[] = {
 };
 enum { COLUMNS = sizeof columns / sizeof columns[0], TILING_COLUMNS = sizeof tiling_columns / sizeof tiling_columns[0] };
 
-/* The position as a column and a row of the wall: it is counted from left to right, then down. */
-static int print_position(char *to, size_t room, struct size wall, uint8_t position)
-{
-    unsigned before = position - 1u;
-    return snprintf(to, room, "%u (column %u, row %u)", position, before % wall.width + 1, before / wall.width + 1);
-}
-
-/* The text of the setting's value i on the panel; its length. */
-static int print_value(char *to, size_t room, const struct setting *setting, unsigned i, const uint8_t *values,
-                       const uint8_t *record)
-{
-    uint8_t value = values[i];
-    const char *word = value_word(setting, i, value);
-    if (word)
-        return snprintf(to, room, "%s", word);
-    if (record[PROFILE_AT] == UNDIVARRO_PHOENIX && is_tint(setting, i))
-        return snprintf(to, room, value > 0 ? "%+d" : "%d", (int8_t)value);
-    if (setting != &settings[TILING])
-        return snprintf(to, room, "%u", value);
-    struct size wall = wall_of(record[KIND_AT], values[WALL_BYTE]);
-    return is_wall(setting, i) ? snprintf(to, room, "%u wide, %u high", wall.width, wall.height)
-                               : print_position(to, room, wall, value);
-}
-
-/* The setting's name, or the value's own where the column has one alone. */
 static const char *name_of(const struct column *column)
 {
     const struct setting *setting = &settings[column->setting];
-    const char *own = column->count == 1 ? setting->value_names[column->first] : NULL;
-    return own ? own : setting->name;
+    return column->count == 1 ? value_name(setting, column->first) : setting->name;
 }
 
 static int width_of(const struct column *column)
@@ -94,12 +69,9 @@ static void print_columns(const struct column *from, size_t count, const uint8_t
 
 static void print_head(const uint8_t *record)
 {
-    printf("%3u  ", record[ID_AT]);
-    if (record[GROUP_AT] == 255)
-        printf("  off");
-    else
-        printf("%5u", record[GROUP_AT]);
-    printf("  %s  %5s", profile_name(record[PROFILE_AT]), kind_name(record[KIND_AT]));
+    char group[VALUE_TEXT];
+    print_group(group, record[GROUP_AT]);
+    printf("%3u  %5s  %s  %5s", record[ID_AT], group, profile_name(record[PROFILE_AT]), kind_name(record[KIND_AT]));
 }
 
 int show(const char *path)

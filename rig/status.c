@@ -18,6 +18,12 @@ int not_done(const char *what, const char *path)
     return BAD;
 }
 
+int taken(const char *path)
+{
+    fprintf(stderr, "rig: %s is taken: another rig is at work on it; end that one first\n", path);
+    return BAD;
+}
+
 int printed(void)
 {
     return fflush(stdout) == 0 && !ferror(stdout) ? DONE : not_done("write to", "standard output");

@@ -5,12 +5,16 @@
 #include <stdint.h>
 
 enum { DONE = 0, REFUSED = 1, BAD = 2 };
+enum { MISFIT = -1 };                   /* for `rig` itself: the command's arguments are not those that it takes */
 
 /* The library refused the image at path. */
 int refused(const char *path, uint32_t refusal);
 
 /* A call of the system failed; errno says why. */
 int not_done(const char *what, const char *path);
+
+/* Another program holds it. */
+int taken(const char *path);
 
 /* What was printed has left the program. */
 int printed(void);

@@ -44,6 +44,8 @@ int __wrap_fsync(int fd)
 {
     static int calls;
     calls++;                            /* the file, then its folder */
+    if (at("slow-sync") && calls == 1)
+        sleep(1);
     if (at("killed-before-sync") && calls == 1)
         raise(SIGKILL);
     if (at("sync-fails") && calls == 1)

@@ -157,9 +157,10 @@ refused_images() {
     done
 }
 
-for part in comparison program forms power tiling salvage salvage_command keeping words log; do
+for part in comparison live program forms power tiling salvage salvage_command keeping words log; do
     . "$parts/test_$part.sh" || exit 2
 done
 comparison_tests
+live_tests
 echo "$passed passed, $failed failed"
 [ "$failed" -eq 0 ]
