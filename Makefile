@@ -25,3 +25,4 @@ test:
 	.ci/run
 
 include rig/rig.mk
+include rig/install.mk

@@ -30,7 +30,7 @@ compare_sources := $(addprefix rig/,compare.c trial.c tally.c meetings.c damages
 rig: $(rig_out)/rig
 # the rig's tests; SEED=... repeats a comparison, CASES=... sets its length
 rig-test: rig $(rig_programs) $(rig_out)/bin/sanitized
-	RUN='$(RUN)' CASES='$(CASES)' SEED='$(SEED)' rig/test.sh $(rig_out)
+	RUN='$(RUN)' X86_CC='$(X86_CC)' CASES='$(CASES)' SEED='$(SEED)' rig/test.sh $(rig_out)
 # guest instructions per call, proved and plain, as a table
 bench: $(rig_out)/bin/bench $(rig_out)/libcount.so
 	@$(QEMU) -plugin $(rig_out)/libcount.so $(rig_out)/bin/bench

@@ -1,6 +1,7 @@
 #!/bin/bash
 # The rig's tests: one line for each, last `N passed, M failed`. `make rig-test` builds what it needs and calls it with
-# the folder of the programs. RUN is the emulator or nothing, CASES and SEED are the comparison's.
+# the folder of the programs. RUN is the emulator or nothing, X86_CC the compiler that goes with the library, CASES and SEED
+# are the comparison's.
 set -u
 parts=$(cd "$(dirname "$0")" && pwd)
 programs=$(cd "$1" && pwd)
@@ -157,7 +158,7 @@ refused_images() {
     done
 }
 
-for part in comparison live program forms power tiling salvage salvage_command keeping words log; do
+for part in comparison live program forms power tiling salvage salvage_command keeping words log diff install; do
     . "$parts/test_$part.sh" || exit 2
 done
 comparison_tests

@@ -1,6 +1,7 @@
 #!/bin/sh
 # Installs what the rig and the gate need and is missing, on Debian and its kin: a C compiler for x86-64, qemu's user
-# emulation (on an x86-64 machine only `make bench` runs under it), make, python3. Does nothing where all is there.
+# emulation (on an x86-64 machine only `make bench` runs under it), make, python3, and for the tests pkg-config and groff.
+# Does nothing where all is there.
 set -eu
 scratch=$(mktemp -d)
 trap 'rm -rf "$scratch"' EXIT
@@ -32,6 +33,8 @@ esac
 need gcc has_command gcc
 need make has_command make
 need python3 has_command python3
+need pkg-config has_command pkg-config
+need groff-base has_command groff
 need qemu-user has_command qemu-x86_64
 [ -n "$missing" ] || exit 0
 

@@ -1,0 +1,55 @@
+# What `make install` puts in place, as a C user meets it. Sourced by test.sh.
+
+root=$(dirname "$parts")
+example=$root/examples/one_burst.c
+installed='bin/rig include/undivarro.h lib/libundivarro.a lib/pkgconfig/undivarro.pc share/man/man1/rig.1'
+# install_to ARGUMENT...: a make of its own, which takes over nothing of the one that runs the tests
+install_to() {
+    env -u MAKEFLAGS -u MAKELEVEL make --no-print-directory -C "$root" install "$@" >message 2>&1 || { cat message; return 1; }
+}
+# links: the example with the copy that pkg-config finds, and its answer; under the emulator without other libraries
+links() {
+    local flags
+    flags=$(pkg-config --cflags --libs undivarro) || return
+    ${X86_CC:-gcc} -Wall -Wextra -Werror "$example" $flags ${RUN:+-static} -o example || return
+    same 'the example' "$(${RUN:-} ./example)" '06 01 00 19 02 1C refusal 0, setup of 47 bytes'
+}
+
+in_place() {
+    install_to PREFIX="$work/there" && same 'the files' "$(cd there && find . -type f ! -path './lib/undivarro/*' | sort)" \
+        "$(printf './%s\n' $installed | sort)" || return
+    cmp there/include/undivarro.h "$root/include/undivarro.h" && there/bin/rig new there/w 1:9 2:9 || return
+    same 'the installed rig' "$(echo 050100191D | there/bin/rig play there/w)" 06010019021C
+}
+linked_by_pkg_config() {
+    install_to PREFIX="$work/there" || return
+    local -x PKG_CONFIG_PATH=$work/there/lib/pkgconfig
+    same 'the library' "$(echo $(pkg-config --libs undivarro))" "-L$work/there/lib -lundivarro" && links
+}
+# DESTDIR stands in front of the files and not in them.
+staged() {
+    rm -rf stage && install_to PREFIX=/opt/box DESTDIR="$work/stage" || return
+    local file
+    for file in $installed; do [ -f "stage/opt/box/$file" ] || { echo "no $file"; return 1; }; done
+    grep -rlF "$work" stage && return 1
+    local -x PKG_CONFIG_PATH=$work/stage/opt/box/lib/pkgconfig
+    same 'the library' "$(echo $(pkg-config --libs undivarro))" '-L/opt/box/lib -lundivarro' || return
+    PKG_CONFIG_SYSROOT_DIR=$work/stage links
+}
+
+# Each command and option that `rig --help` has, in a page that the formatter takes without a word.
+man_page() {
+    install_to PREFIX="$work/there" || return
+    local page=there/share/man/man1/rig.1 word words
+    same 'what the formatter says' "$(groff -man -Tutf8 -ww -z "$page" 2>&1)" '' || return
+    groff -man -Tascii -P-cbou "$page" >page || return
+    mapfile -t words < <(rig --help | sed -nE 's/^(usage:|      ) (rig [a-z]+).*/\2/p'; rig --help | grep -oE -- '--[a-z]+' | sort -u)
+    same 'commands and options' "${#words[@]}" 10 || return
+    for word in "${words[@]}"; do grep -qF -- "$word" page || { echo "no $word in the man page"; return 1; }; done
+    ! grep '@' "$page"
+}
+
+test_that 'make install puts everything in place' in_place
+test_that 'an example links by pkg-config against the installed copy' linked_by_pkg_config
+test_that 'make install with DESTDIR' staged
+test_that 'the man page' man_page
