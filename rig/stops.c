@@ -7,6 +7,7 @@
 #include <stdbool.h>
 #include <stdlib.h>
 #include <string.h>
+#include <sys/stat.h>
 #include <unistd.h>
 
 ssize_t __real_write(int fd, const void *bytes, size_t len);
@@ -28,9 +29,18 @@ static int fail(int error)
     return -1;
 }
 
+/* A disk is full for files alone, and not for a line. */
+static bool is_file(int fd)
+{
+    struct stat is;
+    return fstat(fd, &is) == 0 && S_ISREG(is.st_mode);
+}
+
 ssize_t __wrap_write(int fd, const void *bytes, size_t len)
 {
     static bool half_done;
+    if (!is_file(fd))
+        return __real_write(fd, bytes, len);
     if (!half_done && (at("killed-in-write") || at("no-space") || at("two-writes"))) {
         half_done = true;
         return __real_write(fd, bytes, len / 2);

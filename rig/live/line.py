@@ -190,7 +190,8 @@ class Host:
     def __init__(self, site, image, *options, quiet=QUIET, line=None, **more):
         self.line = line or Line()
         self.log = LogPipe(f"{site.folder}/log-{os.path.basename(image)}")
-        self.box = Box(site, self.line.path, image, "--quiet", quiet, "--log", self.log.path, *options, **more)
+        options = (*options, "--log", self.log.path, *(["--quiet", quiet] if quiet else []))
+        self.box = Box(site, self.line.path, image, *options, **more)
         self.last_line = ""
 
     def ask(self, burst):

@@ -7,19 +7,18 @@ import subprocess
 import termios
 import time
 
-from line import QUIET, Box, Host, Line, Missed, same, text_of
+from line import PATIENCE, QUIET, Box, Host, Line, Missed, same, text_of
 from paper import ACK, NACK, control, packet
 from test_keeping import FAN, TWO, fan_get, fan_report, fan_set
 
 RATES = [1200, 2400, 4800, 9600, 19200, 38400, 57600]
 
 
-def refused(site, words, *arguments):
-    run = subprocess.run([*site.rig, "serve", *map(str, arguments)], capture_output=True, text=True, stdin=subprocess.DEVNULL)
-    same(f"status of {arguments}", run.returncode, 2)
+def refused(site, words, *arguments, status=2):
+    run = subprocess.run([*site.rig, "serve", *map(str, arguments)], capture_output=True, text=True, timeout=PATIENCE)
+    same(f"status of {arguments}", (run.returncode, run.stdout), (status, ""))
     if words not in run.stderr:
         raise Missed(f"no '{words}' in: {run.stderr}")
-    same("what was printed", run.stdout, "")
 
 
 def one_server_each(site, _):
@@ -208,30 +207,29 @@ def memory_is_fixed(site, _):
 
 
 def baud_rates(site, _):
-    """000's rates, raw and 8N1; 9600 and the quiet of the rate where nothing is said."""
-    image, line = site.new("w", TWO), Line()
+    """000's rates, raw and 8N1, whatever the line was before; 9600 and the rate's own quiet where nothing is said."""
     for rate in [None, *RATES]:
-        before = termios.tcgetattr(line.box)
-        before[0], before[1], before[3] = termios.ICRNL | termios.IXON, termios.OPOST | termios.ONLCR, termios.ECHO | termios.ICANON
-        termios.tcsetattr(line.box, termios.TCSANOW, before)
-        box = Box(site, line.path, image, *([] if rate is None else ["--baud", rate]))
+        image, line = site.new(f"w{rate}", TWO), Line()
+        cooked = termios.tcgetattr(line.box)
+        cooked[0:4] = (termios.ICRNL | termios.IXON | termios.ISTRIP, termios.OPOST | termios.ONLCR,
+                       termios.CS7 | termios.PARENB | termios.CSTOPB, termios.ECHO | termios.ICANON | termios.ISIG)
+        termios.tcsetattr(line.box, termios.TCSANOW, cooked)
+        host = Host(site, image, *(["--baud", rate] if rate else []), line=line, quiet=None)
         rate = rate or 9600
         quiet = "29.2" if rate == 1200 else "20"
-        same("its first word", box.said,
+        same("its first word", host.box.said,
              f"serving {image} on {line.path} at {rate} baud, a burst ends after {quiet} ms of quiet\n")
         iflag, oflag, cflag, lflag, ispeed, ospeed, _ = termios.tcgetattr(line.box)
         speed = getattr(termios, f"B{rate}")
         same(f"the line at {rate}", (iflag, oflag, lflag, ispeed, ospeed), (0, 0, 0, speed, speed))
         frame = termios.CSIZE | termios.PARENB | termios.CSTOPB | termios.CREAD | termios.CLOCAL
         same("its frame", cflag & frame, termios.CS8 | termios.CREAD | termios.CLOCAL)
-        every = packet(7, 0, *range(3, 39)[:36])
-        line.send(every)
-        line.send(b"\r\n\x11\x13\x04\xff")
-        same("status", box.end(), 0)
-        same("what the line itself gave back", line.pending(), b"")
+        same("the answer to every byte", host.ask(bytes(range(256))), b"")
+        same("every byte as it came", host.last_line.split(": ")[1], " ".join("%02X" % byte for byte in range(256)))
+        host.end()
     for rate in ("300", "115200", "9601", "0", "-9600", "9600x", "", "99999999999999999999"):
-        refused(site, f"rig: {rate} is no baud rate of SICP; these are 1200, 2400, 4800, 9600, 19200, 38400, 57600\n", line.path,
-                image, "--baud", rate)
+        refused(site, f"rig: {rate} is no baud rate of SICP; these are {', '.join(map(str, RATES))}\n", line.path, image, "--baud",
+                rate)
 
 
 def arguments_that_are_refused(site, _):
@@ -250,9 +248,8 @@ def arguments_that_are_refused(site, _):
     refused(site, f"rig: the log {line.path} is the device {line.path} itself", line.path, image, "--log", line.path)
     with open(f"{site.folder}/bad", "wb") as bad:
         bad.write(b"\0\0")
-    run = subprocess.run([*site.rig, "serve", line.path, f"{site.folder}/bad"], capture_output=True, text=True)
-    same("a setup that is refused", (run.returncode, run.stderr),
-         (1, f"rig: {site.folder}/bad: refusal 12: image: last byte is neither 1 nor 2\n"))
+    refused(site, f"rig: {site.folder}/bad: refusal 12: image: last byte is neither 1 nor 2\n", line.path, f"{site.folder}/bad",
+            status=1)
 
 
 TESTS = [
