@@ -183,10 +183,10 @@ def on_a_small_disk(site):
         not_kept(host, image, "cannot write the new setup beside it, No space left on device")
         os.unlink(f"{disk}/filler")
         kept_again(host, image, site)
-        subprocess.run(["mount", "-o", "remount,ro", disk], check=True)
+        subprocess.run(["mount", "-o", "remount,bind,ro", disk], check=True)
         same("the answer to a set", host.ask(fan_set(1, 4)), b"")
         same("the report after it", host.ask(fan_get(1)), fan_report(1, 2))
-        subprocess.run(["mount", "-o", "remount,rw", disk], check=True)
+        subprocess.run(["mount", "-o", "remount,bind,rw", disk], check=True)
         kept_again(host, image, site)
         host.end()
 
