@@ -8,7 +8,7 @@ import sys
 import threading
 from contextlib import contextmanager
 
-from line import PATIENCE, Box, Host, Line, Missed, bytes_of, same
+from line import PATIENCE, QUIET, Box, Host, Line, Missed, bytes_of, same
 from paper import ACK, FIVE_BY_FIVE, GENERAL, PHOENIX, Panel, all_models, control, packet
 
 KILLS = 60
@@ -57,10 +57,11 @@ class Sets:
             self.held[number, code] = [report[4]]
         return on_their_way
 
-    def answer_or_death(self, box):
+    def answer_or_death(self, process):
+        """The end of what the box prints is its own."""
         got = b""
         while len(got) < 6:
-            ready = select.select([self.line.host, box], [], [], PATIENCE)[0]
+            ready = select.select([self.line.host, process.stdout], [], [], PATIENCE)[0]
             if self.line.host in ready:
                 got += os.read(self.line.host, 6 - len(got))
             elif ready:
@@ -71,15 +72,13 @@ class Sets:
 
     def until_killed(self, process, random):
         """An answer that was out before counts."""
-        box = os.pidfd_open(process.pid)
         while True:
             last = self.send(random)
-            answer = self.answer_or_death(box)
+            answer = self.answer_or_death(process)
             if not answer:
-                break
+                return
             same("the answer to a set", answer, control(last[0], ACK))
             self.acknowledged(*last)
-        os.close(box)
 
 
 def killed_at_random_moments(site, random):
@@ -87,8 +86,8 @@ def killed_at_random_moments(site, random):
     image, sets, on_its_way = site.new("w", panels), Sets(panels), 0
     for _ in range(KILLS):
         sets.line = Line()
-        box = Box(site, sets.line.path, image, "--quiet", 1)
-        threading.Timer(random.uniform(0, 0.06), box.process.kill).start()
+        box = Box(site, sets.line.path, image, "--quiet", QUIET)
+        threading.Timer(random.uniform(0, 0.1), box.process.kill).start()
         sets.until_killed(box.process, random)
         same("status", box.wait(), -signal.SIGKILL)
         sets.line.close()
@@ -229,7 +228,7 @@ def stopped_while_it_keeps(site, _):
     """Killed at the moments of a keep: no ACK goes out before the setup is kept."""
     for moment, value in (("killed-before-sync", 1), ("killed-before-rename", 1), ("killed-after-rename", 4)):
         image, line = site.new(moment, TWO), Line()
-        box = Box(site, line.path, image, "--quiet", 1, stop_at=moment)
+        box = Box(site, line.path, image, "--quiet", QUIET, stop_at=moment)
         line.send(fan_set(1, 4))
         same(f"status when {moment}", box.wait(), -signal.SIGKILL)
         same("what went out", line.pending(), b"")

@@ -186,9 +186,9 @@ def waiting_costs_nothing(site, _):
 
 
 def memory_is_fixed(site, _):
-    """A thousand bursts, and one of a million bytes, leave the program as large as it was."""
+    """Five hundred bursts, and one of a million bytes, leave the program as large as it was."""
     image, line = site.new("w", TWO), Line()
-    box = Box(site, line.path, image, "--quiet", 2, "--log", "/dev/null")
+    box = Box(site, line.path, image, "--quiet", QUIET, "--log", "/dev/null")
 
     def size():
         return re.findall(r"VmData:\s+(\d+)", text_of(f"/proc/{box.process.pid}/status"))
@@ -199,7 +199,7 @@ def memory_is_fixed(site, _):
             line.answer()
     bursts(20)
     before = size()
-    bursts(1000)
+    bursts(500)
     line.send(b"\x05\x01\x00" + bytes(1000000))
     same("the answer to a million bytes", line.answer(), control(1, NACK))
     same("size of its data", size(), before)
