@@ -129,9 +129,14 @@ int log_burst(struct log *log, const struct played *played)
     return BAD;
 }
 
+bool try_open_log(struct log *log)
+{
+    return open_file(log, O_NONBLOCK);
+}
+
 bool try_log(struct log *log, const struct played *played)
 {
-    if (log->fd < 0 && !open_file(log, O_NONBLOCK))
+    if (log->fd < 0 && !try_open_log(log))
         return false;
     if (write_line(log, played))
         return true;

@@ -37,8 +37,9 @@ int log_is_not(const char *path, const char *other, const char *what);
 int open_log(struct log *log, const char *path, const char *image_path);
 int log_burst(struct log *log, const struct played *played);
 
-/* As log_burst, for a program that goes on without a log: says nothing, opens the log where it is not open, waits for
- * nothing, and closes it where it fails. False with errno. */
+/* For a program that goes on without a log: these say nothing and wait for nothing. try_log opens the log where it is not
+ * open, and closes it where it fails. False with errno. */
+bool try_open_log(struct log *log);
 bool try_log(struct log *log, const struct played *played);
 
 #endif

@@ -11,7 +11,6 @@
 
 enum { READ_END, WRITE_END };
 enum { MOST_OF_A_PACKET = 40 };
-enum { SECOND = 1000000000 };           /* in nanoseconds */
 
 /* A burst goes through its pipe in one piece. */
 _Static_assert(sizeof(struct burst) <= PIPE_BUF, "a burst is over what a pipe takes in one piece");

@@ -10,6 +10,8 @@
 #include <stdint.h>
 #include <time.h>
 
+enum { MILLISECOND = 1000000, SECOND = 1000000000 };    /* in nanoseconds */
+
 enum { BURST_FRONT = 256 };
 
 struct burst {

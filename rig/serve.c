@@ -15,7 +15,6 @@
 #include "receiver.h"
 #include "status.h"
 
-enum { MILLISECOND = 1000000 };         /* in nanoseconds */
 enum { LOOKED_FOR_EVERY = 200 * MILLISECOND };          /* a device that is away */
 
 struct server {
@@ -77,17 +76,15 @@ static bool keep_changed(struct server *server, const struct setup *after, struc
     return false;
 }
 
-static void log_or_go_on(struct server *server, const struct played *played)
+/* A log is there to be written, or is not. */
+static void meet_log(struct server *server, bool good)
 {
     const char *path = server->serving->log;
-    if (!path)
-        return;
-    bool good = try_log(&server->log, played);
     if (!good && !server->without_log)
         fprintf(stderr, "rig: cannot write to the log %s: %s; the box goes on, and tries again at each burst\n", path,
                 strerror(errno));
     if (good && server->without_log)
-        fprintf(stderr, "rig: the log %s is written again, from burst %lu on\n", path, played->number);
+        fprintf(stderr, "rig: the log %s is written again, from burst %lu on\n", path, server->number);
     server->without_log = !good;
 }
 
@@ -120,8 +117,9 @@ static void serve_burst(struct server *server, const struct burst *burst)
         return;
     }
     bool kept = keep_changed(server, &reply.after, &failure);
-    log_or_go_on(server, &(struct played){++server->number, &burst->at, burst->front, burst->len, shown, &reply,
-                                          kept ? NULL : &failure});
+    struct played played = {++server->number, &burst->at, burst->front, burst->len, shown, &reply, kept ? NULL : &failure};
+    if (server->serving->log)
+        meet_log(server, try_log(&server->log, &played));
     if (kept)
         send_answer(server, reply.answer, reply.len);
 }
@@ -174,14 +172,12 @@ static bool wait_for_device(struct server *server)
 {
     const char *path = server->serving->device;
     fprintf(stderr, "rig: %s went away; it is opened again when it comes back\n", path);
-    while (!ending) {
-        if (open_line(server)) {
-            fprintf(stderr, "rig: %s is back\n", path);
-            return true;
-        }
+    do
         ppoll(NULL, 0, &(struct timespec){0, LOOKED_FOR_EVERY}, &server->while_waiting);
-    }
-    return false;
+    while (!ending && !open_line(server));
+    if (!ending)
+        fprintf(stderr, "rig: %s is back\n", path);
+    return !ending;
 }
 
 static int open_server(struct server *server)
@@ -208,6 +204,8 @@ int serve(const struct serving *serving)
     int status = open_server(&server);
     if (status != DONE)
         return status;
+    if (serving->log)
+        meet_log(&server, try_open_log(&server.log));
     printf("serving %s on %s at %u baud, a burst ends after %.*f ms of quiet\n", serving->image, serving->device,
            serving->baud, serving->quiet % MILLISECOND ? 1 : 0, (double)serving->quiet / MILLISECOND);
     fflush(stdout);

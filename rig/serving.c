@@ -1,14 +1,16 @@
 /* The arguments of rig serve */
+#define _POSIX_C_SOURCE 200809L
+
 #include <stdbool.h>
 #include <stdio.h>
 #include <string.h>
 
 #include "commands.h"
 #include "device.h"
+#include "receiver.h"
 #include "status.h"
 
-enum { LONGEST_QUIET = 60000, LEAST_USUAL_QUIET = 20, MILLISECOND = 1000000 };
-#define SECOND 1000000000LL
+enum { LONGEST_QUIET = 60000, LEAST_USUAL_QUIET = 20 };  /* milliseconds */
 /* 8N1 takes ten bits for a byte; the usual quiet is the time of three and a half. */
 enum { BITS_OF_QUIET = 35 };
 
@@ -60,7 +62,7 @@ static int read_option(const char *name, const char *text, struct serving *servi
 
 static int64_t usual_quiet(unsigned baud)
 {
-    int64_t bytes = BITS_OF_QUIET * SECOND / baud, least = LEAST_USUAL_QUIET * (int64_t)MILLISECOND;
+    int64_t bytes = (int64_t)BITS_OF_QUIET * SECOND / baud, least = (int64_t)LEAST_USUAL_QUIET * MILLISECOND;
     return bytes > least ? bytes : least;
 }
 

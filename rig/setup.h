@@ -19,7 +19,7 @@ int load_image(const char *path, uint8_t image[SETUP_FILE_LIMIT + 1], size_t *le
  * is the file's. */
 int load(const char *path, struct setup *setup, uint8_t *form);
 
-/* Holds the setup at path for this program alone, or says that another has it. *held is then -1 where there is none. */
+/* Holds the setup at path for this program alone, or says that another has it. *held is -1 where there is no file. */
 int hold(const char *path, int *held);
 
 /* Held while it is written. */

@@ -35,8 +35,8 @@ bool load_setup(const char *path, uint8_t bytes[SETUP_FILE_LIMIT + 1], size_t *l
 
 static bool is_at(int fd, const char *path)
 {
-    struct stat open, there;
-    return fstat(fd, &open) == 0 && stat(path, &there) == 0 && open.st_dev == there.st_dev && open.st_ino == there.st_ino;
+    struct stat here, there;
+    return fstat(fd, &here) == 0 && stat(path, &there) == 0 && here.st_dev == there.st_dev && here.st_ino == there.st_ino;
 }
 
 /* Open for reading alone, so that a disk can be made read-only while a file on it is held. Where a file system has no locks,

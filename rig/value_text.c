@@ -14,7 +14,7 @@ static int print_position(char *to, size_t room, struct size wall, uint8_t posit
 }
 
 int print_value(char *to, size_t room, const struct setting *setting, unsigned i, const uint8_t *values,
-                       const uint8_t *record)
+                const uint8_t *record)
 {
     uint8_t value = values[i];
     const char *word = value_word(setting, i, value);

@@ -5,8 +5,8 @@ PROFILES = GENERAL, PHOENIX = range(2)
 KINDS = FIVE_BY_FIVE, FIFTEEN_BY_TEN = range(2)
 LARGEST = {FIVE_BY_FIVE: (5, 5), FIFTEEN_BY_TEN: (15, 10)}  # wide, high
 
-POWER, TILING, VIDEO = (0x18, 0x19), (0x22, 0x23), (0x32, 0x33)
-SETTINGS = POWER, TILING, VIDEO, (0x34, 0x35), (0x42, 0x43), (0x61, 0x62), (0xA3, 0xA4), (0xD0, 0xD1), (0xDD, 0xDE)
+TILING, VIDEO, FAN, COLD_START = (0x22, 0x23), (0x32, 0x33), (0x61, 0x62), (0xA3, 0xA4)
+SETTINGS = (0x18, 0x19), TILING, VIDEO, (0x34, 0x35), (0x42, 0x43), FAN, COLD_START, (0xD0, 0xD1), (0xDD, 0xDE)
 PLAIN = {  # each value's allowed bytes
     0x18: [(1, 2)],
     0x34: [(0, 1, 3, 4, 5, 6, 9, 10, 13)],
@@ -35,6 +35,18 @@ def control(panel, word):
     return packet(panel, 0, 0x00, word)
 
 
+def fan_set(panel, value):
+    return packet(panel, 0, FAN[0], value)
+
+
+def fan_get(panel):
+    return packet(panel, 0, FAN[1])
+
+
+def fan_report(panel, value):
+    return packet(panel, 0, FAN[1], value)
+
+
 class Panel:
     def __init__(self, number, group, profile, kind):
         self.number, self.group, self.profile, self.kind = number, group, profile, kind
@@ -51,6 +63,9 @@ class Panel:
             return [random.randint(0, 1), random.randint(0, 1), random.randint(1, wide * high), (high - 1) * width + wide]
         ranges = VIDEOS[self.profile] if code == VIDEO[0] else PLAIN[code]
         return [random.choice(values) for values in ranges]
+
+
+TWO = [Panel(1, 9, GENERAL, FIVE_BY_FIVE), Panel(2, 9, PHOENIX, FIVE_BY_FIVE)]
 
 
 def all_models():

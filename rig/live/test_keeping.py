@@ -9,24 +9,10 @@ import threading
 from contextlib import contextmanager
 
 from line import PATIENCE, QUIET, Box, Host, Line, Missed, bytes_of, same
-from paper import ACK, FIVE_BY_FIVE, GENERAL, PHOENIX, Panel, all_models, control, packet
+from paper import ACK, COLD_START, FAN, TWO, all_models, control, fan_get, fan_report, fan_set, packet
 
 KILLS = 60
-FAN = 0x61, 0x62
-COLD_START = 0xA3, 0xA4
-TWO = [Panel(1, 9, GENERAL, FIVE_BY_FIVE), Panel(2, 9, PHOENIX, FIVE_BY_FIVE)]
-
-
-def fan_set(number, value):
-    return packet(number, 0, FAN[0], value)
-
-
-def fan_get(number):
-    return packet(number, 0, FAN[1])
-
-
-def fan_report(number, value):
-    return packet(number, 0, FAN[1], value)
+PAGE = os.sysconf("SC_PAGESIZE")
 
 
 class Sets:
@@ -98,10 +84,10 @@ def killed_at_random_moments(site, random):
 
 @contextmanager
 def small_disk(folder):
-    """A disk of its own, of a few pages."""
+    """A disk of its own, of eight pages."""
     disk = f"{folder}/disk"
     os.mkdir(disk)
-    subprocess.run(["mount", "-t", "tmpfs", "-o", "size=32k,mode=777", "tmpfs", disk], check=True)
+    subprocess.run(["mount", "-t", "tmpfs", "-o", f"size={8 * PAGE},mode=777", "tmpfs", disk], check=True)
     try:
         yield disk
     finally:
@@ -112,7 +98,7 @@ def fill(disk):
     """Nothing more fits."""
     with open(f"{disk}/filler", "wb", buffering=0) as filler:
         try:
-            while filler.write(bytes(4096)):
+            while filler.write(bytes(PAGE)):
                 pass
         except OSError:
             pass

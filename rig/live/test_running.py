@@ -8,8 +8,7 @@ import termios
 import time
 
 from line import PATIENCE, QUIET, Box, Host, Line, Missed, same, text_of
-from paper import ACK, NACK, control, packet
-from test_keeping import FAN, TWO, fan_get, fan_report, fan_set
+from paper import ACK, FAN, NACK, TWO, control, fan_get, fan_report, fan_set, packet
 
 RATES = [1200, 2400, 4800, 9600, 19200, 38400, 57600]
 
@@ -158,10 +157,11 @@ def a_log_that_cannot_be_written(site, _):
     for log, why in (("/dev/full", "No space left on device"), (f"{site.folder}/none/log", "No such file or directory"),
                      (site.folder, "Is a directory")):
         box = Box(site, line.path, image, "--quiet", QUIET, "--log", log)
+        told = f"rig: cannot write to the log {log}: {why}; the box goes on, and tries again at each burst\n"
+        same("what was told at the start", box.messages(), told if log != "/dev/full" else "")
         for _ in range(3):
             line.send(fan_get(1))
             same(f"the report with the log {log}", line.answer(), fan_report(1, 1))
-        told = f"rig: cannot write to the log {log}: {why}; the box goes on, and tries again at each burst\n"
         same("what was told", box.messages(), told)
         if log.endswith("none/log"):
             os.mkdir(os.path.dirname(log))
