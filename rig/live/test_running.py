@@ -7,7 +7,7 @@ import subprocess
 import termios
 import time
 
-from line import PATIENCE, QUIET, Box, Host, Line, Missed, same, text_of
+from line import PATIENCE, QUIET, Box, Host, Line, Missed, same, text_of, wait_for
 from paper import ACK, FAN, NACK, TWO, control, fan_get, fan_report, fan_set, packet
 
 RATES = [1200, 2400, 4800, 9600, 19200, 38400, 57600]
@@ -43,6 +43,14 @@ def one_server_each(site, _):
     Box(site, line.path, image).end()
 
 
+def looked_for_again(box):
+    """The box has looked for its device more than once: behind each look it is switched away from."""
+    def switches():
+        return sum(int(count) for thread in box.switches() for count in thread)
+    before = switches()
+    wait_for(lambda: switches() > before + 2, "a further look for the device")
+
+
 def a_device_that_goes_away(site, _):
     image, line, device = site.new("w", TWO), Line(), f"{site.folder}/device"
     os.symlink(line.path, device)
@@ -53,6 +61,7 @@ def a_device_that_goes_away(site, _):
         line.close()
         os.unlink(device)
         box.await_message("went away", times)
+        looked_for_again(box)
         line = Line()
         os.symlink(line.path, f"{device}.new")
         os.rename(f"{device}.new", device)
@@ -62,6 +71,7 @@ def a_device_that_goes_away(site, _):
     line.close()
     os.unlink(device)
     box.await_message("went away", 3)
+    looked_for_again(box)
     same("status without a device", box.end(), 0)
     same("what was told", box.messages(), f"rig: {device} went away; it is opened again when it comes back\n"
          f"rig: {device} is back\n" * 2 + f"rig: {device} went away; it is opened again when it comes back\n")
