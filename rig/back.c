@@ -51,7 +51,7 @@ static int refused_form_1(const char *path, const struct setup *setup)
 int back(const char *path, const char *new_path)
 {
     struct setup setup, form_1;
-    int status = load(path, &setup, NULL);
+    int status = load(path, -1, &setup, NULL);
     if (status != DONE)
         return status;
     struct undivarro_result r = undivarro_back(setup.bytes, setup.len, form_1.bytes, sizeof form_1.bytes);

@@ -103,7 +103,7 @@ static bool tell_single(const struct setup *setup, const char *path, const struc
 int diff(const char *path, const char *other_path)
 {
     struct setup setup, other;
-    if (load(path, &setup, NULL) != DONE || load(other_path, &other, NULL) != DONE)
+    if (load(path, -1, &setup, NULL) != DONE || load(other_path, -1, &other, NULL) != DONE)
         return BAD;
     bool differs = false;
     for (size_t k = 0; k < panel_count(&setup); k++) {

@@ -10,15 +10,10 @@
 #include <sys/stat.h>
 #include <unistd.h>
 
+#include "same_file.h"
 #include "status.h"
 #include "words.h"
 #include "write_all.h"
-
-static bool same_file(const char *path, const char *other)
-{
-    struct stat a, b;
-    return stat(path, &a) == 0 && stat(other, &b) == 0 && a.st_dev == b.st_dev && a.st_ino == b.st_ino;
-}
 
 /* After a power cut, or where the disk was full, the last line may lack its end. */
 static bool ends_in_line(int fd, const char *path)
@@ -37,28 +32,51 @@ static bool ends_in_line(int fd, const char *path)
 
 int log_is_not(const char *path, const char *other, const char *what)
 {
-    if (!same_file(path, other))
+    if (!lead_to_one(path, other))
         return DONE;
     fprintf(stderr, "rig: the log %s is the %s %s itself; give the log a file of its own\n", path, what, other);
     return BAD;
 }
 
-static bool open_file(struct log *log, int flags)
+/* By whatever way its name leads there. */
+static bool is_never(const struct log *log, int fd)
 {
-    log->fd = open(log->path, O_WRONLY | O_APPEND | O_CREAT | O_CLOEXEC | flags, 0666);
-    log->in_line = log->fd >= 0 && ends_in_line(log->fd, log->path);
-    return log->fd >= 0;
+    bool never = false;
+    for (size_t k = 0; k < sizeof log->never / sizeof log->never[0]; k++)
+        never |= log->never[k] && *log->never[k] >= 0 && same_file(fd, *log->never[k]);
+    return never;
 }
 
-int open_log(struct log *log, const char *path, const char *image_path)
+static bool open_file(struct log *log, int flags)
 {
-    if (log_is_not(path, image_path, "setup") != DONE)
+    int fd = open(log->path, O_WRONLY | O_APPEND | O_CREAT | O_NOCTTY | O_CLOEXEC | flags, 0666);
+    if (fd < 0)
+        return false;
+    if (is_never(log, fd)) {
+        close(fd);
+        errno = EBUSY;
+        return false;
+    }
+    if (log->fd >= 0)
+        close(log->fd);
+    log->fd = fd;
+    log->in_line = ends_in_line(fd, log->path);
+    return true;
+}
+
+const char *log_error(int error)
+{
+    return error == EBUSY ? "it is the setup or the device itself" : strerror(error);
+}
+
+int open_log(struct log *log, const char *image_path)
+{
+    if (log_is_not(log->path, image_path, "setup") != DONE)
         return BAD;
-    log->path = path;
     if (open_file(log, 0))
         return DONE;
-    fprintf(stderr, "rig: cannot open the log %s: %s; no burst was played; name a file that can be written to\n", path,
-            strerror(errno));
+    fprintf(stderr, "rig: cannot open the log %s: %s; no burst was played; name a file that can be written to\n", log->path,
+            log_error(errno));
     return BAD;
 }
 
@@ -71,58 +89,92 @@ static void print_time(FILE *to, const struct timespec *at)
         fprintf(to, "%s.%03ldZ ", text, at->tv_nsec / 1000000);
 }
 
-static void print_bytes(FILE *to, const struct played *played)
+static void print_bytes(FILE *to, const uint8_t *bytes, size_t len, size_t shown)
 {
-    if (played->len == 0)
+    if (len == 0)
         fputs(" -", to);
-    for (size_t i = 0; i < played->shown; i++)
-        fprintf(to, " %02X", played->burst[i]);
-    if (played->shown < played->len)
+    for (size_t i = 0; i < shown; i++)
+        fprintf(to, " %02X", bytes[i]);
+    if (shown < len)
         fputs(" ...", to);
 }
 
-static void print_line(FILE *to, const struct played *played)
+static void print_played(FILE *to, const struct played *played)
 {
     const struct reply *reply = played->reply;
     if (played->at)
         print_time(to, played->at);
     fprintf(to, "%lu:", played->number);
-    print_bytes(to, played);
+    print_bytes(to, played->burst, played->len, played->shown);
     fputs(": ", to);
     say_burst(to, played->burst, played->len, reply->damage);
     fputs(": ", to);
     if (played->failure)
-        fprintf(to, "silence, since the setup is not kept (cannot %s, %s)", played->failure->failed_at,
-                strerror(played->failure->error));
+        fprintf(to, "silence, since the setup is not kept (cannot %s, %s)", played->failure->failed_at, played->failure->why);
     else
         say_answer(to, played->burst, played->len, reply->answer, reply->len);
-    fputc('\n', to);
 }
 
-/* Made whole before it is written, so that two rigs at work on one log keep their lines apart. */
-static bool write_line(struct log *log, const struct played *played)
+static void print_remark(FILE *to, const struct remark *remark)
 {
-    char *line = NULL;
-    size_t len = 0;
-    FILE *to = open_memstream(&line, &len);
-    if (!to)
-        return false;
-    if (log->in_line)
-        fputc('\n', to);
-    print_line(to, played);
-    bool good = !ferror(to);
-    good = fclose(to) == 0 && good && write_all(log->fd, line, len);
+    print_time(to, remark->at);
+    fprintf(to, "%lu", remark->first);
+    if (remark->last != remark->first)
+        fprintf(to, " to %lu", remark->last);
+    fputc(':', to);
+    print_bytes(to, remark->bytes, remark->len, remark->len);
+    fprintf(to, ": %s: %s", remark->about, remark->outcome);
+}
+
+/* A line is made whole before it is written, so that two rigs at work on one log keep their lines apart. */
+struct line {
+    FILE *to;                           /* or NULL, with errno */
+    char *text;
+    size_t len;
+};
+
+static void begin_line(struct line *line, const struct log *log)
+{
+    *line = (struct line){.text = NULL};
+    line->to = open_memstream(&line->text, &line->len);
+    if (line->to && log->in_line)
+        fputc('\n', line->to);
+}
+
+static bool end_line(struct line *line, struct log *log)
+{
+    fputc('\n', line->to);
+    bool good = !ferror(line->to);
+    good = fclose(line->to) == 0 && good && write_all(log->fd, line->text, line->len);
     int error = errno;
-    free(line);
+    free(line->text);
     errno = error;
     if (good)
         log->in_line = false;
     return good;
 }
 
+static bool write_played(struct log *log, const struct played *played)
+{
+    struct line line;
+    begin_line(&line, log);
+    if (line.to)
+        print_played(line.to, played);
+    return line.to && end_line(&line, log);
+}
+
+static bool write_remark(struct log *log, const struct remark *remark)
+{
+    struct line line;
+    begin_line(&line, log);
+    if (line.to)
+        print_remark(line.to, remark);
+    return line.to && end_line(&line, log);
+}
+
 int log_burst(struct log *log, const struct played *played)
 {
-    if (write_line(log, played))
+    if (write_played(log, played))
         return DONE;
     fprintf(stderr, "rig: cannot write to the log %s: %s; the burst of line %lu was played, but its answer is held back; "
             "make room for the log, or name another\n", log->path, strerror(errno), played->number);
@@ -134,15 +186,29 @@ bool try_open_log(struct log *log)
     return open_file(log, O_NONBLOCK);
 }
 
+static bool is_open(struct log *log)
+{
+    return log->fd >= 0 || try_open_log(log);
+}
+
+/* A log that failed is opened anew for the next line. */
+static bool stays_open(struct log *log, bool good)
+{
+    if (!good) {
+        int error = errno;
+        close(log->fd);
+        log->fd = -1;
+        errno = error;
+    }
+    return good;
+}
+
 bool try_log(struct log *log, const struct played *played)
 {
-    if (log->fd < 0 && !try_open_log(log))
-        return false;
-    if (write_line(log, played))
-        return true;
-    int error = errno;
-    close(log->fd);
-    log->fd = -1;
-    errno = error;
-    return false;
+    return is_open(log) && stays_open(log, write_played(log, played));
+}
+
+bool try_remark(struct log *log, const struct remark *remark)
+{
+    return is_open(log) && stays_open(log, write_remark(log, remark));
 }

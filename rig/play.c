@@ -49,14 +49,27 @@ static void print_answer(const uint8_t *answer, size_t len)
 struct session {
     const char *path;
     struct setup setup;
+    int held;                           /* or -1 while another program has the setup */
+    pid_t holder;                       /* that one */
     struct log *log;                    /* or NULL */
 };
+
+/* The setup is held from before it is read. While another program has it, it is read anew for each burst. */
+static int take_up(struct session *session)
+{
+    if (session->held >= 0)
+        return DONE;
+    int status = hold(session->path, &session->held, &session->holder);
+    return status == DONE ? load(session->path, session->held, &session->setup, NULL) : status;
+}
 
 static int keep_if_changed(struct session *session, const struct setup *after)
 {
     if (same_setup(after, &session->setup))
         return DONE;
-    int status = keep(session->path, after);
+    if (session->held < 0)
+        return taken(session->path, session->holder);
+    int status = keep(session->path, &session->held, after);
     if (status == DONE)
         session->setup = *after;
     return status;
@@ -66,10 +79,13 @@ static int keep_if_changed(struct session *session, const struct setup *after)
 static int play_one(struct session *session, unsigned long number, const uint8_t *burst, size_t len)
 {
     struct reply reply;
+    int status = take_up(session);
+    if (status != DONE)
+        return status;
     uint32_t refusal = play_burst(&session->setup, burst, len, &reply);
     if (refusal)
         return refused(session->path, refusal);
-    int status = keep_if_changed(session, &reply.after);
+    status = keep_if_changed(session, &reply.after);
     if (status == DONE && session->log)
         status = log_burst(session->log, &(struct played){.number = number, .burst = burst, .len = len, .shown = len,
                                                           .reply = &reply});
@@ -103,10 +119,15 @@ static int play_lines(struct session *session)
 
 int play(const char *path, const char *log_path)
 {
-    struct log log;
-    struct session session = {.path = path, .log = log_path ? &log : NULL};
-    int status = load(path, &session.setup, NULL);
+    struct session session = {.path = path, .held = -1};
+    struct log log = {.path = log_path, .fd = -1, .never = {&session.held, NULL}};
+    session.log = log_path ? &log : NULL;
+    int status = take_up(&session);
     if (status == DONE && log_path)
-        status = open_log(&log, log_path, path);
+        status = open_log(&log, path);
+    if (status == DONE && session.held < 0) {
+        taken(path, session.holder);
+        fprintf(stderr, "rig: until then %s is looked at: a burst that would change it ends this program\n", path);
+    }
     return status == DONE ? play_lines(&session) : status;
 }

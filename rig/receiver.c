@@ -4,23 +4,15 @@
 
 #include <errno.h>
 #include <fcntl.h>
-#include <limits.h>
 #include <poll.h>
 #include <string.h>
+#include <sys/eventfd.h>
 #include <unistd.h>
+
+#include "clock.h"
 
 enum { READ_END, WRITE_END };
 enum { MOST_OF_A_PACKET = 40 };
-
-/* A burst goes through its pipe in one piece. */
-_Static_assert(sizeof(struct burst) <= PIPE_BUF, "a burst is over what a pipe takes in one piece");
-
-static int64_t now(void)
-{
-    struct timespec t;
-    clock_gettime(CLOCK_MONOTONIC, &t);
-    return (int64_t)t.tv_sec * SECOND + t.tv_nsec;
-}
 
 enum event { BYTES, QUIET, STOPPED };
 
@@ -31,8 +23,7 @@ static enum event next_event(const struct receiver *receiver, const struct burst
     struct pollfd fds[] = {{receiver->device, POLLIN, 0}, {packet ? -1 : receiver->stop[READ_END], POLLIN, 0}};
     int ready;
     do {
-        int64_t left = last + receiver->quiet - now();
-        struct timespec wait = {left > 0 ? left / SECOND : 0, left > 0 ? left % SECOND : 0};
+        struct timespec wait = span(last + receiver->quiet - now());
         ready = ppoll(fds, 2, burst->len > 0 ? &wait : NULL, NULL);
     } while (ready < 0);
     if (ready == 0)
@@ -57,16 +48,15 @@ static bool take_bytes(int device, struct burst *burst)
     return got > 0;
 }
 
-static void hand_on(const struct receiver *receiver, struct burst *burst)
+static void hand_on(struct receiver *receiver, struct burst *burst)
 {
-    while (write(receiver->bursts[WRITE_END], burst, sizeof *burst) < 0 && errno == EINTR)
-        ;
+    put_burst(&receiver->queue, burst);
     burst->len = 0;
 }
 
 static void *receive(void *of)
 {
-    const struct receiver *receiver = of;
+    struct receiver *receiver = of;
     struct burst burst = {.len = 0};
     int64_t last = 0;
     enum event event;
@@ -80,33 +70,40 @@ static void *receive(void *of)
     }
     if (event != STOPPED && burst.len > 0)      /* the line is quiet for good */
         hand_on(receiver, &burst);
-    burst.len = 0;
-    hand_on(receiver, &burst);
+    end_bursts(&receiver->queue);
     return NULL;
 }
 
 bool make_receiver(struct receiver *receiver, int64_t quiet)
 {
     receiver->quiet = quiet;
-    return pipe2(receiver->bursts, O_CLOEXEC) == 0 && pipe2(receiver->stop, O_CLOEXEC) == 0;
+    return make_burst_queue(&receiver->queue) && pipe2(receiver->stop, O_CLOEXEC) == 0;
 }
 
+/* No signal is the thread's. */
 bool start_receiver(struct receiver *receiver, int device)
 {
+    sigset_t all, own;
     receiver->device = device;
+    begin_bursts(&receiver->queue);
+    sigfillset(&all);
+    pthread_sigmask(SIG_SETMASK, &all, &own);
     errno = pthread_create(&receiver->thread, NULL, receive, receiver);
+    pthread_sigmask(SIG_SETMASK, &own, NULL);
     return errno == 0;
 }
 
-bool next_burst(const struct receiver *receiver, const sigset_t *while_waiting, struct burst *burst)
+bool next_burst(struct receiver *receiver, const sigset_t *while_waiting, struct burst *burst)
 {
-    struct pollfd fd = {receiver->bursts[READ_END], POLLIN, 0};
-    if (ppoll(&fd, 1, NULL, while_waiting) < 0)
-        return false;
-    bool good = read(receiver->bursts[READ_END], burst, sizeof *burst) == sizeof *burst;
-    if (good && burst->len == 0)
+    while (!take_burst(&receiver->queue, burst)) {
+        struct pollfd fd = {receiver->queue.filled, POLLIN, 0};
+        if (ppoll(&fd, 1, NULL, while_waiting) < 0)
+            return false;
+        eventfd_read(receiver->queue.filled, &(eventfd_t){0});
+    }
+    if (burst->len == 0 && burst->lost == 0)
         pthread_join(receiver->thread, NULL);
-    return good;
+    return true;
 }
 
 void stop_receiver(struct receiver *receiver)

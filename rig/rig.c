@@ -1,8 +1,15 @@
 /* The bench rig: bursts from a line or from a file, played on a setup that is kept in a file. */
+#define _POSIX_C_SOURCE 200809L
+
+#include <fcntl.h>
+#include <signal.h>
+#include <stdbool.h>
 #include <stdio.h>
 #include <string.h>
+#include <unistd.h>
 
 #include "commands.h"
+#include "errors.h"
 #include "status.h"
 
 static const char usage[] =
@@ -32,6 +39,7 @@ static const char usage[] =
 static int run_serve(int count, char **given)
 {
     struct serving serving;
+    never_wait_for_errors();
     int status = read_serving(count, given, &serving);
     return status == DONE ? serve(&serving) : status;
 }
@@ -89,8 +97,21 @@ static int misused(void)
     return BAD;
 }
 
+/* A descriptor of the three that is closed would be given to a file, and what is printed would go there. */
+static bool have_descriptors(void)
+{
+    for (int fd = STDIN_FILENO; fd <= STDERR_FILENO; fd++)
+        if (fcntl(fd, F_GETFD) < 0 && open("/dev/null", O_RDWR) != fd)
+            return false;
+    return true;
+}
+
 int main(int argc, char **argv)
 {
+    if (!have_descriptors())
+        return BAD;
+    /* A limit on the size of files is a failure to write, and no end. */
+    signal(SIGXFSZ, SIG_IGN);
     if (argc < 2) {
         fputs("rig: no command is given\n", stderr);
         return misused();

@@ -64,22 +64,18 @@ int salvage(const char *path, const char *new_path)
     uint8_t image[SETUP_FILE_LIMIT + 1], lines[UNDIVARRO_LINES_CAP];
     struct setup kept;
     size_t len;
-    int status = load_image(path, image, &len);
+    int status = load_image(path, -1, image, &len);
     if (status != DONE)
         return status;
     struct undivarro_result r = undivarro_salvage(image, len, lines, sizeof lines, kept.bytes, sizeof kept.bytes);
     if (r.refusal)
         return refused(path, r.refusal);
     kept.len = r.image_len;
+    size_t panels = panel_count(&kept), records = image[len - 2];
     print_lines(lines, r.answer_len, image, len);
+    printf("%zu panel%s of %zu record%s to be kept in %s\n", panels, panels == 1 ? "" : "s", records, records == 1 ? "" : "s",
+           new_path);
     /* What was lost is told before there is a file without it. */
     status = printed();
-    if (status == DONE)
-        status = keep_new(new_path, &kept);
-    if (status != DONE)
-        return status;
-    size_t panels = panel_count(&kept), records = image[len - 2];
-    printf("%zu panel%s of %zu record%s kept in %s\n", panels, panels == 1 ? "" : "s", records, records == 1 ? "" : "s",
-           new_path);
-    return printed();
+    return status == DONE ? keep_new(new_path, &kept) : status;
 }

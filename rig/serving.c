@@ -5,9 +5,9 @@
 #include <stdio.h>
 #include <string.h>
 
+#include "clock.h"
 #include "commands.h"
 #include "device.h"
-#include "receiver.h"
 #include "status.h"
 
 enum { LONGEST_QUIET = 60000, LEAST_USUAL_QUIET = 20 };  /* milliseconds */

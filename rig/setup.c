@@ -3,21 +3,45 @@
 #include "setup.h"
 
 #include <errno.h>
+#include <fcntl.h>
 #include <stdio.h>
 #include <string.h>
-#include <sys/stat.h>
 #include <unistd.h>
 
 #include "status.h"
 
-int load_image(const char *path, uint8_t image[SETUP_FILE_LIMIT + 1], size_t *len)
+/* errno says why. */
+static int not_opened(const char *what, const char *path)
 {
-    if (!load_setup(path, image, len)) {
-        if (errno != ENOENT)
-            return not_done("read", path);
-        fprintf(stderr, "rig: there is no %s; make it with: rig new %s ID:GROUP ...\n", path, path);
-        return BAD;
-    }
+    if (errno != ENOENT)
+        return not_done(what, path);
+    fprintf(stderr, "rig: there is no %s; make it with: rig new %s ID:GROUP ...\n", path, path);
+    return BAD;
+}
+
+int hold(const char *path, int *held, pid_t *holder)
+{
+    *held = hold_setup(path, holder);
+    if (*held >= 0 || errno == EWOULDBLOCK)
+        return DONE;
+    if (errno != EINVAL)
+        return not_opened("hold", path);
+    fprintf(stderr, "rig: %s is no regular file, and a setup that is to be changed is kept in one\n", path);
+    return BAD;
+}
+
+int load_image(const char *path, int held, uint8_t image[SETUP_FILE_LIMIT + 1], size_t *len)
+{
+    int fd = held >= 0 ? held : open(path, O_RDONLY | O_NOCTTY | O_CLOEXEC);
+    if (fd < 0)
+        return not_opened("read", path);
+    bool good = read_setup(fd, image, len);
+    int error = errno;
+    if (held < 0)
+        close(fd);
+    errno = error;
+    if (!good)
+        return not_done("read", path);
     if (*len > SETUP_FILE_LIMIT) {
         fprintf(stderr, "rig: %s: over %d bytes; a setup image has at most %d, so this is not one\n", path,
                 SETUP_FILE_LIMIT, UNDIVARRO_IMAGE_CAP);
@@ -26,11 +50,11 @@ int load_image(const char *path, uint8_t image[SETUP_FILE_LIMIT + 1], size_t *le
     return DONE;
 }
 
-int load(const char *path, struct setup *setup, uint8_t *form)
+int load(const char *path, int held, struct setup *setup, uint8_t *form)
 {
     uint8_t image[SETUP_FILE_LIMIT + 1];
     size_t len;
-    int status = load_image(path, image, &len);
+    int status = load_image(path, held, image, &len);
     if (status != DONE)
         return status;
     struct undivarro_result r = undivarro_read(image, len, setup->bytes, sizeof setup->bytes);
@@ -46,44 +70,39 @@ int load(const char *path, struct setup *setup, uint8_t *form)
     return DONE;
 }
 
-int hold(const char *path, int *held)
+static int not_kept(const char *path, const struct failure *failure, const char *so)
 {
-    *held = hold_setup(path);
-    if (*held >= 0 || errno == ENOENT)
-        return DONE;
-    return errno == EWOULDBLOCK ? taken(path) : not_done("hold", path);
-}
-
-static int keep_held(const char *path, int *held, const struct setup *setup)
-{
-    const char *failed_at;
-    enum kept kept = keep_setup(path, held, setup->bytes, setup->len, &failed_at);
-    if (kept == KEPT)
-        return DONE;
-    fprintf(stderr, "rig: %s: cannot %s: %s; %s\n", path, failed_at, strerror(errno),
-            kept == NOT_KEPT ? "it is as it was" : "it has the new setup, but a power cut may bring back what was there");
+    fprintf(stderr, "rig: %s: cannot %s: %s; %s\n", path, failure->failed_at, failure->why, so);
     return BAD;
 }
 
-int keep(const char *path, const struct setup *setup)
+int keep(const char *path, int *held, const struct setup *setup)
 {
-    int held, status = hold(path, &held);
-    if (status != DONE)
-        return status;
-    status = keep_held(path, &held, setup);
-    if (held >= 0)
-        close(held);
-    return status;
+    struct failure failure;
+    switch (keep_setup(path, held, setup->bytes, setup->len, &failure)) {
+    case KEPT:
+        return DONE;
+    case KEPT_UNSYNCED:
+        return not_kept(path, &failure, "it has the new setup, but a power cut may bring back what was there");
+    default:
+        return not_kept(path, &failure, "it is as it was");
+    }
 }
 
 int keep_new(const char *path, const struct setup *setup)
 {
-    struct stat there;
-    if (lstat(path, &there) == 0) {
+    struct failure failure;
+    switch (make_setup(path, setup->bytes, setup->len, &failure)) {
+    case KEPT:
+        return DONE;
+    case KEPT_UNSYNCED:
+        return not_kept(path, &failure, "it has the new setup, but a power cut may take it away");
+    case THERE_ALREADY:
         fprintf(stderr, "rig: %s is there already; remove it first, or give another name\n", path);
         return BAD;
+    default:
+        return not_kept(path, &failure, "no file is made");
     }
-    return keep(path, setup);
 }
 
 bool same_setup(const struct setup *setup, const struct setup *other)

@@ -12,18 +12,20 @@ struct setup {
     uint8_t bytes[UNDIVARRO_IMAGE_CAP];
 };
 
+/* Holds the setup at path for this program alone. Where another has it, *held is -1, and *holder its process or 0. */
+int hold(const char *path, int *held, pid_t *holder);
+
+/* What follows reads by a descriptor that hold gave or, where it is -1, opens the file at path itself. */
+
 /* The bytes of the file as they are, whatever they hold. */
-int load_image(const char *path, uint8_t image[SETUP_FILE_LIMIT + 1], size_t *len);
+int load_image(const char *path, int held, uint8_t image[SETUP_FILE_LIMIT + 1], size_t *len);
 
 /* The setup in the file, in form 2 whatever the file has, with all fields of all panels by rising code. *form, if wanted,
  * is the file's. */
-int load(const char *path, struct setup *setup, uint8_t *form);
+int load(const char *path, int held, struct setup *setup, uint8_t *form);
 
-/* Holds the setup at path for this program alone, or says that another has it. *held is -1 where there is no file. */
-int hold(const char *path, int *held);
-
-/* Held while it is written. */
-int keep(const char *path, const struct setup *setup);
+/* In the file that is held. */
+int keep(const char *path, int *held, const struct setup *setup);
 
 /* In a new file; one that is there is left alone. */
 int keep_new(const char *path, const struct setup *setup);

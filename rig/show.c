@@ -78,7 +78,7 @@ int show(const char *path)
 {
     struct setup setup;
     uint8_t form;
-    int status = load(path, &setup, &form);
+    int status = load(path, -1, &setup, &form);
     if (status != DONE)
         return status;
     size_t count = panel_count(&setup);

@@ -18,9 +18,13 @@ int not_done(const char *what, const char *path)
     return BAD;
 }
 
-int taken(const char *path)
+int taken(const char *path, pid_t holder)
 {
-    fprintf(stderr, "rig: %s is taken: another rig is at work on it; end that one first\n", path);
+    fprintf(stderr, "rig: %s is taken: another rig is at work on it; end that one first", path);
+    if (holder)
+        fprintf(stderr, " (process %ld)\n", (long)holder);
+    else
+        fprintf(stderr, "; fuser %s names it\n", path);
     return BAD;
 }
 

@@ -3,8 +3,9 @@
 #define STATUS_H
 
 #include <stdint.h>
+#include <sys/types.h>
 
-enum { DONE = 0, REFUSED = 1, BAD = 2 };
+enum { DONE = 0, REFUSED = 1, BAD = 2, GONE = 3 };
 enum { MISFIT = -1 };                   /* for `rig` itself: the command's arguments are not those that it takes */
 
 /* The library refused the image at path. */
@@ -13,8 +14,8 @@ int refused(const char *path, uint32_t refusal);
 /* A call of the system failed; errno says why. */
 int not_done(const char *what, const char *path);
 
-/* Another program holds it. */
-int taken(const char *path);
+/* Another program holds it: this process, or 0 where that is not known. */
+int taken(const char *path, pid_t holder);
 
 /* What was printed has left the program. */
 int printed(void);

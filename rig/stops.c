@@ -1,21 +1,32 @@
-/* Linked with all of the rig in the place of write, fsync and rename (-Wl,--wrap=...), for the tests: stops the real
- * program at one moment while it keeps a setup. STOP_AT names the moment. */
-#define _POSIX_C_SOURCE 200809L
+/* Linked with all of the rig in the place of some calls (-Wl,--wrap=...), for the tests: stops the real program at one moment,
+ * or lets something happen there. STOP_AT names the moment. */
+#define _GNU_SOURCE
 
 #include <errno.h>
+#include <fcntl.h>
+#include <pthread.h>
 #include <signal.h>
 #include <stdbool.h>
+#include <stdio.h>
 #include <stdlib.h>
 #include <string.h>
 #include <sys/stat.h>
 #include <unistd.h>
 
+#include "pseudo.h"
+
 ssize_t __real_write(int fd, const void *bytes, size_t len);
 int __real_fsync(int fd);
-int __real_rename(const char *from, const char *to);
+int __real_renameat(int from_folder, const char *from, int to_folder, const char *to);
+int __real_renameat2(int from_folder, const char *from, int to_folder, const char *to, unsigned flags);
+int __real_pthread_create(pthread_t *thread, const pthread_attr_t *with, void *(*run)(void *), void *of);
+bool __real_is_pseudo_terminal(const struct stat *is);
 ssize_t __wrap_write(int fd, const void *bytes, size_t len);
 int __wrap_fsync(int fd);
-int __wrap_rename(const char *from, const char *to);
+int __wrap_renameat(int from_folder, const char *from, int to_folder, const char *to);
+int __wrap_renameat2(int from_folder, const char *from, int to_folder, const char *to, unsigned flags);
+int __wrap_pthread_create(pthread_t *thread, const pthread_attr_t *with, void *(*run)(void *), void *of);
+bool __wrap_is_pseudo_terminal(const struct stat *is);
 
 static bool at(const char *moment)
 {
@@ -36,9 +47,23 @@ static bool is_file(int fd)
     return fstat(fd, &is) == 0 && S_ISREG(is.st_mode);
 }
 
+/* A line that takes half of the first answer, and nothing more as long as it is tried for. */
+static ssize_t write_half(int fd, const char *bytes, size_t len)
+{
+    static const char *rest;
+    if (bytes == rest)
+        return fail(EAGAIN);
+    if (rest)
+        return __real_write(fd, bytes, len);
+    rest = bytes + len / 2;
+    return __real_write(fd, bytes, len / 2);
+}
+
 ssize_t __wrap_write(int fd, const void *bytes, size_t len)
 {
     static bool half_done;
+    if (at("half-an-answer") && isatty(fd))
+        return write_half(fd, bytes, len);
     if (!is_file(fd))
         return __real_write(fd, bytes, len);
     if (!half_done && (at("killed-in-write") || at("no-space") || at("two-writes"))) {
@@ -50,12 +75,20 @@ ssize_t __wrap_write(int fd, const void *bytes, size_t len)
     return at("no-space") ? fail(ENOSPC) : __real_write(fd, bytes, len);
 }
 
+/* Until somebody opens the pipe that STOP_UNTIL names for writing. */
+static void wait_for_pipe(void)
+{
+    close(open(getenv("STOP_UNTIL"), O_RDONLY));
+}
+
 int __wrap_fsync(int fd)
 {
     static int calls;
     calls++;                            /* the file, then its folder */
     if (at("slow-sync") && calls == 1)
         sleep(1);
+    if (at("long-sync") && calls == 1)
+        wait_for_pipe();
     if (at("killed-before-sync") && calls == 1)
         raise(SIGKILL);
     if (at("sync-fails") && calls == 1)
@@ -67,11 +100,43 @@ int __wrap_fsync(int fd)
     return __real_fsync(fd);
 }
 
-int __wrap_rename(const char *from, const char *to)
+/* A file of another's comes to the name at the last moment: the one that STOP_UNTIL names, or an empty one. */
+static void give_name(int folder, const char *name)
 {
+    if (at("moved-before"))
+        __real_renameat(AT_FDCWD, getenv("STOP_UNTIL"), folder, name);
+    if (at("named-before") || at("linked-before"))
+        close(openat(folder, name, O_WRONLY | O_CREAT | O_EXCL, 0666));
+}
+
+/* A rename with flags: two files exchanged, or a name that nobody has. Some file systems know none of these. */
+int __wrap_renameat2(int from_folder, const char *from, int to_folder, const char *to, unsigned flags)
+{
+    static bool named;
+    if (!named)
+        give_name(to_folder, to);
+    named = true;
     if (at("killed-before-rename"))
         raise(SIGKILL);
     if (at("rename-fails"))
         return fail(EIO);
-    return __real_rename(from, to);
+    if (at("no-flags") || at("no-flags-and-fails") || at("linked-before"))
+        return fail(EINVAL);
+    return __real_renameat2(from_folder, from, to_folder, to, flags);
+}
+
+int __wrap_renameat(int from_folder, const char *from, int to_folder, const char *to)
+{
+    return at("no-flags-and-fails") ? fail(EIO) : __real_renameat(from_folder, from, to_folder, to);
+}
+
+int __wrap_pthread_create(pthread_t *thread, const pthread_attr_t *with, void *(*run)(void *), void *of)
+{
+    return at("no-thread") ? EAGAIN : __real_pthread_create(thread, with, run, of);
+}
+
+/* No adapter is at hand: a pseudo-terminal stands for one. */
+bool __wrap_is_pseudo_terminal(const struct stat *is)
+{
+    return !at("adapter") && __real_is_pseudo_terminal(is);
 }

@@ -59,14 +59,20 @@ not_stopped() { stop never 0 && same answer "$(cat answers)" 060100000601 && new
 two_writes() { stop two-writes 0 && same answer "$(cat answers)" 060100000601 && new_setup_whole && nothing_beside; }
 killed_in_write() { stop killed-in-write 137 && old_setup_whole && sets_as_before; }
 killed_before_sync() { stop killed-before-sync 137 && old_setup_whole && sets_as_before; }
+# what it left beside goes with the next start
 killed_before_rename() {
-    stop killed-before-rename 137 && old_setup_whole || return
-    same 'the new setup beside it' "$(cat stopped/w.*.new | wc -c)" 92 && sets_as_before
+    stop killed-before-rename 137 && same 'the new setup beside it' "$(cat stopped/w.*.new | wc -c)" 92 && old_setup_whole &&
+        nothing_beside && sets_as_before
 }
 killed_after_rename() { stop killed-after-rename 137 && new_setup_whole && nothing_beside && sets_as_before; }
 no_space() { stop no-space 2 && grep -q 'No space left' message && old_setup_whole && nothing_beside; }
 sync_fails() { stop sync-fails 2 && grep -q 'cannot sync the new' message && old_setup_whole && nothing_beside; }
 rename_fails() { stop rename-fails 2 && grep -q 'cannot rename' message && old_setup_whole && nothing_beside; }
+# a file system that knows renames without flags alone
+no_flags() {
+    stop no-flags 0 && same answer "$(cat answers)" 060100000601 && new_setup_whole && nothing_beside || return
+    stop no-flags-and-fails 2 && grep -q 'cannot rename' message && old_setup_whole && nothing_beside
+}
 folder_sync_fails() { stop folder-sync-fails 2 && grep -q 'has the new setup' message && new_setup_whole && nothing_beside; }
 
 # The system's own refusal to write one byte more to any file; messages go through a pipe, which has no such limit.
@@ -74,7 +80,7 @@ file_size_limit() {
     fan_2_kept || return
     local message
     : >answers
-    message=$( (trap '' XFSZ; ulimit -f 0; echo 060100610462 | rig play stopped/w 2>&1); echo "status $?")
+    message=$( (ulimit -f 0; echo 060100610462 | rig play stopped/w 2>&1); echo "status $?")
     case $message in
     'rig: stopped/w: cannot write the new setup beside it: File too large'*'status 2') ;;
     *) echo "got $message"; return 1 ;;
@@ -110,6 +116,7 @@ test_that 'killed after renaming: the new setup' killed_after_rename
 test_that 'no space left: the old setup' no_space
 test_that 'a sync that fails: the old setup' sync_fails
 test_that 'a rename that fails: the old setup' rename_fails
+test_that 'a file system that cannot exchange files' no_flags
 test_that 'a folder that does not sync: the new setup, and a word' folder_sync_fails
 test_that 'no file may grow: the old setup' file_size_limit
 test_that 'a read-only folder: the old setup' read_only_folder

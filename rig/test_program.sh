@@ -162,9 +162,10 @@ files_that_are_too_big() (
     head -c 65536 /dev/zero >within
     ulimit -v 1000000
     for command in show play; do
-        ends 1 "rig: /dev/zero: $words" rig $command /dev/zero && ends 1 "rig: over: $words" rig $command over &&
+        ends 1 "rig: over: $words" rig $command over &&
             ends 1 'rig: within: refusal 12: image: last byte is neither 1 nor 2' rig $command within || return
     done
+    ends 1 "rig: /dev/zero: $words" rig show /dev/zero || return
     same 'left of 200,000 bytes' "$(head -c 200000 /dev/zero | { rig show /dev/stdin 2>message; wc -c; })" $((200000 - 65537))
 )
 
@@ -172,6 +173,21 @@ output_that_is_full() {
     wall w
     rig show w >/dev/full 2>message
     same 'status of show' $? 2 && grep -q 'standard output' message
+}
+
+# What is printed never goes to a file that was opened in its place.
+closed_descriptors() {
+    local closed
+    for closed in '>&-' '2>&-' '>&- 2>&-'; do
+        wall w && rm -f w.log && echo 0501006266 | eval "rig play w --log w.log $closed" || return
+        same "the log with $closed" "$(cat w.log)" '1: 05 01 00 62 66: ID 1, group 0, get fan: report from panel 1, fan 1' || return
+    done
+    wall w && rm -f w.log && rig play w --log w.log <&- && same 'the log without input' "$(cat w.log)" ''
+}
+
+# a name of its own for the program that make builds
+by_a_link() {
+    rm -f linked && ln -s "$programs/rig" linked && wall w && same 'the answer' "$(echo 0501006266 | ./linked play w)" 060100620164
 }
 
 test_that "01's bursts, each on a fresh wall" bursts_of_01
@@ -187,3 +203,5 @@ test_that 'refusals by number' refusals_by_number
 test_that 'new names the panel that is refused' new_names_the_bad_panel
 test_that 'files over 65,536 bytes' files_that_are_too_big
 test_that 'an output that is full' output_that_is_full
+test_that 'descriptors that are closed' closed_descriptors
+test_that 'the program by a link' by_a_link

@@ -9,7 +9,7 @@ salvages() {
     rm -f n && image_of w "$from" && touch -d 2001-01-01 w && rig salvage w n >told || return
     same "the lines of $from" "$(sed '$d' told | cut -c 1-8 | sed 's/ *$//' | paste -sd ,)" "$lines" &&
         same "what is kept of $from" "$(bytes n)" "$(setup_of 2 "$@")" &&
-        same 'the last line' "$(tail -n 1 told | tr -d s)" "$# panel of $records record kept in n" || return
+        same 'the last line' "$(tail -n 1 told | tr -d s)" "$# panel of $records record to be kept in n" || return
     same 'the setup' "$(bytes w)" "$from" && same 'its time' "$(stat -c %Y w)" "$(date -d 2001-01-01 +%s)"
 }
 # in_a_record: lines of a head and fields, a semicolon, the lines told of them, a semicolon, and the fields that are kept;

@@ -14,7 +14,7 @@ in_words() {
 5 16      record 5, ID 4: dropped, since it is too short
 6 16      record 6, ID 0: dropped, since its ID is 0
 7 16      record 7, ID 5: dropped, since its profile is unknown
-2 panels of 7 records kept in n" &&
+2 panels of 7 records to be kept in n" &&
         same 'what is kept' "$(bytes n)" "$(setup_of 2 "$(kept 010900 18:01)" "$(kept 030900 22:01000208)")"
 }
 
@@ -30,10 +30,10 @@ the_way_to_it() {
 
 new_files_only() { image_of w "$(setup_of 2 "010900$(field 61:05)")" && leaves_files_alone salvage; }
 
-# told_all_the_same WORDS: the last salvage ended with 2 and these words, and its one line was printed
+# told_all_the_same WORDS: the last salvage ended with 2 and these words, and its lines were printed
 told_all_the_same() {
-    same status $? 2 && grep -q "$1" message && same 'the lines' "$(cut -c 1-7 answers)" '1 18 61' && [ ! -e n ] ||
-        { cat message; return 1; }
+    same status $? 2 && grep -q "$1" message && same 'the lines' "$(cut -c 1-7 answers | tr '\n' '/')" '1 18 61/1 panel/' &&
+        [ ! -e n ] || { cat message; return 1; }
 }
 # where NEW cannot be kept, the lines are told and no file is left; where they cannot be told, there is no file
 new_cannot_be_kept() {
@@ -42,6 +42,10 @@ new_cannot_be_kept() {
     told_all_the_same 'No such file' || return
     stopped no-space '' salvage w folder/n
     told_all_the_same 'No space left' && same 'the folder' "$(ls folder)" '' || return
+    for_full_output && wall w && for_full_output
+}
+# also where there is no line of a fault
+for_full_output() {
     rig salvage w n >/dev/full 2>message
     same status $? 2 && grep -q 'standard output' message && [ ! -e n ]
 }

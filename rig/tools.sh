@@ -1,8 +1,9 @@
 #!/bin/sh
-# Installs what the rig and the gate need and is missing, on Debian and its kin: a C compiler for x86-64, qemu's user
-# emulation (on an x86-64 machine only `make bench` runs under it), make, python3, and for the tests pkg-config and groff.
-# Does nothing where all is there.
+# Installs what is missing, on Debian and its kin: for the rig a C compiler for x86-64 and, on another processor, qemu's user
+# emulation; `tools.sh test` also what its tests and the gate need, `tools.sh bench` what the benchmark needs. Does nothing
+# where all is there.
 set -eu
+PATH=$PATH:/usr/sbin
 scratch=$(mktemp -d)
 trap 'rm -rf "$scratch"' EXIT
 
@@ -24,6 +25,7 @@ aarch64)
     need gcc-x86-64-linux-gnu has_command x86_64-linux-gnu-gcc
     need libc6-dev-amd64-cross links x86_64-linux-gnu-gcc -static
     need libc6-dev links gcc
+    need qemu-user has_command qemu-x86_64
     ;;
 *)
     echo "rig/tools.sh: no way is known to run x86-64 programs on $(uname -m)" >&2
@@ -32,10 +34,18 @@ aarch64)
 esac
 need gcc has_command gcc
 need make has_command make
-need python3 has_command python3
-need pkg-config has_command pkg-config
-need groff-base has_command groff
-need qemu-user has_command qemu-x86_64
+case "${1:-}" in
+test)
+    need python3 has_command python3
+    need pkg-config has_command pkg-config
+    need groff-base has_command groff
+    need logrotate has_command logrotate
+    need procps has_command pkill
+    ;;
+bench)
+    need qemu-user has_command qemu-x86_64
+    ;;
+esac
 [ -n "$missing" ] || exit 0
 
 as_root=

@@ -11,6 +11,7 @@ import signal
 import subprocess
 import sys
 import termios
+import threading
 import time
 import tty
 
@@ -51,11 +52,15 @@ def bytes_of(path):
         return file.read()
 
 
+names = threading.RLock()  # of pseudo-terminals: while it is held, one that was given back stays free
+
+
 class Line:
     """A pseudo-terminal. The box opens it by its path; the host is here."""
 
     def __init__(self):
-        self.host, self.box = os.openpty()
+        with names:
+            self.host, self.box = os.openpty()
         tty.setraw(self.box)
         self.path = os.ttyname(self.box)
 
@@ -93,6 +98,17 @@ class Line:
             os.close(fd)
 
 
+def let_go_on(pipe):
+    """What waits for somebody who writes to the pipe (STOP_UNTIL of rig/stops.c)."""
+    def opened():
+        try:
+            os.close(os.open(pipe, os.O_WRONLY | os.O_NONBLOCK))
+        except OSError:
+            return False
+        return True
+    wait_for(opened, "a program that waits for the pipe")
+
+
 class LogPipe:
     """A log that is read line by line as it is written."""
 
@@ -128,11 +144,24 @@ class Site:
         subprocess.run([*self.rig, "new", image, *[p.argument() for p in panels]], check=True)
         return image
 
+    def run(self, *arguments, stop_at=None, prefix=(), bursts=()):
+        """The rig to its end, stopped at a moment if it is named (rig/stops.c)."""
+        program = self.stopped if stop_at else self.rig
+        return subprocess.run([*prefix, *program, *map(str, arguments)], env=dict(os.environ, STOP_AT=stop_at or "never"),
+                              input="".join(b.hex() + "\n" for b in bursts), text=True, capture_output=True, timeout=PATIENCE)
+
     def play(self, image, *bursts):
         """The answers to bursts played on a setup, which so has to be a whole one."""
-        run = subprocess.run([*self.rig, "play", image], input="".join(b.hex() + "\n" for b in bursts), text=True,
-                             capture_output=True, check=True)
+        run = self.run("play", image, bursts=bursts)
+        run.check_returncode()
         return [bytes.fromhex(line.replace("-", "")) for line in run.stdout.splitlines()]
+
+    def fails(self, words, *arguments, status=2, **more):
+        """Prints nothing, and says why."""
+        run = self.run(*arguments, **more)
+        same(f"status and output of {arguments}", (run.returncode, run.stdout), (status, ""))
+        if words not in run.stderr:
+            raise Missed(f"no '{words}' in: {run.stderr}")
 
     def close(self):
         for box in self.boxes:
@@ -143,14 +172,14 @@ class Site:
 class Box:
     """`rig serve`, ready: it has said that it serves."""
 
-    def __init__(self, site, device, image, *options, stop_at=None, prefix=()):
-        """Stopped at a moment of a keep, if it is named (rig/stops.c)."""
+    def __init__(self, site, device, image, *options, stop_at=None, stop_until="", prefix=(), errors=None):
+        """Stopped at a moment of a keep, if it is named (rig/stops.c). Its messages go to a file, or to errors."""
         program = site.stopped if stop_at else site.rig
         self.messages_path = f"{site.folder}/messages-{len(site.boxes)}"
         with open(self.messages_path, "wb") as messages:
             self.process = subprocess.Popen([*prefix, *program, "serve", device, image, *map(str, options)],
-                                            env=dict(os.environ, STOP_AT=stop_at or "never"), stdin=subprocess.DEVNULL,
-                                            stdout=subprocess.PIPE, stderr=messages)
+                                            env=dict(os.environ, STOP_AT=stop_at or "never", STOP_UNTIL=stop_until),
+                                            stdin=subprocess.DEVNULL, stdout=subprocess.PIPE, stderr=errors or messages)
         site.boxes.append(self)
         wait_until(self.process.stdout.fileno(), "the word that it serves")
         self.said = self.process.stdout.readline().decode()
@@ -184,12 +213,34 @@ class Box:
         return status
 
 
+class Play:
+    """`rig play`, open."""
+
+    def __init__(self, site, image):
+        self.process = subprocess.Popen([*site.rig, "play", image], stdin=subprocess.PIPE, stdout=subprocess.PIPE,
+                                        stderr=subprocess.PIPE, text=True)
+        site.boxes.append(self)
+
+    def ask(self, burst):
+        """The answer, empty for silence; where the program has ended without one, nothing."""
+        self.process.stdin.write(burst.hex() + "\n")
+        self.process.stdin.flush()
+        wait_until(self.process.stdout.fileno(), "an answer of rig play")
+        line = self.process.stdout.readline()
+        return bytes.fromhex(line.strip().replace("-", "")) if line else None
+
+    def end(self):
+        """Its status and what it has said."""
+        errors = self.process.communicate(timeout=PATIENCE)[1]
+        return self.process.returncode, errors
+
+
 class Host:
     """A host that knows from the log when its burst was played, and so also that it was met by silence."""
 
-    def __init__(self, site, image, *options, quiet=QUIET, line=None, **more):
+    def __init__(self, site, image, *options, quiet=QUIET, line=None, log=None, **more):
         self.line = line or Line()
-        self.log = LogPipe(f"{site.folder}/log-{os.path.basename(image)}")
+        self.log = LogPipe(f"{site.folder}/log-{log or os.path.basename(image)}")
         options = (*options, "--log", self.log.path, *(["--quiet", quiet] if quiet else []))
         self.box = Box(site, self.line.path, image, *options, **more)
         self.last_line = ""

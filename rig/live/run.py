@@ -2,6 +2,7 @@
 rig's programs; only the tests that have WORD in their name, if it is given. RUN is the emulator or nothing. One line for
 each test, last 'N passed, M failed'. Most of the time is waiting for quiet, so several run at once."""
 import os
+import signal
 import sys
 import tempfile
 import traceback
@@ -9,7 +10,10 @@ from concurrent.futures import ThreadPoolExecutor
 from random import Random
 
 import test_answers
+import test_held
 import test_keeping
+import test_line
+import test_meeting
 import test_running
 from line import Missed, Site
 
@@ -33,8 +37,9 @@ def fault_of(test, programs, random):
 
 
 def main(programs, seed, word=""):
+    signal.signal(signal.SIGINT, signal.default_int_handler)  # which whoever runs this in the background has ignored
     failed = 0
-    tests = [t for part in (test_answers, test_keeping, test_running) for t in part.TESTS if word in t[0]]
+    tests = [t for part in (test_answers, test_keeping, test_held, test_line, test_meeting, test_running) for t in part.TESTS if word in t[0]]
     with ThreadPoolExecutor(AT_ONCE) as pool:
         results = [(name, pool.submit(fault_of, test, programs, Random(f"{seed} {name}"))) for name, test in tests]
         for name, result in results:

@@ -13,11 +13,8 @@ from paper import ACK, FAN, NACK, TWO, control, fan_get, fan_report, fan_set, pa
 RATES = [1200, 2400, 4800, 9600, 19200, 38400, 57600]
 
 
-def refused(site, words, *arguments, status=2):
-    run = subprocess.run([*site.rig, "serve", *map(str, arguments)], capture_output=True, text=True, timeout=PATIENCE)
-    same(f"status of {arguments}", (run.returncode, run.stdout), (status, ""))
-    if words not in run.stderr:
-        raise Missed(f"no '{words}' in: {run.stderr}")
+def refused(site, words, *arguments, status=2, **more):
+    site.fails(words, "serve", *arguments, status=status, **more)
 
 
 def one_server_each(site, _):
