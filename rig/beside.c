@@ -5,6 +5,7 @@
 #include <dirent.h>
 #include <errno.h>
 #include <fcntl.h>
+#include <signal.h>
 #include <stdio.h>
 #include <stdlib.h>
 #include <string.h>
@@ -61,21 +62,21 @@ void drop_beside(struct beside *beside)
     errno = error;
 }
 
-/* .NUMBER.new, the number without zeros in front and no higher than any that is tried. */
-static bool is_end_of_name(const char *end)
+/* The number in .NUMBER.new, without zeros in front and no higher than any that is tried; 0 where it is none of these. */
+static pid_t number_in(const char *end)
 {
     if (end[0] != '.' || end[1] < '1' || end[1] > '9')
-        return false;
+        return 0;
     char *behind;
     long number = strtol(end + 1, &behind, 10);
-    return number < HIGHEST_PROCESS + TRIES && strcmp(behind, ending) == 0;
+    return number < HIGHEST_PROCESS + TRIES && strcmp(behind, ending) == 0 ? (pid_t)number : 0;
 }
 
 bool is_beside_name(const char *name)
 {
     bool is = false;
     for (const char *dot = strchr(name, '.'); dot; dot = strchr(dot + 1, '.'))
-        is |= is_end_of_name(dot);
+        is |= number_in(dot) > 0;
     return is;
 }
 
@@ -86,6 +87,12 @@ static bool is_ours(int fd, int folder, const char *of)
     return fstat(fd, &is) == 0 && S_ISREG(is.st_mode) && is.st_nlink == 1 && is.st_size <= UNDIVARRO_IMAGE_CAP &&
            (is.st_uid == geteuid() ||
             (fstatat(folder, of, &setup, AT_SYMLINK_NOFOLLOW) == 0 && is.st_uid == setup.st_uid));
+}
+
+/* A program that has just made its file has not held it yet, so its process counts too. */
+static bool is_gone(pid_t process)
+{
+    return process == getpid() || (kill(process, 0) != 0 && errno == ESRCH);
 }
 
 static void remove_if_left(int folder, const char *name, const char *of)
@@ -106,8 +113,10 @@ void remove_leftovers(int folder, const char *of)
     if (!entries)
         return;
     size_t len = strlen(of);
-    for (struct dirent *entry; (entry = readdir(entries));)
-        if (strncmp(entry->d_name, of, len) == 0 && is_end_of_name(entry->d_name + len))
+    for (struct dirent *entry; (entry = readdir(entries));) {
+        pid_t process = strncmp(entry->d_name, of, len) == 0 ? number_in(entry->d_name + len) : 0;
+        if (process && is_gone(process))
             remove_if_left(folder, entry->d_name, of);
+    }
     closedir(entries);
 }

@@ -54,21 +54,35 @@ struct session {
     struct log *log;                    /* or NULL */
 };
 
-/* The setup is held from before it is read. While another program has it, it is read anew for each burst. */
+/* The setup is held from before it is read. Where another program has it, it is read all the same. */
 static int take_up(struct session *session)
 {
-    if (session->held >= 0)
-        return DONE;
     int status = hold(session->path, &session->held, &session->holder);
     return status == DONE ? load(session->path, session->held, &session->setup, NULL) : status;
+}
+
+/* A setup that another program has is read anew for each burst, and held only for one that would change it, which is then
+ * played on what it is by now. */
+static int play_on(struct session *session, const uint8_t *burst, size_t len, struct reply *reply)
+{
+    int status = session->held < 0 ? load(session->path, -1, &session->setup, NULL) : DONE;
+    while (status == DONE) {
+        uint32_t refusal = play_burst(&session->setup, burst, len, reply);
+        if (refusal)
+            return refused(session->path, refusal);
+        if (session->held >= 0 || same_setup(&reply->after, &session->setup))
+            return DONE;
+        status = take_up(session);
+        if (status == DONE && session->held < 0)
+            return taken(session->path, session->holder);
+    }
+    return status;
 }
 
 static int keep_if_changed(struct session *session, const struct setup *after)
 {
     if (same_setup(after, &session->setup))
         return DONE;
-    if (session->held < 0)
-        return taken(session->path, session->holder);
     int status = keep(session->path, &session->held, after);
     if (status == DONE)
         session->setup = *after;
@@ -79,13 +93,9 @@ static int keep_if_changed(struct session *session, const struct setup *after)
 static int play_one(struct session *session, unsigned long number, const uint8_t *burst, size_t len)
 {
     struct reply reply;
-    int status = take_up(session);
-    if (status != DONE)
-        return status;
-    uint32_t refusal = play_burst(&session->setup, burst, len, &reply);
-    if (refusal)
-        return refused(session->path, refusal);
-    status = keep_if_changed(session, &reply.after);
+    int status = play_on(session, burst, len, &reply);
+    if (status == DONE)
+        status = keep_if_changed(session, &reply.after);
     if (status == DONE && session->log)
         status = log_burst(session->log, &(struct played){.number = number, .burst = burst, .len = len, .shown = len,
                                                           .reply = &reply});

@@ -23,7 +23,8 @@ static const char usage[] =
     "\n"
     "DEVICE is a serial device or a pseudo-terminal. It is opened raw, 8N1, at N baud: 1200, 2400, 4800, 9600, 19200, 38400\n"
     "or 57600, and 9600 where nothing is said. MS milliseconds without a byte end a burst; where nothing is said it is the\n"
-    "time of three and a half bytes, but at least 20 ms. SIGTERM and SIGINT end it between two bursts.\n"
+    "time of three and a half bytes, but at least 20 ms. SIGTERM and SIGINT end it between two bursts, SIGHUP opens the log\n"
+    "anew. A setup that another rig has is refused; play then answers bursts that change nothing, and ends at one that would.\n"
     "For play, a burst's bytes have two hex digits each, with or without spaces between bytes; an empty line is an empty\n"
     "burst. The answer is printed in hex, or - for silence.\n"
     "IMAGE is written at each burst that changes a setting, before its answer goes out, and at no other time. With --log a\n"
@@ -33,8 +34,8 @@ static const char usage[] =
     ":phoenix is given, and of the 5 by 5 kind unless :15x10 is given, which is 15 wide and 10 high. Setups of form 1 and\n"
     "form 2 are read, and form 2 is written; form 1 has no Phoenix and no 15x10 panels, and no tiling. A setup that is\n"
     "refused with 16, 17 or 18 can be salvaged: each fault is printed with what it means, and IMAGE stays as it is.\n"
-    "Exit status: 0 done, 1 the setup image was refused, 2 bad arguments, input or files; of diff: 0 alike, 1 different,\n"
-    "2 anything that was wrong.\n";
+    "Exit status: 0 done, 1 the setup image was refused, 2 bad arguments, input or files, 3 the pseudo-terminal that was served\n"
+    "went away; of diff: 0 alike, 1 different, 2 anything that was wrong.\n";
 
 static int run_serve(int count, char **given)
 {

@@ -324,9 +324,10 @@ static void tell_ready(const struct serving *serving)
 
 int serve(const struct serving *serving)
 {
-    static struct server server;
-    server = (struct server){.serving = serving, .held = -1, .device = {.fd = -1},
-                             .log = {.path = serving->log, .fd = -1, .never = {&server.held, &server.device.fd}}};
+    static struct server server = {.held = -1, .device = {.fd = -1},
+                                   .log = {.fd = -1, .never = {&server.held, &server.device.fd}}};
+    server.serving = serving;
+    server.log.path = serving->log;
     meet_signals(&server.while_waiting);
     int status = open_server(&server);
     if (status != DONE)

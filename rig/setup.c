@@ -24,9 +24,13 @@ int hold(const char *path, int *held, pid_t *holder)
     *held = hold_setup(path, holder);
     if (*held >= 0 || errno == EWOULDBLOCK)
         return DONE;
-    if (errno != EINVAL)
+    if (errno == EINVAL)
+        fprintf(stderr, "rig: %s is no regular file, and a setup that is to be changed is kept in one\n", path);
+    else if (errno == ENOLCK || errno == EBADF || errno == EOPNOTSUPP || errno == ENOSYS)
+        fprintf(stderr, "rig: %s cannot be held, since its file system has no locks for it; keep it on a disk of this machine\n",
+                path);
+    else
         return not_opened("hold", path);
-    fprintf(stderr, "rig: %s is no regular file, and a setup that is to be changed is kept in one\n", path);
     return BAD;
 }
 

@@ -1,4 +1,5 @@
 """A setup belongs to one program at a time, and that program to the file that it holds."""
+import fcntl
 import os
 import stat
 import struct
@@ -31,6 +32,13 @@ def an_open_play_and_another(site, _):
     same("a set after it", site.play(image, fan_set(1, 4)), [control(1, ACK)])
 
 
+def started(site, image):
+    """What a server says that ends at once."""
+    box = Box(site, Line().path, image)
+    same("status", box.end(), 0)
+    return box.messages()
+
+
 def a_play_that_was_opened_before(site, _):
     """Beside a server it looks at the setup as that is, and has it to itself when the server has ended."""
     image = site.new("w", TWO)
@@ -41,7 +49,9 @@ def a_play_that_was_opened_before(site, _):
         same("the report by play", play.ask(fan_get(1)), fan_report(1, value))
     site.fails(taken(image, host.box.process), "play", image, bursts=[fan_set(1, 2)])
     host.end()
-    same("a set when the server has ended", play.ask(fan_set(2, 2)), control(2, ACK))
+    same("the report when the server has ended", play.ask(fan_get(1)), fan_report(1, 3))
+    same("what a server says that starts anew", started(site, image), "")       # it is not kept off by one that looks
+    same("a set", play.ask(fan_set(2, 2)), control(2, ACK))
     site.fails(taken(image, play.process), "serve", Line().path, image)
     same("the report", play.ask(fan_get(1)), fan_report(1, 3))
     same("its status and what it said", play.end(), (0, taken(image, host.box.process) +
@@ -213,13 +223,6 @@ def planted_beside(site, _):
     host.end()
 
 
-def started(site, image):
-    """What a server says that ends at once."""
-    box = Box(site, Line().path, image)
-    same("status", box.end(), 0)
-    return box.messages()
-
-
 def leftovers(site, _):
     """Of programs that are gone they go with the next start; what is a living program's, or has another name, stays."""
     image, new, until = site.new("w", TWO), f"{site.folder}/n", f"{site.folder}/until"
@@ -233,7 +236,10 @@ def leftovers(site, _):
     os.link(f"{site.folder}/wx.7.new", f"{site.folder}/w.10.new")
     with open(f"{site.folder}/w.11.new", "wb") as file:
         file.write(bytes(1443))         # a setup has at most 1,442
-    stay = sorted([*others, "w.8.new", "w.9.new", "w.10.new", "w.11.new"])
+    living = open(f"{site.folder}/w.{os.getpid()}.new", "w")    # not held yet
+    held = open(f"{site.folder}/w.4194302.new", "w")            # by one that is not this machine's to see
+    fcntl.flock(held, fcntl.LOCK_EX)
+    stay = sorted([*others, *(os.path.basename(f.name) for f in (living, held)), "w.8.new", "w.9.new", "w.10.new", "w.11.new"])
 
     def beside(of):
         return sorted(n for n in os.listdir(site.folder) if n.startswith(of) and n not in ("w", "n", "until"))
