@@ -58,10 +58,9 @@ def a_new_log_that_cannot_be_opened(site, _):
     asked(line, 2)
     os.mkdir(os.path.dirname(log))
     asked(line, 1)
-    same("the lines of both", numbers_in(f"{gone}/log") + numbers_in(log), [1, 2, 3, 4])
-    same("the lines of the old one", numbers_in(f"{gone}/log")[:3], [1, 2, 3])
+    wait_for(lambda: os.path.exists(log), "the new log")
     asked(line, 1)
-    same("the last line of the new one", numbers_in(log)[-1], 5)
+    same("the lines of the old one and of the new one", (numbers_in(f"{gone}/log"), numbers_in(log)), ([1, 2, 3, 4], [5]))
     same("status", box.end(), 0)
     same("messages", box.messages(), told)
 
