@@ -89,10 +89,24 @@ static bool is_ours(int fd, int folder, const char *of)
             (fstatat(folder, of, &setup, AT_SYMLINK_NOFOLLOW) == 0 && is.st_uid == setup.st_uid));
 }
 
+/* It has ended, and its parent has not asked for its status yet. */
+static bool is_ended(pid_t process)
+{
+    char path[32], text[512] = "";
+    snprintf(path, sizeof path, "/proc/%ld/stat", (long)process);
+    int fd = open(path, O_RDONLY | O_CLOEXEC);
+    if (fd < 0)
+        return false;
+    ssize_t len = read(fd, text, sizeof text - 1);
+    close(fd);
+    const char *name_end = len > 0 ? strrchr(text, ')') : NULL;
+    return name_end && strncmp(name_end, ") Z", 3) == 0;
+}
+
 /* A program that has just made its file has not held it yet, so its process counts too. */
 static bool is_gone(pid_t process)
 {
-    return process == getpid() || (kill(process, 0) != 0 && errno == ESRCH);
+    return process == getpid() || (kill(process, 0) != 0 && errno == ESRCH) || is_ended(process);
 }
 
 static void remove_if_left(int folder, const char *name, const char *of)

@@ -216,8 +216,9 @@ class Box:
 class Play:
     """`rig play`, open."""
 
-    def __init__(self, site, image):
-        self.process = subprocess.Popen([*site.rig, "play", image], stdin=subprocess.PIPE, stdout=subprocess.PIPE,
+    def __init__(self, site, image, stop_at=None):
+        self.process = subprocess.Popen([*(site.stopped if stop_at else site.rig), "play", image], stdin=subprocess.PIPE,
+                                        env=dict(os.environ, STOP_AT=stop_at or "never"), stdout=subprocess.PIPE,
                                         stderr=subprocess.PIPE, text=True)
         site.boxes.append(self)
 

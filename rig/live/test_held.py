@@ -5,8 +5,8 @@ import stat
 import struct
 import subprocess
 
-from line import QUIET, Box, Host, Line, Play, bytes_of, let_go_on, same, wait_for
-from paper import ACK, FAN, TWO, control, fan_get, fan_report, fan_set, packet
+from line import PATIENCE, Box, Host, Line, Play, bytes_of, let_go_on, same, wait_for
+from paper import ACK, TWO, control, fan_get, fan_report, fan_set
 
 PAIRS = 20
 NOBODY = 65534
@@ -124,6 +124,35 @@ def replaced_while_it_is_synced(site, _):
     host.end()
 
 
+def pointed_elsewhere_while_it_is_synced(site, _):
+    image, other, link, until = site.new("w", TWO), site.new("v", TWO), f"{site.folder}/link", f"{site.folder}/until"
+    os.mkfifo(until)
+    os.symlink(image, link)
+    host = Host(site, link, stop_at="long-sync", stop_until=until)
+    before = bytes_of(image), bytes_of(other)
+    host.line.send(fan_set(1, 4))
+    wait_for(lambda: os.path.exists(f"{image}.{host.box.process.pid}.new"), "the file beside")
+    os.symlink(other, f"{link}.new")
+    os.rename(f"{link}.new", link)
+    let_go_on(until)
+    same("the answer", host.heard(), b"")
+    same("its line", host.last_line.endswith(f"not kept ({ANOTHER})"), True)
+    same("both files", (bytes_of(image), bytes_of(other)), before)
+    host.end()
+
+
+def where_files_cannot_be_exchanged(site, _):
+    """The look before the rename has to do."""
+    image, other = site.new("w", TWO), site.new("v", TWO)
+    host = Host(site, image, stop_at="no-flags")
+    same("a set", host.ask(fan_set(2, 3)), control(2, ACK))
+    before = bytes_of(other)
+    os.rename(other, image)
+    not_replaced(host, ANOTHER)
+    same("the other file", bytes_of(image), before)
+    host.end()
+
+
 def moved_there_at_the_last_moment(site, _):
     """Between the last look and the rename."""
     image, other = site.new("w", TWO), site.new("v", TWO)
@@ -149,7 +178,7 @@ def a_play_whose_setup_was_replaced(site, _):
 def a_pair(site, name, panels):
     """Two programs at once that make one new setup: the status and the messages of each."""
     pair = [subprocess.Popen([*site.rig, "new", name, panel], stderr=subprocess.PIPE, text=True) for panel in panels]
-    return [(process.communicate()[1], process.returncode) for process in pair]
+    return [(process.communicate(timeout=PATIENCE)[1], process.returncode) for process in pair]
 
 
 def pairs_of_new(site, _):
@@ -175,6 +204,8 @@ def a_name_that_is_given_meanwhile(site, _):
             same("the file that was there", bytes_of(new), b"")
             same("the folder", sorted(os.listdir(site.folder)), ["n", "w"])
             os.unlink(new)
+    site.fails(f"rig: {image} is there already; remove it first, or give another name\n", "new", image, "1:9",
+               prefix=["sh", "-c", 'ulimit -f 0; exec "$@"', "sh"])         # it is told also where no file can be written
     same("new by a link", site.run("new", new, "1:9", stop_at="no-flags").returncode, 0)
     same("its file", (bytes_of(new)[0], os.stat(new).st_nlink), (1, 1))
     same("the folder", sorted(os.listdir(site.folder)), ["n", "w"])
@@ -201,6 +232,8 @@ def owner_and_group_stay(site, _):
     os.chmod(image, 0o6750)
     site.run("play", image, bursts=[fan_set(1, 4), fan_set(1, 3)], prefix=AS_NOBODY).check_returncode()
     same("owner, group and mode by its owner", owner_of(image), (NOBODY, NOBODY, 0o6750))
+    same("a set by root", site.play(image, fan_set(1, 4), fan_set(1, 3)), [control(1, ACK)] * 2)
+    same("owner, group and mode by root", owner_of(image), (NOBODY, NOBODY, 0o6750))
     os.chown(image, 0, NOBODY)
     os.chmod(image, 0o664)
     site.fails(f"rig: {image}: cannot give the new setup the owner and the group of the old one: Operation not permitted; it "
@@ -244,11 +277,13 @@ def leftovers(site, _):
     def beside(of):
         return sorted(n for n in os.listdir(site.folder) if n.startswith(of) and n not in ("w", "n", "until"))
     for start in (lambda: site.run("play", image).stderr, lambda: started(site, image)):
-        same("killed", site.run("play", image, bursts=[fan_set(1, 4)], stop_at="killed-before-rename").returncode, -9)
+        killed = Play(site, image, stop_at="killed-before-rename")      # its status is not asked for before the next start
+        same("the answer of one that is killed", killed.ask(fan_set(1, 4)), None)
         left = [n for n in beside("w") if n not in stay]
         same("files beside", len(left), 1)
         same("what was told", start(), f"rig: removed {left[0]}, which a program that is gone left beside w\n")
         same("files beside after the next start", beside("w"), stay)
+        same("killed", killed.end()[0], -9)
     same("killed", site.run("new", new, "1:9", stop_at="killed-before-rename").returncode, -9)
     left = beside("n.")
     same("files beside", len(left), 1)
@@ -258,7 +293,7 @@ def leftovers(site, _):
     same("another, which is quicker", site.run("new", new, "2:9").returncode, 0)
     same("the file beside of the slow one", beside("n."), [f"n.{slow.pid}.new"])
     let_go_on(until)
-    same("the end of the slow one", (slow.communicate()[1], slow.returncode),
+    same("the end of the slow one", (slow.communicate(timeout=PATIENCE)[1], slow.returncode),
          (f"rig: removed {left[0]}, which a program that is gone left beside n\n"
           f"rig: {new} is there already; remove it first, or give another name\n", 2))
     same("files beside", beside("n."), [])
@@ -292,7 +327,8 @@ def who_else_may_write_it(site, _):
         os.setxattr(image, name, listed)
     except OSError:
         return                          # the file system has no such lists
-    os.setxattr(site.folder, "system.posix_acl_default", listed)
+    of_the_folder = access_list((1, 7, none), (2, 7, NOBODY), (4, 5, none), (16, 7, none), (32, 5, none))
+    os.setxattr(site.folder, "system.posix_acl_default", of_the_folder)
     for setup in (image, plain):
         same("a set", site.play(setup, fan_set(1, 4)), [control(1, ACK)])
     same("the list", os.getxattr(image, name), listed)
@@ -315,6 +351,8 @@ TESTS = [
     ("another file in the setup's place is never replaced", another_file_in_its_place),
     ("a link that is pointed elsewhere or at nothing", a_link_that_changes),
     ("another file that comes while the new setup is synced", replaced_while_it_is_synced),
+    ("a link that is pointed elsewhere while the new setup is synced", pointed_elsewhere_while_it_is_synced),
+    ("another file where files cannot be exchanged", where_files_cannot_be_exchanged),
     ("another file that comes at the last moment", moved_there_at_the_last_moment),
     ("the same for a play", a_play_whose_setup_was_replaced),
     (f"{PAIRS} pairs of new side by side: one makes the file", pairs_of_new),

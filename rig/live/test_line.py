@@ -5,7 +5,7 @@ import re
 import termios
 import time
 
-from line import QUIET, Box, Host, Line, Missed, let_go_on, names, same, text_of, wait_for
+from line import PATIENCE, QUIET, Box, Host, Line, Missed, let_go_on, names, same, text_of, wait_for
 from paper import ACK, FAN, TWO, control, fan_get, fan_report, fan_set, packet
 from test_running import looked_for_again
 
@@ -93,6 +93,29 @@ def a_host_that_does_not_read(site, _):
     host.line.send(fan_get(1))
     host.log.line()
     same("status while nobody reads", host.box.end(), 0)
+
+
+def a_host_that_never_reads(site, _):
+    """None of its answers is waited for when one was, so that all are dropped long before PATIENCE is over."""
+    image, line, log, answers = site.new("w", TWO), Line(), f"{site.folder}/log", 3 * PATIENCE
+    box = Box(site, line.path, image, "--quiet", 1, "--log", log)
+    reader = Reader(box)
+    fill(line)
+    for _ in range(answers):
+        reader.take(line, fan_get(1))
+    wait_for(lambda: text_of(log).count(": dropped\n") == answers, "the last answer's end")
+    same("times that it was told", box.messages().count("nobody takes the answers"), 1)
+    same("status", box.end(), 0)
+
+
+def a_device_that_is_gone(site, _):
+    """A packet that had come is played, and its answer is said to be dropped."""
+    host = Host(site, site.new("w", TWO), quiet=1000)
+    host.box.begin_burst(host.line, fan_get(1))
+    host.line.close()
+    same("its line", host.log.line().split(": ")[3], "report from panel 1, fan 1")
+    same("what became of the answer", host.log.line().split(": ")[2:], ["the answer, which went to a device that is gone", "dropped"])
+    same("status", host.box.wait(), 3)
 
 
 def only_whole_packets(site, _):
@@ -225,6 +248,8 @@ def settings_put_back(site, _):
 TESTS = [
     (f"more than {WAITING} bursts wait: those that do are whole, the others are told", more_bursts_than_can_wait),
     ("a host that does not read its answers stops nothing", a_host_that_does_not_read),
+    ("a host that never reads its answers does not hold them up", a_host_that_never_reads),
+    ("an answer to a device that is gone", a_device_that_is_gone),
     ("an answer that had begun is brought to its end", only_whole_packets),
     ("a name that comes back as somebody else's terminal", a_name_that_comes_back_as_anothers),
     ("a link to a link to a terminal that went away", links_behind_links),
