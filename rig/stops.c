@@ -4,6 +4,7 @@
 
 #include <errno.h>
 #include <fcntl.h>
+#include <poll.h>
 #include <pthread.h>
 #include <signal.h>
 #include <stdbool.h>
@@ -20,12 +21,14 @@ int __real_fsync(int fd);
 int __real_renameat(int from_folder, const char *from, int to_folder, const char *to);
 int __real_renameat2(int from_folder, const char *from, int to_folder, const char *to, unsigned flags);
 int __real_pthread_create(pthread_t *thread, const pthread_attr_t *with, void *(*run)(void *), void *of);
+int __real_poll(struct pollfd *fds, nfds_t count, int time);
 bool __real_is_pseudo_terminal(const struct stat *is);
 ssize_t __wrap_write(int fd, const void *bytes, size_t len);
 int __wrap_fsync(int fd);
 int __wrap_renameat(int from_folder, const char *from, int to_folder, const char *to);
 int __wrap_renameat2(int from_folder, const char *from, int to_folder, const char *to, unsigned flags);
 int __wrap_pthread_create(pthread_t *thread, const pthread_attr_t *with, void *(*run)(void *), void *of);
+int __wrap_poll(struct pollfd *fds, nfds_t count, int time);
 bool __wrap_is_pseudo_terminal(const struct stat *is);
 
 static bool at(const char *moment)
@@ -133,6 +136,20 @@ int __wrap_renameat(int from_folder, const char *from, int to_folder, const char
 int __wrap_pthread_create(pthread_t *thread, const pthread_attr_t *with, void *(*run)(void *), void *of)
 {
     return at("no-thread") ? EAGAIN : __real_pthread_create(thread, with, run, of);
+}
+
+/* Between the look for room in a pipe and the message somebody else fills it. */
+int __wrap_poll(struct pollfd *fds, nfds_t count, int time)
+{
+    static const char page[4096];
+    int ready = __real_poll(fds, count, time);
+    if (at("room-taken") && ready > 0 && fds->fd == STDERR_FILENO) {
+        fcntl(STDERR_FILENO, F_SETFL, O_NONBLOCK);
+        while (__real_write(STDERR_FILENO, page, sizeof page) > 0)
+            ;
+        fcntl(STDERR_FILENO, F_SETFL, 0);
+    }
+    return ready;
 }
 
 /* No adapter is at hand: a pseudo-terminal stands for one. */

@@ -2,6 +2,7 @@
 import glob
 import os
 import re
+import subprocess
 import termios
 import time
 
@@ -40,13 +41,14 @@ def more_bursts_than_can_wait(site, _):
     os.mkfifo(until)
     box = Box(site, line.path, image, "--quiet", 1, "--log", log, stop_at="long-sync", stop_until=until)
     reader = Reader(box)
-    bursts = [packet(0, 0, FAN[0], 2 + k % 2) for k in range(1 + WAITING + more)]
+    # a set that is synced, and then sets to a group that no panel is in
+    bursts = [packet(0, 0, FAN[0], 2), *(packet(0, 8, FAN[0], k % 5) for k in range(WAITING + more))]
     for burst in bursts:
         reader.take(line, burst)
     let_go_on(until)
     wait_for(lambda: ": lost\n" in text_of(log), "the line of those that are lost")
     line.send(fan_get(1))
-    same("the report after them", line.answer(), fan_report(1, 2 + WAITING % 2))
+    same("the report after them", line.answer(), fan_report(1, 2))
     lines = [l.split("Z ")[1] for l in text_of(log).splitlines()]
     same("each a burst of its own", [l.split(": ")[:2] for l in lines[:-2]],
          [[str(1 + k), " ".join("%02X" % byte for byte in burst)] for k, burst in enumerate(bursts[:-more])])
@@ -175,9 +177,10 @@ def a_name_that_comes_back_as_anothers(site, _):
     looked_for_again(box)
     untouched(another, before)
     line = Line()
+    line.send(fan_set(1, 4))            # before it is opened, so it is not played
     os.symlink(line.path, f"{link}.new")
     os.rename(f"{link}.new", link)
-    box.await_message("is back")
+    box.await_message(f"rig: {link} is back\nrig: {link}: 6 bytes from before it was opened are dropped\n")
     line.send(fan_get(1))
     same("the report", line.answer(), fan_report(1, 1))
     untouched(another, before)
@@ -245,6 +248,14 @@ def settings_put_back(site, _):
     same("the settings where it cannot begin", termios.tcgetattr(line.box), before)
 
 
+def its_own_terminal(site, _):
+    """/dev/tty is a second name of another device, which its lock would not hold."""
+    image, line = site.new("w", TWO), Line()
+    run = subprocess.run(["setsid", "--ctty", *site.rig, "serve", "/dev/tty", image], stdin=line.box, capture_output=True,
+                         text=True, timeout=PATIENCE)
+    same("status and message", (run.returncode, run.stderr), (2, "rig: /dev/tty is no serial device\n"))
+
+
 TESTS = [
     (f"more than {WAITING} bursts wait: those that do are whole, the others are told", more_bursts_than_can_wait),
     ("a host that does not read its answers stops nothing", a_host_that_does_not_read),
@@ -255,5 +266,6 @@ TESTS = [
     ("a link to a link to a terminal that went away", links_behind_links),
     ("an adapter comes back by its name", an_adapter_comes_back_by_its_name),
     ("bytes from before the start are dropped", old_bytes),
+    ("the program's own terminal is no device", its_own_terminal),
     ("the line's settings are put back", settings_put_back),
 ]

@@ -6,7 +6,7 @@ import subprocess
 
 from line import PATIENCE, QUIET, Box, Line, bytes_of, let_go_on, same, text_of, wait_for
 from paper import TWO, fan_get, fan_report, fan_set
-from test_line import Reader
+from test_line import Reader, fill
 
 RIG_PAGE = os.path.join(os.path.dirname(__file__), "../../docs/RIG.md")
 
@@ -139,28 +139,21 @@ def full_pipe():
 
 def messages_that_nobody_reads(site, _):
     """At the start, while it runs and at the end."""
-    image, line, link = site.new("w", TWO), Line(), f"{site.folder}/device"
-    os.symlink(line.path, link)
-    for messages in (full_pipe(), fill_terminal()):
-        box = Box(site, link, image, "--quiet", QUIET, "--log", f"{site.folder}/none/log", errors=messages)
+    image, line, no_log = site.new("w", TWO), Line(), f"{site.folder}/none/log"
+    terminal = Line()
+    fill(terminal)
+    os.set_blocking(terminal.box, True)
+    for messages in (full_pipe(), terminal.box):
+        box = Box(site, line.path, image, "--quiet", QUIET, "--log", no_log, errors=messages)
         asked(line, 2)
         same("status", box.end(), 0)
         for wrong in ([f"{site.folder}/none"], [image, "--baud", "1"], [image, "--bad"]):
             same(f"status with {wrong}", subprocess.run([*site.rig, "serve", line.path, *wrong], stderr=messages,
                                                         timeout=PATIENCE).returncode, 2)
-
-
-def fill_terminal():
-    """A terminal that nobody reads: it takes the front of a message and no more."""
-    line = Line()
-    os.set_blocking(line.box, False)
-    try:
-        while True:
-            os.write(line.box, bytes(1000))
-    except BlockingIOError:
-        os.set_blocking(line.box, True)
-    os.read(line.host, 50)
-    return line.box
+    _nobody, messages = os.pipe()       # where somebody else takes the room that was there
+    box = Box(site, line.path, image, "--quiet", QUIET, "--log", no_log, errors=messages, stop_at="room-taken")
+    asked(line, 2)
+    same("status", box.end(), 0)
 
 
 def a_first_line_that_nobody_reads(site, _):
