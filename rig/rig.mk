@@ -52,7 +52,7 @@ target/staticlib/libundivarro.a: $(wildcard crates/*/src/*.rt crates/*/src/*/*.r
 
 $(rig_out)/bin/rig: $(rig_sources)
 $(rig_out)/bin/rig-stopped: $(rig_sources) rig/stops.c
-$(rig_out)/bin/rig-stopped: RIG_LINK := -Wl,--wrap=write,--wrap=fsync,--wrap=renameat,--wrap=renameat2,--wrap=pthread_create,--wrap=poll,--wrap=is_pseudo_terminal
+$(rig_out)/bin/rig-stopped: RIG_LINK := -Wl,--wrap=write,--wrap=fsync,--wrap=renameat,--wrap=renameat2,--wrap=flock,--wrap=pthread_create,--wrap=poll,--wrap=is_pseudo_terminal
 $(rig_out)/bin/compare: $(compare_sources)
 $(rig_out)/bin/bench: rig/bench.c rig/plain.c
 $(rig_programs): $(UNDIVARRO_LIB) $(rig_files)

@@ -11,6 +11,7 @@
 #include <stdio.h>
 #include <stdlib.h>
 #include <string.h>
+#include <sys/file.h>
 #include <sys/stat.h>
 #include <unistd.h>
 
@@ -20,6 +21,7 @@ ssize_t __real_write(int fd, const void *bytes, size_t len);
 int __real_fsync(int fd);
 int __real_renameat(int from_folder, const char *from, int to_folder, const char *to);
 int __real_renameat2(int from_folder, const char *from, int to_folder, const char *to, unsigned flags);
+int __real_flock(int fd, int how);
 int __real_pthread_create(pthread_t *thread, const pthread_attr_t *with, void *(*run)(void *), void *of);
 int __real_poll(struct pollfd *fds, nfds_t count, int time);
 bool __real_is_pseudo_terminal(const struct stat *is);
@@ -27,6 +29,7 @@ ssize_t __wrap_write(int fd, const void *bytes, size_t len);
 int __wrap_fsync(int fd);
 int __wrap_renameat(int from_folder, const char *from, int to_folder, const char *to);
 int __wrap_renameat2(int from_folder, const char *from, int to_folder, const char *to, unsigned flags);
+int __wrap_flock(int fd, int how);
 int __wrap_pthread_create(pthread_t *thread, const pthread_attr_t *with, void *(*run)(void *), void *of);
 int __wrap_poll(struct pollfd *fds, nfds_t count, int time);
 bool __wrap_is_pseudo_terminal(const struct stat *is);
@@ -131,6 +134,18 @@ int __wrap_renameat2(int from_folder, const char *from, int to_folder, const cha
 int __wrap_renameat(int from_folder, const char *from, int to_folder, const char *to)
 {
     return at("no-flags-and-fails") ? fail(EIO) : __real_renameat(from_folder, from, to_folder, to);
+}
+
+/* Between the opening of a file and its lock the one that STOP_UNTIL names is moved there. */
+int __wrap_flock(int fd, int how)
+{
+    static bool moved;
+    char of[32], path[4096] = "";
+    snprintf(of, sizeof of, "/proc/self/fd/%d", fd);
+    if (at("moved-before-hold") && !moved && readlink(of, path, sizeof path - 1) > 0)
+        __real_renameat(AT_FDCWD, getenv("STOP_UNTIL"), AT_FDCWD, path);
+    moved = true;
+    return __real_flock(fd, how);
 }
 
 int __wrap_pthread_create(pthread_t *thread, const pthread_attr_t *with, void *(*run)(void *), void *of)

@@ -144,11 +144,12 @@ class Site:
         subprocess.run([*self.rig, "new", image, *[p.argument() for p in panels]], check=True)
         return image
 
-    def run(self, *arguments, stop_at=None, prefix=(), bursts=()):
+    def run(self, *arguments, stop_at=None, stop_until="", prefix=(), bursts=()):
         """The rig to its end, stopped at a moment if it is named (rig/stops.c)."""
         program = self.stopped if stop_at else self.rig
-        return subprocess.run([*prefix, *program, *map(str, arguments)], env=dict(os.environ, STOP_AT=stop_at or "never"),
-                              input="".join(b.hex() + "\n" for b in bursts), text=True, capture_output=True, timeout=PATIENCE)
+        return subprocess.run([*prefix, *program, *map(str, arguments)], text=True, capture_output=True, timeout=PATIENCE,
+                              env=dict(os.environ, STOP_AT=stop_at or "never", STOP_UNTIL=stop_until),
+                              input="".join(b.hex() + "\n" for b in bursts))
 
     def play(self, image, *bursts):
         """The answers to bursts played on a setup, which so has to be a whole one."""

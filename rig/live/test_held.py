@@ -164,6 +164,15 @@ def moved_there_at_the_last_moment(site, _):
     host.end()
 
 
+def moved_there_before_it_is_held(site, _):
+    """Between its opening and its lock: the file that is there then is read, held and kept."""
+    image, other = site.new("w", TWO), site.new("v", TWO)
+    site.play(other, fan_set(1, 3))
+    run = site.run("play", image, bursts=[fan_get(1), fan_set(2, 4)], stop_at="moved-before-hold", stop_until=other)
+    same("the answers", run.stdout, f"{fan_report(1, 3).hex()}\n{control(2, ACK).hex()}\n".upper())
+    same("kept", site.play(image, fan_get(1), fan_get(2)), [fan_report(1, 3), fan_report(2, 4)])
+
+
 def a_play_whose_setup_was_replaced(site, _):
     image, other = site.new("w", TWO), site.new("v", TWO)
     play = Play(site, image)
@@ -354,7 +363,8 @@ TESTS = [
     ("a link that is pointed elsewhere while the new setup is synced", pointed_elsewhere_while_it_is_synced),
     ("another file where files cannot be exchanged", where_files_cannot_be_exchanged),
     ("another file that comes at the last moment", moved_there_at_the_last_moment),
-    ("the same for a play", a_play_whose_setup_was_replaced),
+    ("a play whose setup was replaced", a_play_whose_setup_was_replaced),
+    ("another file that comes before the setup is held", moved_there_before_it_is_held),
     (f"{PAIRS} pairs of new side by side: one makes the file", pairs_of_new),
     ("a name that is given at the last moment", a_name_that_is_given_meanwhile),
     ("owner and group stay", owner_and_group_stay),

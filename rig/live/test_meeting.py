@@ -60,7 +60,9 @@ def a_new_log_that_cannot_be_opened(site, _):
     asked(line, 1)
     wait_for(lambda: os.path.exists(log), "the new log")
     asked(line, 1)
-    same("the lines of the old one and of the new one", (numbers_in(f"{gone}/log"), numbers_in(log)), ([1, 2, 3, 4], [5]))
+    old, new = numbers_in(f"{gone}/log"), numbers_in(log)
+    same("the lines of both", old + new, [1, 2, 3, 4, 5])
+    same("those before it could be opened, and the last", (old[:3], new[-1:]), ([1, 2, 3], [5]))
     same("status", box.end(), 0)
     same("messages", box.messages(), told)
 
