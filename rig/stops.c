@@ -13,6 +13,7 @@
 #include <string.h>
 #include <sys/file.h>
 #include <sys/stat.h>
+#include <sys/sysmacros.h>
 #include <unistd.h>
 
 #include "pseudo.h"
@@ -68,6 +69,8 @@ static ssize_t write_half(int fd, const char *bytes, size_t len)
 ssize_t __wrap_write(int fd, const void *bytes, size_t len)
 {
     static bool half_done;
+    if (at("killed-without-room") && __real_poll(&(struct pollfd){fd, POLLOUT, 0}, 1, 0) == 0)
+        raise(SIGKILL);
     if (at("half-an-answer") && isatty(fd))
         return write_half(fd, bytes, len);
     if (!is_file(fd))
@@ -167,8 +170,11 @@ int __wrap_poll(struct pollfd *fds, nfds_t count, int time)
     return ready;
 }
 
-/* No adapter is at hand: a pseudo-terminal stands for one. */
+/* No adapter is at hand: a pseudo-terminal stands for one, with the number of a USB adapter. */
 bool __wrap_is_pseudo_terminal(const struct stat *is)
 {
-    return !at("adapter") && __real_is_pseudo_terminal(is);
+    struct stat seen = *is;
+    if (at("adapter"))
+        seen.st_rdev = makedev(188, 0);
+    return __real_is_pseudo_terminal(&seen);
 }

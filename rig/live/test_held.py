@@ -17,12 +17,17 @@ def taken(image, process):
     return f"rig: {image} is taken: another rig is at work on it; end that one first (process {process.pid})\n"
 
 
+LOOKED_AT = "rig: until then {} is looked at: a burst that would change it ends this program\n"
+
+
 def an_open_play_and_another(site, _):
     """What the first has acknowledged is there at its end, and nobody else was told that a set of his was taken."""
     image, line = site.new("w", TWO), Line()
     first = Play(site, image)
     same("a get", first.ask(fan_get(1)), fan_report(1, 1))
-    site.fails(taken(image, first.process), "play", image, bursts=[fan_set(1, 4)])
+    second = site.run("play", image, bursts=[fan_set(1, 4)])
+    same("a second, and all that it said", (second.returncode, second.stdout, second.stderr),
+         (2, "", taken(image, first.process) + LOOKED_AT.format(image) + taken(image, first.process)))
     site.fails(taken(image, first.process), "serve", line.path, image)
     same("a set", first.ask(fan_set(2, 3)), control(2, ACK))
     site.fails(taken(image, first.process), "play", image, bursts=[fan_set(1, 4)])      # the file is another by now
@@ -54,8 +59,7 @@ def a_play_that_was_opened_before(site, _):
     same("a set", play.ask(fan_set(2, 2)), control(2, ACK))
     site.fails(taken(image, play.process), "serve", Line().path, image)
     same("the report", play.ask(fan_get(1)), fan_report(1, 3))
-    same("its status and what it said", play.end(), (0, taken(image, host.box.process) +
-         f"rig: until then {image} is looked at: a burst that would change it ends this program\n"))
+    same("its status and what it said", play.end(), (0, taken(image, host.box.process) + LOOKED_AT.format(image)))
 
 
 def not_replaced(host, why):
@@ -298,13 +302,16 @@ def leftovers(site, _):
     same("files beside", len(left), 1)
     slow = subprocess.Popen([*site.stopped, "new", new, "1:9"], stderr=subprocess.PIPE, text=True,
                             env=dict(os.environ, STOP_AT="long-sync", STOP_UNTIL=until))
-    wait_for(lambda: beside("n.") == [f"n.{slow.pid}.new"], "the file beside of one that is slow, and of no other")
-    same("another, which is quicker", site.run("new", new, "2:9").returncode, 0)
-    same("the file beside of the slow one", beside("n."), [f"n.{slow.pid}.new"])
-    let_go_on(until)
-    same("the end of the slow one", (slow.communicate(timeout=PATIENCE)[1], slow.returncode),
-         (f"rig: removed {left[0]}, which a program that is gone left beside n\n"
-          f"rig: {new} is there already; remove it first, or give another name\n", 2))
+    try:
+        wait_for(lambda: beside("n.") == [f"n.{slow.pid}.new"], "the file beside of one that is slow, and of no other")
+        same("another, which is quicker", site.run("new", new, "2:9").returncode, 0)
+        same("the file beside of the slow one", beside("n."), [f"n.{slow.pid}.new"])
+        let_go_on(until)
+        same("the end of the slow one", (slow.communicate(timeout=PATIENCE)[1], slow.returncode),
+             (f"rig: removed {left[0]}, which a program that is gone left beside n\n"
+              f"rig: {new} is there already; remove it first, or give another name\n", 2))
+    finally:
+        slow.kill()
     same("files beside", beside("n."), [])
 
 

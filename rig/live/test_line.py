@@ -111,13 +111,18 @@ def a_host_that_never_reads(site, _):
 
 
 def a_device_that_is_gone(site, _):
-    """A packet that had come is played, and its answer is said to be dropped."""
-    host = Host(site, site.new("w", TWO), quiet=1000)
-    host.box.begin_burst(host.line, fan_get(1))
+    """A set that was being kept is kept, and its answer is said to be dropped."""
+    image, until = site.new("w", TWO), f"{site.folder}/until"
+    os.mkfifo(until)
+    host = Host(site, image, stop_at="long-sync", stop_until=until)
+    host.line.send(fan_set(1, 4))
+    wait_for(lambda: os.path.exists(f"{image}.{host.box.process.pid}.new"), "the file beside")
     host.line.close()
-    same("its line", host.log.line().split(": ")[3], "report from panel 1, fan 1")
+    let_go_on(until)
+    same("its line", host.log.line().split(": ")[3], "ACK from panel 1")
     same("what became of the answer", host.log.line().split(": ")[2:], ["the answer, which went to a device that is gone", "dropped"])
     same("status", host.box.wait(), 3)
+    same("kept", site.play(image, fan_get(1)), [fan_report(1, 4)])
 
 
 def only_whole_packets(site, _):

@@ -152,6 +152,9 @@ def messages_that_nobody_reads(site, _):
         for wrong in ([f"{site.folder}/none"], [image, "--baud", "1"], [image, "--bad"]):
             same(f"status with {wrong}", subprocess.run([*site.rig, "serve", line.path, *wrong], stderr=messages,
                                                         timeout=PATIENCE).returncode, 2)
+    same("status where nothing may be written without a look for room",
+         subprocess.run([*site.stopped, "serve", line.path, image, "--bad"], stderr=full_pipe(), timeout=PATIENCE,
+                        env=dict(os.environ, STOP_AT="killed-without-room")).returncode, 2)
     _nobody, messages = os.pipe()       # where somebody else takes the room that was there
     box = Box(site, line.path, image, "--quiet", QUIET, "--log", no_log, errors=messages, stop_at="room-taken")
     asked(line, 2)
