@@ -285,6 +285,10 @@ def leftovers(site, _):
     living = open(f"{site.folder}/w.{os.getpid()}.new", "w")    # not held yet
     held = open(f"{site.folder}/w.4194302.new", "w")            # by one that is not this machine's to see
     fcntl.flock(held, fcntl.LOCK_EX)
+    if os.geteuid() == 0:
+        others.append("w.12.new")       # a third user's
+        with open(f"{site.folder}/w.12.new", "w"):
+            os.chown(f"{site.folder}/w.12.new", NOBODY, NOBODY)
     stay = sorted([*others, *(os.path.basename(f.name) for f in (living, held)), "w.8.new", "w.9.new", "w.10.new", "w.11.new"])
 
     def beside(of):
