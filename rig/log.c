@@ -99,8 +99,9 @@ static void print_bytes(FILE *to, const uint8_t *bytes, size_t len, size_t shown
         fputs(" ...", to);
 }
 
-static void print_played(FILE *to, const struct played *played)
+static void print_played(FILE *to, const void *of)
 {
+    const struct played *played = of;
     const struct reply *reply = played->reply;
     if (played->at)
         print_time(to, played->at);
@@ -115,8 +116,9 @@ static void print_played(FILE *to, const struct played *played)
         say_answer(to, played->burst, played->len, reply->answer, reply->len);
 }
 
-static void print_remark(FILE *to, const struct remark *remark)
+static void print_remark(FILE *to, const void *of)
 {
+    const struct remark *remark = of;
     print_time(to, remark->at);
     fprintf(to, "%lu", remark->first);
     if (remark->last != remark->first)
@@ -126,55 +128,31 @@ static void print_remark(FILE *to, const struct remark *remark)
     fprintf(to, ": %s: %s", remark->about, remark->outcome);
 }
 
-/* A line is made whole before it is written, so that two rigs at work on one log keep their lines apart. */
-struct line {
-    FILE *to;                           /* or NULL, with errno */
-    char *text;
-    size_t len;
-};
-
-static void begin_line(struct line *line, const struct log *log)
+/* Made whole before it is written, so that two rigs at work on one log keep their lines apart. */
+static bool write_line(struct log *log, void print(FILE *to, const void *of), const void *of)
 {
-    *line = (struct line){.text = NULL};
-    line->to = open_memstream(&line->text, &line->len);
-    if (line->to && log->in_line)
-        fputc('\n', line->to);
-}
-
-static bool end_line(struct line *line, struct log *log)
-{
-    fputc('\n', line->to);
-    bool good = !ferror(line->to);
-    good = fclose(line->to) == 0 && good && write_all(log->fd, line->text, line->len);
+    char *line = NULL;
+    size_t len = 0;
+    FILE *to = open_memstream(&line, &len);
+    if (!to)
+        return false;
+    if (log->in_line)
+        fputc('\n', to);
+    print(to, of);
+    fputc('\n', to);
+    bool good = !ferror(to);
+    good = fclose(to) == 0 && good && write_all(log->fd, line, len);
     int error = errno;
-    free(line->text);
+    free(line);
     errno = error;
     if (good)
         log->in_line = false;
     return good;
 }
 
-static bool write_played(struct log *log, const struct played *played)
-{
-    struct line line;
-    begin_line(&line, log);
-    if (line.to)
-        print_played(line.to, played);
-    return line.to && end_line(&line, log);
-}
-
-static bool write_remark(struct log *log, const struct remark *remark)
-{
-    struct line line;
-    begin_line(&line, log);
-    if (line.to)
-        print_remark(line.to, remark);
-    return line.to && end_line(&line, log);
-}
-
 int log_burst(struct log *log, const struct played *played)
 {
-    if (write_played(log, played))
+    if (write_line(log, print_played, played))
         return DONE;
     fprintf(stderr, "rig: cannot write to the log %s: %s; the burst of line %lu was played, but its answer is held back; "
             "make room for the log, or name another\n", log->path, strerror(errno), played->number);
@@ -186,29 +164,26 @@ bool try_open_log(struct log *log)
     return open_file(log, O_NONBLOCK);
 }
 
-static bool is_open(struct log *log)
-{
-    return log->fd >= 0 || try_open_log(log);
-}
-
 /* A log that failed is opened anew for the next line. */
-static bool stays_open(struct log *log, bool good)
+static bool try_line(struct log *log, void print(FILE *to, const void *of), const void *of)
 {
-    if (!good) {
-        int error = errno;
-        close(log->fd);
-        log->fd = -1;
-        errno = error;
-    }
-    return good;
+    if (log->fd < 0 && !try_open_log(log))
+        return false;
+    if (write_line(log, print, of))
+        return true;
+    int error = errno;
+    close(log->fd);
+    log->fd = -1;
+    errno = error;
+    return false;
 }
 
 bool try_log(struct log *log, const struct played *played)
 {
-    return is_open(log) && stays_open(log, write_played(log, played));
+    return try_line(log, print_played, played);
 }
 
 bool try_remark(struct log *log, const struct remark *remark)
 {
-    return is_open(log) && stays_open(log, write_remark(log, remark));
+    return try_line(log, print_remark, remark);
 }

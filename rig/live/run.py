@@ -18,6 +18,7 @@ import test_running
 from line import Missed, Site
 
 AT_ONCE = 4
+PARTS = test_answers, test_keeping, test_held, test_line, test_meeting, test_running
 
 
 def fault_of(test, programs, random):
@@ -39,7 +40,7 @@ def fault_of(test, programs, random):
 def main(programs, seed, word=""):
     signal.signal(signal.SIGINT, signal.default_int_handler)  # which whoever runs this in the background has ignored
     failed = 0
-    tests = [t for part in (test_answers, test_keeping, test_held, test_line, test_meeting, test_running) for t in part.TESTS if word in t[0]]
+    tests = [t for part in PARTS for t in part.TESTS if word in t[0]]
     with ThreadPoolExecutor(AT_ONCE) as pool:
         results = [(name, pool.submit(fault_of, test, programs, Random(f"{seed} {name}"))) for name, test in tests]
         for name, result in results:

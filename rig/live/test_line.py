@@ -120,7 +120,8 @@ def a_device_that_is_gone(site, _):
     host.line.close()
     let_go_on(until)
     same("its line", host.log.line().split(": ")[3], "ACK from panel 1")
-    same("what became of the answer", host.log.line().split(": ")[2:], ["the answer, which went to a device that is gone", "dropped"])
+    same("what became of the answer", host.log.line().split(": ")[2:],
+         ["the answer, which went to a device that is gone", "dropped"])
     same("status", host.box.wait(), 3)
     same("kept", site.play(image, fan_get(1)), [fan_report(1, 4)])
 

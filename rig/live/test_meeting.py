@@ -53,7 +53,8 @@ def a_new_log_that_cannot_be_opened(site, _):
     asked(line, 1)
     os.rename(os.path.dirname(log), gone)
     box.process.send_signal(signal.SIGHUP)
-    told = f"rig: cannot open the log {log} anew: No such file or directory; it goes on where it was, and tries again at each burst\n"
+    told = (f"rig: cannot open the log {log} anew: No such file or directory; it goes on where it was, and tries again at each "
+            "burst\n")
     box.await_message(told)
     asked(line, 2)
     os.mkdir(os.path.dirname(log))
@@ -107,8 +108,9 @@ def the_page_s_example_for_logrotate(site, _):
     """docs/RIG.md's, with the paths of this test."""
     image, line, log = site.new("wall.img", TWO), Line(), f"{site.folder}/wall.log"
     example = re.search(r"^    (/var/log/wall\.log \{\n.*?\n    \})\n", text_of(RIG_PAGE), re.M | re.S)[1]
-    same("names of the setup and of the log in it", [n in example for n in ("/var/lib/rig/wall.img", "/var/log/wall.log")], [True] * 2)
-    example = example.replace("/var/log/wall.log", log).replace("/var/lib/rig/wall.img", image)
+    for name, own in (("/var/log/wall.log", log), ("/var/lib/rig/wall.img", image)):
+        same(f"{name} in the example", name in example, True)
+        example = example.replace(name, own)
     config, state = f"{site.folder}/logrotate.conf", f"{site.folder}/state"
     with open(config, "w") as file:
         file.write(example + "\n")
