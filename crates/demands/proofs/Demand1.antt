@@ -31,10 +31,10 @@ use Rattle.answers.proofs.Turns.{either-way, stays}
 use Rattle.forms.specs.declared.Form.{Form}
 use Rattle.image_write.specs.declared.Written.the-variants.{Bytes as WrittenBytes, WouldLose, NoRoom as NotWritten}
 use Rattle.image_write.specs.Written.{setupOf, sizeOf, losesNothing, writtenOf, bytesWritten, outputOf as imageOutput}
-use Rattle.image_whole.specs.declared.Refusal.{Refusal as ImageRefusal}
-use Rattle.image_whole.specs.declared.Refusal.the-variants.{Nothing as Sound}
+use Rattle.refusals.specs.declared.Refusal.{Refusal as ImageRefusal}
+use Rattle.refusals.specs.declared.Refusal.the-variants.{Nothing as Sound}
 use Rattle.image_whole.specs.Whole.{formOf, wholeRefusal, recordsIn}
-use Rattle.image_whole.specs.Refusals.{isSound}
+use Rattle.refusals.specs.Refusals.{isSound}
 use Rattle.image_read.specs.Read.{Reading, refused, recordRefusal, readRecords, readOf}
 use Rattle.image_read.proofs.OnTheWay.{wallWith}
 use Rattle.image.proofs.Back.{image-size}

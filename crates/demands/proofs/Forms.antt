@@ -10,7 +10,7 @@ use Rattle.panels.specs.WellFormed.{GoodWall}
 use Rattle.panels.proofs.Laws.{panels-of-table}
 use Rattle.forms.specs.declared.Form.{Form}
 use Rattle.forms.specs.declared.Form.the-variants.{One}
-use Rattle.image_whole.specs.declared.Refusal.{Refusal}
+use Rattle.refusals.specs.declared.Refusal.{Refusal}
 use Rattle.image_read.specs.Read.{Reading, readOf}
 use Rattle.image_read.proofs.Sound.{read-formed}
 use Rattle.image_write.specs.Written.{setupOf, sizeOf, losesNothing, outputOf}

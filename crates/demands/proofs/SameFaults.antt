@@ -14,9 +14,9 @@ use Rattle.panels.specs.Wall.{Wall}
 use Rattle.forms.specs.declared.Form.{Form}
 use Rattle.forms.specs.Forms.{headSize}
 use Rattle.faults.specs.declared.Fault.{Fault}
-use Rattle.image_whole.specs.declared.Refusal.{Refusal}
-use Rattle.image_whole.specs.declared.Refusal.the-variants.{Nothing as Sound, Record}
-use Rattle.image_whole.specs.Refusals.{isSound, readRefusalOf}
+use Rattle.refusals.specs.declared.Refusal.{Refusal}
+use Rattle.refusals.specs.declared.Refusal.the-variants.{Nothing as Sound, Record}
+use Rattle.refusals.specs.Refusals.{isSound, refusalNumber}
 use Rattle.image_whole.specs.Whole.{formOf, wholeRefusal, recordsIn}
 use Rattle.image_whole.proofs.Edges.{sound-nothing}
 use Rattle.image_record.specs.declared.Step.{Step}
@@ -49,7 +49,7 @@ module _ (form : Form) (profile : Profile) (left : List ℕ) where
   step = runFrom form profile (replicate rowCount false) (freshValues profile) left .step
 
   record FieldsAgree : Type 0 where
-    number : readRefusalOf (fieldsIn form profile left .refusal) ≡ first (keptOf form profile left .faults)
+    number : refusalNumber (fieldsIn form profile left .refusal) ≡ first (keptOf form profile left .faults)
     kept : fieldsIn form profile left .refusal ≡ Sound → (keptOf form profile left .values ≡ fieldsIn form profile left .values) × (keptOf form profile left .faults ≡ [])
 
   fields-agree : FieldsAgree
@@ -59,21 +59,21 @@ module _ (form : Form) (profile : Profile) (left : List ℕ) where
       go : (s : Step) → step ≡ s → FieldsAgree
       go (Field row) e = absurd (run-stopped form profile (replicate rowCount false) (freshValues profile) left .no-field row e)
       go (NotAllowed row) e = record {
-        number = ap (λ (s : Step). readRefusalOf (refusalAt s)) e ∙ ap (λ (k : Kept). first (k .faults)) (sym (kept-step form profile _ _ _ left (NotAllowed row) e));
+        number = ap (λ (s : Step). refusalNumber (refusalAt s)) e ∙ ap (λ (k : Kept). first (k .faults)) (sym (kept-step form profile _ _ _ left (NotAllowed row) e));
         kept = λ s. absurd (false≢true (ap isSound (sym (ap refusalAt e) ∙ s)));
       }
       go Broken e = record {
-        number = ap (λ (s : Step). readRefusalOf (refusalAt s)) e ∙ ap (λ (k : Kept). first (k .faults)) (sym (kept-step form profile _ _ _ left Broken e));
+        number = ap (λ (s : Step). refusalNumber (refusalAt s)) e ∙ ap (λ (k : Kept). first (k .faults)) (sym (kept-step form profile _ _ _ left Broken e));
         kept = λ s. absurd (false≢true (ap isSound (sym (ap refusalAt e) ∙ s)));
       }
       go End e = record {
-        number = ap (λ (s : Step). readRefusalOf (refusalAt s)) e ∙ ap (λ (k : Kept). first (k .faults)) (sym (kept-step form profile _ _ _ left End e));
+        number = ap (λ (s : Step). refusalNumber (refusalAt s)) e ∙ ap (λ (k : Kept). first (k .faults)) (sym (kept-step form profile _ _ _ left End e));
         kept = λ s. (ap (λ (k : Kept). k .values) (kept-step form profile _ _ _ left End e), ap (λ (k : Kept). k .faults) (kept-step form profile _ _ _ left End e));
       }
 
 -- a reading and a salvage of the records that are left
 record Agree (r : Reading) (s : Salvage) : Type 0 where
-  number : readRefusalOf (r .refusal) ≡ firstFault (s .faults)
+  number : refusalNumber (r .refusal) ≡ firstFault (s .faults)
   kept : r .refusal ≡ Sound → (s .wall ≡ r .wall) × ((k : ℕ) → textFrom k (s .faults) ≡ [])
 
 -- a record without a fault, and the others behind it
@@ -93,7 +93,7 @@ module _ (form : Form) (w : Wall) (bytes : List ℕ) (records : List (List ℕ))
       let read = first-refused {why = Record} (rw e) refl in
       let salvaged = record-dropped form w bytes records e in
       record {
-        number = ap (λ (r : Reading). readRefusalOf (r .refusal)) read ∙ ap (λ (s : Salvage). firstFault (s .faults)) (sym salvaged);
+        number = ap (λ (r : Reading). refusalNumber (r .refusal)) read ∙ ap (λ (s : Salvage). firstFault (s .faults)) (sym salvaged);
         kept = λ s. absurd (false≢true (ap isSound (ap (λ (r : Reading). r .refusal) (sym read) ∙ s)));
       }
 
@@ -122,9 +122,9 @@ module _ (form : Form) (w : Wall) (bytes : List ℕ) (records : List (List ℕ))
     agree-faulty bad =
         let read = first-refused refusal-is bad in
         let number = fields-agree form profile left .number in
-        let some : first faults ≡ 0 → ⊥ = λ z. eqb-false (readRefusalOf why) 0 bad (number ∙ z) in
+        let some : first faults ≡ 0 → ⊥ = λ z. eqb-false (refusalNumber why) 0 bad (number ∙ z) in
         record {
-          number = ap (λ (r : Reading). readRefusalOf (r .refusal)) read ∙ number ∙ sym (first-of faults (salvagedFrom form wall records .faults) some) ∙ ap (λ (s : Salvage). firstFault (s .faults)) (sym salvaged);
+          number = ap (λ (r : Reading). refusalNumber (r .refusal)) read ∙ number ∙ sym (first-of faults (salvagedFrom form wall records .faults) some) ∙ ap (λ (s : Salvage). firstFault (s .faults)) (sym salvaged);
           kept = λ s. absurd (false≢true (sym bad ∙ ap isSound (ap (λ (r : Reading). r .refusal) (sym read) ∙ s)));
         }
 
@@ -141,7 +141,7 @@ module _ (form : Form) (w : Wall) (bytes : List ℕ) (records : List (List ℕ))
         let saved : salvagedFrom form w (bytes ∷ records) ≡ behindFaults [] (salvagedFrom form wall records) =
         salvaged ∙ ap (λ (fs : List Fault). behindFaults fs (salvagedFrom form wall records)) none in
         record {
-          number = ap (λ (r : Reading). readRefusalOf (r .refusal)) read ∙ ih .number ∙ ap (λ (s : Salvage). firstFault (s .faults)) (sym saved);
+          number = ap (λ (r : Reading). refusalNumber (r .refusal)) read ∙ ih .number ∙ ap (λ (s : Salvage). firstFault (s .faults)) (sym saved);
           kept = λ z.
               let (walls, text) = ih .kept (ap (λ (r : Reading). r .refusal) (sym read) ∙ z) in (
                 ap (λ (s : Salvage). s .wall) saved ∙ walls ∙ ap (λ (r : Reading). r .wall) (sym read),

@@ -24,7 +24,7 @@ use Rattle.answers.specs.Reply.{sentOf, bytesSent, outputOf as answerOutput}
 use Rattle.answers.specs.Judged.{command, judge, notAvailable}
 use Rattle.answers.specs.Played.{played}
 use Rattle.forms.specs.declared.Form.{Form}
-use Rattle.image_whole.specs.declared.Refusal.the-variants.{Nothing as Sound}
+use Rattle.refusals.specs.declared.Refusal.the-variants.{Nothing as Sound}
 use Rattle.image_write.specs.Written.{writtenOf, bytesWritten, outputOf as imageOutput}
 use Rattle.image_read.specs.Read.{readOf}
 use Rattle.host.specs.declared.Host.{Host}

@@ -30,12 +30,12 @@ use Rattle.demands.specs.Cases.{Case, tried, cases}
 use Rattle.line.specs.Session.{Event, session, burstsAfter, receiverOf, streamed}
 use Rattle.forms.specs.declared.Form.{Form}
 use Rattle.forms.specs.Forms.{hasField}
-use Rattle.image_whole.specs.declared.Refusal.the-variants.{Nothing as Sound}
+use Rattle.refusals.specs.declared.Refusal.the-variants.{Nothing as Sound}
 use Rattle.image_write.specs.declared.Written.the-variants.{Bytes}
 use Rattle.image_write.specs.Written.{writtenOf, outputOf}
 use Rattle.image_whole.specs.Whole.{formOf, wholeRefusal, recordsIn}
 use Rattle.image_read.specs.Fields.{fieldsIn}
-use Rattle.image_whole.specs.Refusals.{isSound}
+use Rattle.refusals.specs.Refusals.{isSound}
 use Rattle.image_read.specs.Read.{readOf, inTable}
 use Rattle.image_read.specs.Entries.{Entry, bytesOf, freshEntry, Without, Reordered, GiveAlike, SameHead}
 

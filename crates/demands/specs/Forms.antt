@@ -6,7 +6,7 @@ use mathlib.Core.List.{List}
 use lib.ListN.{take}
 use Rattle.forms.specs.declared.Form.{Form}
 use Rattle.forms.specs.declared.Form.the-variants.{One, Two}
-use Rattle.image_whole.specs.declared.Refusal.the-variants.{Nothing as Sound}
+use Rattle.refusals.specs.declared.Refusal.the-variants.{Nothing as Sound}
 use Rattle.image_whole.specs.Whole.{formOf}
 use Rattle.image_read.specs.Read.{readOf}
 use Rattle.image_write.specs.declared.Written.the-variants.{Bytes}

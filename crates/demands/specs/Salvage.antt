@@ -18,8 +18,8 @@ use Rattle.forms.specs.Forms.{headSize, profileIn}
 use Rattle.faults.specs.declared.Fault.{Fault}
 use Rattle.faults.specs.declared.Fault.the-variants.{Dropped, Broken, NotAllowed}
 use Rattle.faults.specs.Lines.{faultNumber, lineOf}
-use Rattle.image_whole.specs.declared.Refusal.the-variants.{Nothing as Sound}
-use Rattle.image_whole.specs.Refusals.{isSound, readRefusalOf}
+use Rattle.refusals.specs.declared.Refusal.the-variants.{Nothing as Sound}
+use Rattle.refusals.specs.Refusals.{isSound, refusalNumber}
 use Rattle.image_whole.specs.Whole.{formOf, wholeRefusal, recordsIn}
 use Rattle.image_record.specs.declared.Step.the-variants.{Broken as BrokenStep, End}
 use Rattle.image_record.specs.Head.{headed}
@@ -37,7 +37,7 @@ firstFault ((fault ∷ faults) ∷ rest) = faultNumber fault
 
 -- Reader and salvage never disagree: what the reader refuses an image by is the first fault that the lines tell.
 abbrev pub SameFault : Type 0
-SameFault = (image : List ℕ) → isSound (wholeRefusal image) ≡ true → readRefusalOf (readOf image .refusal) ≡ firstFault (salvageOf image .faults)
+SameFault = (image : List ℕ) → isSound (wholeRefusal image) ≡ true → refusalNumber (readOf image .refusal) ≡ firstFault (salvageOf image .faults)
 
 -- A sound image gives the reader's own table and no lines.
 abbrev pub SoundKept : Type 0

@@ -18,7 +18,7 @@ use Rattle.panels.specs.declared.Place.the-variants.{Nowhere}
 use Rattle.panels.specs.Wall.{Wall, modelOf, blank, placeFrom, mostPanels}
 use Rattle.panels.specs.WellFormed.{GoodPanel, Absent, GoodWall}
 use Rattle.panels.proofs.Formed.{absent-snoc, good-at}
-use Rattle.image_whole.specs.declared.Refusal.the-variants.{Nothing}
+use Rattle.refusals.specs.declared.Refusal.the-variants.{Nothing}
 use Rattle.forms.specs.declared.Form.{Form}
 use Rattle.forms.specs.Forms.{hasField, keeps}
 use Rattle.forms.proofs.Laws.{kept-profile, kept-fresh}

@@ -13,7 +13,7 @@ use Rattle.forms.proofs.Laws.{keeps-fresh, two-keeps}
 use Rattle.image_write.specs.Written.{losesNothing}
 use Rattle.image_write.proofs.Losing.{one-more}
 use Rattle.image_whole.specs.Whole.{formOf, wholeRefusal, recordsIn}
-use Rattle.image_whole.specs.Refusals.{isSound}
+use Rattle.refusals.specs.Refusals.{isSound}
 use Rattle.image_read.specs.Read.{Reading, recordRefusal, panelIn, refused, readRecords, readOf}
 use Rattle.image_read.proofs.Sound.{fields-gathered}
 

@@ -18,7 +18,7 @@ use Rattle.forms.specs.Forms.{formByte, isForm, formWith}
 use Rattle.forms.proofs.Laws.{byte-back, byte-known}
 use Rattle.image_write.specs.Written.{highLow, startsOf, imageOf}
 use Rattle.image_whole.specs.Whole.{lastByte, formOf, countOf, startsAt, startAt, edge, rises, startsFit, wholeRefusal, recordIn, recordsIn}
-use Rattle.image_whole.specs.Refusals.{isSound}
+use Rattle.refusals.specs.Refusals.{isSound}
 use Rattle.image_write.proofs.Lengths.{pairs-before, starts-count, image-length}
 
 module _ (form : Form) (records : List (List ℕ)) where

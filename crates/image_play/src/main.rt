@@ -72,7 +72,7 @@ fn print_reading(bytes: &[u8]) {
     }
     let read = image_read::read_image(bytes);
     let refusal = read.refusal;
-    let number = image_whole::refusal_number(refusal);
+    let number = refusals::refusal_number(refusal);
     if number != 0 {
         io::write_all(1, b"refused ");
         io::print_decimal(1, number as u64);

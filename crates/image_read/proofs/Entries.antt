@@ -21,7 +21,7 @@ use Rattle.models.proofs.Laws.{allowed-many, kind-free}
 use Rattle.forms.specs.declared.Form.{Form}
 use Rattle.forms.specs.Forms.{hasField}
 use Rattle.panels.proofs.Values.{length-with, other-row}
-use Rattle.image_whole.specs.declared.Refusal.the-variants.{Nothing as Sound}
+use Rattle.refusals.specs.declared.Refusal.the-variants.{Nothing as Sound}
 use Rattle.image_record.specs.declared.Step.{Step}
 use Rattle.image_record.specs.declared.Step.the-variants.{Field, NotAllowed, Broken, End}
 use Rattle.image_read.specs.declared.Fields.{Fields}

@@ -11,8 +11,8 @@ use Rattle.profiles.specs.Numbers.{ifKnown}
 use Rattle.panels.specs.Wall.{Wall}
 use Rattle.forms.specs.declared.Form.{Form}
 use Rattle.forms.specs.Forms.{headSize}
-use Rattle.image_whole.specs.declared.Refusal.the-variants.{Record}
-use Rattle.image_whole.specs.Refusals.{isSound}
+use Rattle.refusals.specs.declared.Refusal.the-variants.{Record}
+use Rattle.refusals.specs.Refusals.{isSound}
 use Rattle.image_record.specs.Head.{idIn, headIn}
 use Rattle.image_record.proofs.Heads.{Marks, head-alike}
 use Rattle.image_read.specs.declared.ReadPanel.{ReadPanel}

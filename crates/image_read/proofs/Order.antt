@@ -20,10 +20,10 @@ use Rattle.panels.specs.Wall.{Wall}
 use Rattle.forms.specs.declared.Form.{Form}
 use Rattle.forms.specs.Forms.{hasField}
 use Rattle.image_read.specs.declared.Fields.{Fields}
-use Rattle.image_whole.specs.declared.Refusal.the-variants.{Nothing as Sound}
+use Rattle.refusals.specs.declared.Refusal.the-variants.{Nothing as Sound}
 use Rattle.image_whole.specs.Whole.{formOf, wholeRefusal, recordsIn}
 use Rattle.image_read.specs.Fields.{fieldsIn}
-use Rattle.image_whole.specs.Refusals.{isSound}
+use Rattle.refusals.specs.Refusals.{isSound}
 use Rattle.image_read.specs.Read.{recordRefusal, panelIn, refused, readRecords, readOf}
 use Rattle.image_read.proofs.OnTheWay.{wallWith}
 use Rattle.image_read.specs.Entries.{Entry, bytesOf, freshEntry, Permuted, same, swapped, kept, twice, Without, HasAll, KindFirst, Reordered, givenOr, given, GiveAlike, SameHead}

@@ -16,12 +16,12 @@ use Rattle.panels.specs.Wall.{Wall}
 use Rattle.forms.specs.declared.Form.{Form}
 use Rattle.forms.specs.Forms.{headSize, headOf, holds}
 use Rattle.forms.proofs.Laws.{head-length, profile-back, behind-head}
-use Rattle.image_whole.specs.declared.Refusal.{Refusal}
-use Rattle.image_whole.specs.declared.Refusal.the-variants.{Nothing as Sound, Record}
+use Rattle.refusals.specs.declared.Refusal.{Refusal}
+use Rattle.refusals.specs.declared.Refusal.the-variants.{Nothing as Sound, Record}
 use Rattle.image_record.specs.Head.{idIn, headFits, headIn}
 use Rattle.image_read.specs.declared.Fields.{Fields}
 use Rattle.image_read.specs.Fields.{fieldsIn}
-use Rattle.image_whole.specs.Refusals.{isSound}
+use Rattle.refusals.specs.Refusals.{isSound}
 use Rattle.image_read.specs.Read.{recordRefusal, panelIn}
 use Rattle.image_whole.proofs.Edges.{sound-nothing}
 

@@ -19,8 +19,8 @@ use Rattle.panels.proofs.Formed.{formed, empty-formed}
 use Rattle.panels.proofs.Values.{InRange}
 use Rattle.forms.specs.declared.Form.{Form}
 use Rattle.forms.specs.Forms.{headSize, profileIn, hasField}
-use Rattle.image_whole.specs.declared.Refusal.the-variants.{Record}
-use Rattle.image_whole.specs.Refusals.{isSound}
+use Rattle.refusals.specs.declared.Refusal.the-variants.{Record}
+use Rattle.refusals.specs.Refusals.{isSound}
 use Rattle.image_whole.specs.Whole.{formOf, countOf, recordIn, recordsIn, wholeRefusal}
 use Rattle.image_whole.proofs.Edges.{fits, record-next}
 use Rattle.image_record.specs.Head.{idIn, headIn}

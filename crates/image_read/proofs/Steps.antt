@@ -6,7 +6,7 @@ use Prim.Native.Nat.{ℕ}
 use Rattle.settings.specs.declared.Profile.{Profile}
 use Rattle.settings.specs.Settings.{valuesWith}
 use Rattle.forms.specs.declared.Form.{Form}
-use Rattle.image_whole.specs.declared.Refusal.the-variants.{Nothing as Sound, Field as BadField, Value as BadValue}
+use Rattle.refusals.specs.declared.Refusal.the-variants.{Nothing as Sound, Field as BadField, Value as BadValue}
 use Rattle.image_record.specs.declared.Step.{Step}
 use Rattle.image_record.specs.declared.Step.the-variants.{Field, NotAllowed, Broken, End}
 use Rattle.image_record.specs.Field.{valuesIn, behind, stepAt}

@@ -6,8 +6,8 @@ use lib.ListN.{replicate}
 use Rattle.settings.specs.declared.Profile.{Profile}
 use Rattle.settings.specs.Settings.{freshValues, rowCount}
 use Rattle.forms.specs.declared.Form.{Form}
-use Rattle.image_whole.specs.declared.Refusal.{Refusal}
-use Rattle.image_whole.specs.declared.Refusal.the-variants.{Nothing as Sound, Field as BadField, Value as BadValue}
+use Rattle.refusals.specs.declared.Refusal.{Refusal}
+use Rattle.refusals.specs.declared.Refusal.the-variants.{Nothing as Sound, Field as BadField, Value as BadValue}
 use Rattle.image_record.specs.declared.Step.{Step}
 use Rattle.image_record.specs.declared.Step.the-variants.{Field, NotAllowed, Broken, End}
 use Rattle.image_record.specs.Run.{runFrom}

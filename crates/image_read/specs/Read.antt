@@ -10,9 +10,9 @@ use Rattle.panels.specs.declared.Panel.{Panel}
 use Rattle.panels.specs.Wall.{Wall, blank, tableOf}
 use Rattle.forms.specs.declared.Form.{Form}
 use Rattle.forms.specs.Forms.{headSize, profileIn}
-use Rattle.image_whole.specs.declared.Refusal.{Refusal}
-use Rattle.image_whole.specs.declared.Refusal.the-variants.{Nothing, Record}
-use Rattle.image_whole.specs.Refusals.{isSound}
+use Rattle.refusals.specs.declared.Refusal.{Refusal}
+use Rattle.refusals.specs.declared.Refusal.the-variants.{Nothing, Record}
+use Rattle.refusals.specs.Refusals.{isSound}
 use Rattle.image_whole.specs.Whole.{formOf, wholeRefusal, recordsIn}
 use Rattle.image_record.specs.Head.{idIn, headIn, headed}
 use Rattle.image_read.specs.declared.Read.{Read}

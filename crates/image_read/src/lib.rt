@@ -4,9 +4,9 @@ mod walk;
 
 ghost use mathlib.Core.Path.{_≡_};
 ghost use Rattle.image_read.specs.Read.{readOf, inTable};
-use image_whole::Refusal;
 use panels::Panel;
 use panels::Table;
+use refusals::Refusal;
 use settings::VALUE_COUNT;
 
 // The table that was read; on a refusal it is empty.
@@ -32,7 +32,7 @@ pub fn read_image(image: &[u8]) -> Read
     ensures { λ r. ⌜ r ≡ inTable (readOf (now (image .entry))) ⌝ }
 {
     let refusal = image_whole::refusal_of(image);
-    if image_whole::refusal_number(refusal) != 0 {
+    if refusals::refusal_number(refusal) != 0 {
         let table = panels::empty_table();
         return Read { refusal, table };
     }

@@ -2,7 +2,7 @@
 ghost use mathlib.Core.Path.{_≡_};
 ghost use mathlib.Core.Bool.{true};
 ghost use mathlib.Core.List.{[]};
-ghost use Rattle.image_whole.specs.Refusals.{isSound};
+ghost use Rattle.refusals.specs.Refusals.{isSound};
 ghost use Rattle.image_whole.specs.Whole.{formOf, wholeRefusal, recordsIn};
 ghost use Rattle.image_read.specs.Read.{readRecords, inTable};
 ghost use Rattle.image_read.specs.Private.Marked.{noPanel, panelBy};
@@ -11,11 +11,11 @@ use crate::ReadPanel;
 use crate::walk;
 use forms::Form;
 use image_record::ID_COUNT;
-use image_whole::Refusal;
 use packet::GroupId;
 use packet::MonitorId;
 use panels::Panel;
 use profiles::Numbered;
+use refusals::Refusal;
 
 // 16, and no panel.
 fn no_panel() -> ReadPanel
@@ -63,7 +63,7 @@ pub fn all(image: &[u8]) -> Read
         let end = image_whole::edge_at(image, n, k + 1);
         let read = panel_of(form, &image[start..end], &seen);
         let refusal = read.refusal;
-        if image_whole::refusal_number(refusal) != 0 {
+        if refusals::refusal_number(refusal) != 0 {
             let table = panels::empty_table();
             return Read { refusal, table };
         }

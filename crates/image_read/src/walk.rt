@@ -4,7 +4,7 @@ ghost use Rattle.image_read.specs.Fields.{refusalAt, fieldsIn};
 use crate::Fields;
 use forms::Form;
 use image_record::Step;
-use image_whole::Refusal;
+use refusals::Refusal;
 use settings::Profile;
 use settings::ROW_COUNT;
 

@@ -15,7 +15,7 @@ use Rattle.panels.proofs.Values.{InRange}
 use Rattle.forms.specs.declared.Form.{Form}
 use Rattle.forms.specs.Forms.{headSize}
 use Rattle.faults.specs.declared.Fault.the-variants.{Dropped}
-use Rattle.image_whole.specs.Refusals.{isSound}
+use Rattle.refusals.specs.Refusals.{isSound}
 use Rattle.image_whole.specs.Whole.{formOf, recordsIn, wholeRefusal}
 use Rattle.image_whole.proofs.Edges.{fits, record-count}
 use Rattle.image_record.specs.declared.Step.{Step}

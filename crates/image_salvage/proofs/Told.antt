@@ -13,7 +13,7 @@ use Rattle.forms.specs.declared.Form.{Form}
 use Rattle.forms.specs.Forms.{headSize}
 use Rattle.faults.specs.declared.Fault.{Fault}
 use Rattle.faults.specs.Lines.{longestLine}
-use Rattle.image_whole.specs.Refusals.{isSound}
+use Rattle.refusals.specs.Refusals.{isSound}
 use Rattle.image_whole.specs.Whole.{formOf, recordsIn, wholeRefusal}
 use Rattle.image_whole.proofs.Edges.{fits, record-count}
 use Rattle.image_record.specs.Head.{idIn, headIn}

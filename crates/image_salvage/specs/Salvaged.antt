@@ -10,7 +10,7 @@ use Rattle.forms.specs.Forms.{headSize}
 use Rattle.faults.specs.declared.Fault.{Fault}
 use Rattle.faults.specs.declared.Fault.the-variants.{Dropped}
 use Rattle.faults.specs.Lines.{lineOf, longestLine}
-use Rattle.image_whole.specs.Refusals.{isSound}
+use Rattle.refusals.specs.Refusals.{isSound}
 use Rattle.image_whole.specs.Whole.{formOf, wholeRefusal, recordsIn}
 use Rattle.image_record.specs.Head.{idIn, headIn, headed}
 use Rattle.image_salvage.specs.declared.Salvaged.{Salvaged}

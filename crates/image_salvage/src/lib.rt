@@ -6,10 +6,10 @@ ghost use mathlib.Core.Path.{_≡_};
 ghost use Rattle.lists.specs.Lists.{laidOver};
 ghost use Rattle.image_salvage.specs.Salvaged.{salvageOf, textOf, salvagedAs};
 use faults::LONGEST_LINE;
-use image_whole::Refusal;
 use panels::MOST_PANELS;
 use panels::Panel;
 use panels::Table;
+use refusals::Refusal;
 use settings::ROW_COUNT;
 use settings::VALUE_COUNT;
 
@@ -45,7 +45,7 @@ pub fn salvage(image: &[u8], lines: &mut [u8; LINES_CAP]) -> Salvaged
     ensures { λ _. ⌜ now (lines .exit) ≡ laidOver (textOf (salvageOf (now (image .entry)))) (now (lines .entry)) ⌝ }
 {
     let refusal = image_whole::refusal_of(image);
-    if image_whole::refusal_number(refusal) != 0 {
+    if refusals::refusal_number(refusal) != 0 {
         let table = panels::empty_table();
         return Salvaged {
             refusal,

@@ -6,7 +6,7 @@ ghost use Prim.Native.Nat.{_+_, _*_, _≤_, _<_};
 ghost use lib.ListN.{length};
 ghost use Rattle.lists.specs.Lists.{laidAt, laidOver};
 ghost use Rattle.faults.specs.Lines.{longestLine};
-ghost use Rattle.image_whole.specs.Refusals.{isSound};
+ghost use Rattle.refusals.specs.Refusals.{isSound};
 ghost use Rattle.image_whole.specs.Whole.{wholeRefusal};
 ghost use Rattle.image_salvage.specs.Kept.{mostFaults};
 ghost use Rattle.image_salvage.specs.Salvaged.{linesOf, salvageOf, textOf, salvagedAs};
@@ -18,11 +18,11 @@ use crate::fields;
 use faults::Fault;
 use forms::Form;
 use image_record::ID_COUNT;
-use image_whole::Refusal;
 use packet::GroupId;
 use packet::MonitorId;
 use panels::Panel;
 use profiles::Numbered;
+use refusals::Refusal;
 
 // What is kept of the record with this number, behind others whose IDs are marked as seen; its faults are told from a place of
 // the text on.

@@ -16,10 +16,10 @@ use Rattle.lists.specs.Lists.{each}
 use Rattle.lists.proofs.Both.{both}
 use Rattle.lists.proofs.Each.{in-each, length-each}
 use Rattle.forms.specs.Forms.{isForm}
-use Rattle.image_whole.specs.declared.Refusal.{Refusal}
-use Rattle.image_whole.specs.declared.Refusal.the-variants.{Nothing, TooShort, OtherForm, TooMany, NoStarts, Starts, Record, Field, Value}
+use Rattle.refusals.specs.declared.Refusal.{Refusal}
+use Rattle.refusals.specs.declared.Refusal.the-variants.{Nothing, TooShort, OtherForm, TooMany, NoStarts, Starts, Record, Field, Value}
 use Rattle.image_whole.specs.Whole.{lastByte, countOf, startsAt, edge, rises, startsFit, wholeRefusal, recordIn, recordsIn}
-use Rattle.image_whole.specs.Refusals.{isSound}
+use Rattle.refusals.specs.Refusals.{isSound}
 
 pub sound-nothing : (r : Refusal) → isSound r ≡ true → r ≡ Nothing
 sound-nothing Nothing e = refl

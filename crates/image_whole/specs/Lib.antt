@@ -1,4 +1,2 @@
--- What is right of an image as a whole: `Refusals` the numbers of what is refused, `Whole` the trailer, and where records begin
--- and end.
-pub mod Refusals
+-- What is right of an image as a whole: the trailer, where records begin and end, and 11 to 15.
 pub mod Whole

@@ -9,8 +9,8 @@ use Rattle.panels.specs.Wall.{mostPanels}
 use Rattle.lists.specs.Lists.{each}
 use Rattle.forms.specs.declared.Form.{Form}
 use Rattle.forms.specs.Forms.{isForm, formWith}
-use Rattle.image_whole.specs.declared.Refusal.{Refusal}
-use Rattle.image_whole.specs.declared.Refusal.the-variants.{Nothing, TooShort, OtherForm, TooMany, NoStarts, Starts}
+use Rattle.refusals.specs.declared.Refusal.{Refusal}
+use Rattle.refusals.specs.declared.Refusal.the-variants.{Nothing, TooShort, OtherForm, TooMany, NoStarts, Starts}
 
 -- n starts of two bytes, then n, then the form byte
 abbrev pub lastByte : List ℕ → ℕ

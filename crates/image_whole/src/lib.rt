@@ -2,40 +2,10 @@
 ghost use mathlib.Core.Path.{_≡_};
 ghost use Prim.Native.Nat.{_+_, _*_, _≤_, _<_};
 ghost use lib.ListN.{length};
-ghost use Rattle.image_whole.specs.Refusals.{readRefusalOf};
 ghost use Rattle.image_whole.specs.Whole.{formOf, countOf, edge, startsFit, wholeRefusal};
 use forms::Form;
 use panels::MOST_PANELS;
-
-// Why an image was refused, if it was: as a whole, or for a record, a field or a value.
-pub enum Refusal {
-    Nothing,
-    TooShort,
-    OtherForm,
-    TooMany,
-    NoStarts,
-    Starts,
-    Record,
-    Field,
-    Value,
-}
-
-// 01's number for a refusal, 0 where there was none.
-pub fn refusal_number(r: Refusal) -> u8
-    ensures { λ n. ⌜ n ≡ readRefusalOf r ⌝ }
-{
-    match r {
-        Refusal::Nothing => 0,
-        Refusal::TooShort => 11,
-        Refusal::OtherForm => 12,
-        Refusal::TooMany => 13,
-        Refusal::NoStarts => 14,
-        Refusal::Starts => 15,
-        Refusal::Record => 16,
-        Refusal::Field => 17,
-        Refusal::Value => 18,
-    }
-}
+use refusals::Refusal;
 
 fn wide(b: u8) -> usize
     ensures { λ r. ⌜ (r ≡ b) × (r < 256) ⌝ }

@@ -157,7 +157,7 @@ fn salvage(image: &[u8], name: Name, names: &[u8]) {
     let mut lines = [0u8; LINES_CAP];
     let salvaged = image_salvage::salvage(image, &mut lines);
     let refusal = salvaged.refusal;
-    let number = image_whole::refusal_number(refusal);
+    let number = refusals::refusal_number(refusal);
     if number != 0 {
         print_refusal(number);
         return;

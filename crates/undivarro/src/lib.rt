@@ -16,10 +16,10 @@ use answers::Reply;
 use answers::Sent;
 use forms::Form;
 use image_salvage::LINES_CAP;
-use image_whole::Refusal;
 use image_write::Written;
 use packet::LONGEST;
 use panels::Table;
+use refusals::Refusal;
 
 // What comes back: 0 or the refusal's number, how many bytes the answer and the image written have, and the number of what was
 // wrong with the burst.
@@ -46,7 +46,7 @@ fn has_room(form: Form, t: Table, least: usize, answer: usize, out: usize) -> bo
 fn refusal_for(read: Refusal, held: bool, room: bool) -> u32
     ensures { λ r. ⌜ r ≡ refusalFor read held room ⌝ }
 {
-    let number = image_whole::refusal_number(read);
+    let number = refusals::refusal_number(read);
     if number != 0 {
         return number as u32;
     }

@@ -3,10 +3,10 @@ use mathlib.Core.Path.{_≡_, sym, ap, ap₂, _∙_}
 use mathlib.Core.Bool.{true}
 use borrow.Author.Tests.{eq-eqb, ne-eqb}
 use Rattle.panels.specs.declared.Table.{Table}
-use Rattle.image_whole.specs.declared.Refusal.{Refusal}
+use Rattle.refusals.specs.declared.Refusal.{Refusal}
 use Rattle.image_read.specs.declared.Read.{Read}
 use Rattle.image_whole.specs.Whole.{wholeRefusal}
-use Rattle.image_whole.specs.Refusals.{isSound, readRefusalOf}
+use Rattle.refusals.specs.Refusals.{isSound, refusalNumber}
 use Rattle.image_read.specs.Read.{readOf, inTable}
 use borrow.Author.Needs.{needs}
 use Rattle.image_read.proofs.read_image.Statement.{statement}
@@ -14,7 +14,7 @@ use Rattle.image_read.proofs.read_image.Tie as tie
 
 -- past the test the image is sound as a whole
 sound : (c : tie.Else1) → isSound (wholeRefusal (c .before .before .before .before .args .image .now)) ≡ true
-sound c = eq-eqb _ 0 (sym (c .before .refusal-number .ensures ∙ ap readRefusalOf (c .before .before .refusal-of .ensures)) ∙ c .if1 .left)
+sound c = eq-eqb _ 0 (sym (c .before .refusal-number .ensures ∙ ap refusalNumber (c .before .before .refusal-of .ensures)) ∙ c .if1 .left)
 
 refusal-of-requires : tie.Need-refusal-of-requires
 refusal-of-requires c κs = search needs
@@ -30,7 +30,7 @@ unfolding readOf
 returns c =
     let number = c .before .before in
     let refusal = number .before .refusal-of .ensures in
-    let no = ne-eqb _ 0 (λ e. c .before .if1 .taken (number .refusal-number .ensures ∙ ap readRefusalOf refusal ∙ e)) in
+    let no = ne-eqb _ 0 (λ e. c .before .if1 .taken (number .refusal-number .ensures ∙ ap refusalNumber refusal ∙ e)) in
     ap₂ {C = Read} (λ (r : Refusal) (t : Table). record { refusal = r; table = t }) refusal (c .empty-table .ensures) ∙ ap inTable (sym (rw no))
 
 all-requires : tie.Need-all-requires

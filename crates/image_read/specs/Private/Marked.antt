@@ -7,7 +7,7 @@ use Rattle.profiles.specs.Numbers.{ifKnown}
 use Rattle.panels.specs.Wall.{blank}
 use Rattle.forms.specs.declared.Form.{Form}
 use Rattle.forms.specs.Forms.{headSize}
-use Rattle.image_whole.specs.declared.Refusal.the-variants.{Record}
+use Rattle.refusals.specs.declared.Refusal.the-variants.{Record}
 use Rattle.image_record.specs.Head.{marked, headIn}
 use Rattle.image_read.specs.declared.ReadPanel.{ReadPanel}
 use Rattle.image_read.specs.Fields.{fieldsIn}

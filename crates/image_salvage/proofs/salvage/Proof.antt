@@ -5,8 +5,8 @@ use borrow.Author.Needs.{needs}
 use borrow.Author.Tests.{eq-eqb, ne-eqb}
 use Rattle.lists.specs.Lists.{laidOver}
 use Rattle.panels.specs.declared.Table.{Table}
-use Rattle.image_whole.specs.declared.Refusal.{Refusal}
-use Rattle.image_whole.specs.Refusals.{isSound, readRefusalOf}
+use Rattle.refusals.specs.declared.Refusal.{Refusal}
+use Rattle.refusals.specs.Refusals.{isSound, refusalNumber}
 use Rattle.image_whole.specs.Whole.{wholeRefusal}
 use Rattle.image_salvage.specs.declared.Salvaged.{Salvaged}
 use Rattle.image_salvage.specs.Salvaged.{salvageOf, textFrom}
@@ -15,7 +15,7 @@ use Rattle.image_salvage.proofs.salvage.Tie as tie
 
 -- past the test the image is sound as a whole
 sound : (c : tie.Else1) → isSound (wholeRefusal (c .before .before .before .before .args .image .now)) ≡ true
-sound c = eq-eqb _ 0 (sym (c .before .refusal-number .ensures ∙ ap readRefusalOf (c .before .before .refusal-of .ensures)) ∙ c .if1 .left)
+sound c = eq-eqb _ 0 (sym (c .before .refusal-number .ensures ∙ ap refusalNumber (c .before .before .refusal-of .ensures)) ∙ c .if1 .left)
 
 refusal-of-requires : tie.Need-refusal-of-requires
 refusal-of-requires c κs = search needs
@@ -31,7 +31,7 @@ unfolding salvageOf textFrom laidOver
 returns c =
     let number = c .before .before in
     let refusal = number .before .refusal-of .ensures in
-    let no = ne-eqb _ 0 (λ e. c .before .if1 .taken (number .refusal-number .ensures ∙ ap readRefusalOf refusal ∙ e)) in
+    let no = ne-eqb _ 0 (λ e. c .before .if1 .taken (number .refusal-number .ensures ∙ ap refusalNumber refusal ∙ e)) in
     rw no (ap₂ {C = Salvaged} (λ (r : Refusal) (t : Table). record { refusal = r; table = t; told = 0 }) refusal (c .empty-table .ensures), refl)
 
 all-requires : tie.Need-all-requires

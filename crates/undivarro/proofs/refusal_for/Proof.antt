@@ -2,7 +2,7 @@
 use mathlib.Core.Path.{_≡_, sym, _∙_}
 use mathlib.Core.Bool.{true}
 use borrow.Author.Tests.{eq-eqb, ne-eqb, not-true, not-false}
-use Rattle.image_whole.specs.Refusals.{isSound}
+use Rattle.refusals.specs.Refusals.{isSound}
 use Rattle.undivarro.specs.Calls.{refusalFor}
 use borrow.Author.Needs.{needs}
 use Rattle.undivarro.proofs.refusal_for.Statement.{statement}

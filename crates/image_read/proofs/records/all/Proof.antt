@@ -16,12 +16,12 @@ use Rattle.panels.specs.WellFormed.{WellFormed}
 use Rattle.panels.proofs.Laws.{panels-of-table, count-is, grown}
 use Rattle.panels.proofs.Formed.{empty-formed}
 use Rattle.forms.specs.declared.Form.{Form}
-use Rattle.image_whole.specs.declared.Refusal.the-variants.{Nothing}
-use Rattle.image_whole.specs.declared.Refusal.{Refusal}
+use Rattle.refusals.specs.declared.Refusal.the-variants.{Nothing}
+use Rattle.refusals.specs.declared.Refusal.{Refusal}
 use Rattle.image_read.specs.declared.Read.{Read}
 use Rattle.image_read.specs.declared.ReadPanel.{ReadPanel}
 use Rattle.image_whole.specs.Whole.{formOf, countOf, edge, recordIn, recordsIn}
-use Rattle.image_whole.specs.Refusals.{isSound, readRefusalOf}
+use Rattle.refusals.specs.Refusals.{isSound, refusalNumber}
 use Rattle.image_read.specs.Read.{recordRefusal, refused, readRecords, inTable}
 use Rattle.image_read.proofs.OnTheWay.{wallWith}
 use Rattle.lists.proofs.Each.{length-each}
@@ -140,7 +140,7 @@ returns : tie.Need-returns Inv-loop μ-loop
 returns c =
     let number = c .before .before in
     let read = number .before in
-    let no = ne-eqb _ 0 (λ e. c .before .if1 .taken (number .refusal-number .ensures ∙ ap readRefusalOf (refusal read) ∙ e)) in
+    let no = ne-eqb _ 0 (λ e. c .before .if1 .taken (number .refusal-number .ensures ∙ ap refusalNumber (refusal read) ∙ e)) in
     ap₂ {C = Read} (λ (r : Refusal) (t : Table). record { refusal = r; table = t }) (refusal read) (c .empty-table2 .ensures)
     ∙ ap inTable (sym (from-here read false no))
 
@@ -176,7 +176,7 @@ loop-again c =
     let f = loop .loop .inv .1 in
     let here = few (read .before .before .before) in
     let form = formOf image in
-    let yes : isSound (recordRefusal form w bytes) ≡ true = eq-eqb _ 0 (sym (number .refusal-number .ensures ∙ ap readRefusalOf (refusal read)) ∙ c .before .before .if1 .left) in
+    let yes : isSound (recordRefusal form w bytes) ≡ true = eq-eqb _ 0 (sym (number .refusal-number .ensures ∙ ap refusalNumber (refusal read)) ∙ c .before .before .if1 .left) in
     let panel = ap (λ (r : ReadPanel). r .panel) (read-it read) ∙ panel-alike (loop .loop .inv .5) form bytes yes in
     let wall : w ++ p ∷ [] ≡ wallWith form w bytes = ap (λ (q : Panel). w ++ q ∷ []) panel in
     let count : t .count ≡ k = count-is f ∙ loop .loop .inv .2 in

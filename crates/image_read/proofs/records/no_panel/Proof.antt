@@ -2,7 +2,7 @@
 use mathlib.Core.Path.{ap}
 use borrow.Author.Needs.{needs}
 use Rattle.panels.specs.declared.Panel.{Panel}
-use Rattle.image_whole.specs.declared.Refusal.the-variants.{Record}
+use Rattle.refusals.specs.declared.Refusal.the-variants.{Record}
 use Rattle.image_read.specs.declared.ReadPanel.{ReadPanel}
 use Rattle.image_read.proofs.records.no_panel.Statement.{statement}
 use Rattle.image_read.proofs.records.no_panel.Tie as tie

@@ -6,7 +6,7 @@ use Prim.Native.Nat.{ℕ}
 use borrow.Author.Needs.{needs}
 use lib.ListN.{replicate}
 use Rattle.settings.specs.Settings.{rowCount}
-use Rattle.image_whole.specs.declared.Refusal.{Refusal}
+use Rattle.refusals.specs.declared.Refusal.{Refusal}
 use Rattle.image_record.specs.declared.Stop.{Stop}
 use Rattle.image_read.specs.declared.Fields.{Fields}
 use Rattle.image_read.specs.Fields.{refusalAt, fieldsFrom}

@@ -10,7 +10,7 @@ use Rattle.lists.specs.Lists.{laidAt}
 use Rattle.forms.specs.declared.Form.{Form}
 use Rattle.panels.specs.declared.Table.{Table}
 use Rattle.panels.proofs.Laws.{count-is}
-use Rattle.image_whole.specs.declared.Refusal.the-variants.{Nothing}
+use Rattle.refusals.specs.declared.Refusal.the-variants.{Nothing}
 use Rattle.image_whole.specs.Whole.{formOf, countOf, edge, wholeRefusal, recordIn}
 use Rattle.image_whole.proofs.Edges.{Fits, fits, edge-less, edge-inside, sound-nothing}
 use Rattle.image_salvage.specs.declared.KeptRecord.{KeptRecord}
