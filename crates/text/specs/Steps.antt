@@ -1,15 +1,21 @@
--- A step that was read stands at the front of the buffer. No contract can say which bytes standard input has.
-use Prim.Native.Nat.{ℕ}
-use mathlib.Core.List.{List}
+-- A step that was read into a buffer. 01, "The play program". No contract can say which bytes standard input has; of those that
+-- were read, with their count before them, it says that they are one burst of that form, or the start of one.
+use Prim.Native.Nat.{ℕ, _≤_, _<_}
+use mathlib.Core.Bool.{true, false}
+use mathlib.Core.Path.{_≡_}
+use mathlib.Core.List.{List, [], _∷_}
+use lib.ListN.{take, drop}
 use Rattle.io.specs.Counts.{Counts}
+use Rattle.bursts.specs.Bursts.{burstsIn}
 use Rattle.text.specs.declared.Read.{Read}
-use Rattle.text.specs.declared.Read.the-variants.{Step, Cut, End}
 
 -- its count is one byte
 abbrev pub longestStep : ℕ
 longestStep = 255
 
-abbrev pub Within : Read → List ℕ → Type 0
-Within (Step n) buf = Counts n buf
-Within Cut buf = Unit {0}
-Within End buf = Unit {0}
+-- what is left of the buffer that was `before`: bytes past the step are untouched, and past the longest where it was cut
+abbrev pub StepIn : List ℕ → Read → List ℕ → Type 0
+StepIn before (Read.Step n) after =
+    Counts n after × (drop n after ≡ drop n before) × (burstsIn (n ∷ take n after) ≡ record { whole = take n after ∷ []; cut = false })
+StepIn before Read.Cut after = drop longestStep after ≡ drop longestStep before
+StepIn before Read.End after = after ≡ before

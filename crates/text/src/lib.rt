@@ -4,7 +4,7 @@ ghost use Prim.Native.Nat.{_≤_};
 ghost use lib.ListN.{length, take};
 ghost use Rattle.io.specs.Counts.{Counts};
 ghost use Rattle.text.specs.Hex.{hexCount, hexOver};
-ghost use Rattle.text.specs.Steps.{Within, longestStep};
+ghost use Rattle.text.specs.Steps.{StepIn, longestStep};
 
 // A step's count is one byte.
 pub const LONGEST_STEP: usize = 255;
@@ -53,7 +53,7 @@ fn count_of(b: u8) -> usize
 // Reads a count byte from standard input, and that many bytes into the front of buf.
 pub fn read_step(buf: &mut [u8]) -> Read
     requires { ⌜ longestStep ≤ length (now buf) ⌝ }
-    ensures { λ r. ⌜ Within r (now (buf .exit)) ⌝ }
+    ensures { λ r. ⌜ StepIn (now (buf .entry)) r (now (buf .exit)) ⌝ }
 {
     let mut one = [0u8; 1];
     if io::read_full(0, &mut one) == 0 {

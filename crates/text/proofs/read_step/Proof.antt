@@ -1,19 +1,33 @@
 -- What was read stands at the front of the buffer, whose length is kept. Assumes nothing.
-use mathlib.Core.Path.{sym}
+use mathlib.Core.Path.{_≡_, sym, ap, _∙_}
 use mathlib.Core.List.{List, _++_}
-use Prim.Native.Nat.{ℕ, _≤_}
+use Prim.Native.Nat.{ℕ, _+_, _-_, _≤_}
 use native.Mathlib.Omega.{arith}
 use borrow.Author.Needs.{needs}
-use lib.ListN.{length, length-append}
-use lib.Seq.{length-take-le}
-use Rattle.io.specs.Counts.{Counts}
+use lib.ListN.{length, take, drop, length-append}
+use lib.Seq.{length-take-le, take-append-seam, drop-append-seam, drop-drop}
+use Rattle.bursts.proofs.Bursts.{one-burst}
+use Rattle.text.specs.declared.Read.{Read}
+use Rattle.text.specs.Steps.{StepIn, longestStep}
 use Rattle.text.proofs.read_step.Statement.{statement}
 use Rattle.text.proofs.read_step.Tie as tie
 
-front : (n : ℕ) (a b : List ℕ) → n ≤ length a → Counts n (a ++ b)
-front n a b h =
-    let e : n ≤ length (a ++ b) = simp length-append (omega arith) in
-    (e, sym (length-take-le n _ e))
+-- A buffer whose first n bytes were read anew.
+module _ (n : ℕ) (a before : List ℕ) (e : length a ≡ n) where
+  left : drop n (a ++ drop n before) ≡ drop n before
+  left = rw (← e) (drop-append-seam a _)
+
+  stepped : n ≤ length before → StepIn before (Read.Step n) (a ++ drop n before)
+  stepped h =
+      let front : take n (a ++ drop n before) ≡ a = rw (← e) (take-append-seam a _) in
+      let fits : n ≤ length (a ++ drop n before) = simp length-append (omega arith) in
+      ((fits, sym (length-take-le n _ fits)), left, rw (front, ← e) (one-burst a))
+
+  cut : n ≤ longestStep → StepIn before Read.Cut (a ++ drop n before)
+  cut h =
+      let all : n + (longestStep - n) ≡ longestStep = omega arith in
+      let back : (l : List ℕ) → drop longestStep l ≡ drop (longestStep - n) (drop n l) = λ l. sym (drop-drop (longestStep - n) n l ∙ ap (λ k. drop k l) all) in
+      back _ ∙ ap (drop (longestStep - n)) left ∙ sym (back before)
 
 slice-aggregate-read-full : tie.Need-slice-aggregate-read-full
 slice-aggregate-read-full c = search needs
@@ -43,13 +57,23 @@ same-length : tie.Need-same-length
 same-length c = search needs
 
 returns-2 : tie.Need-returns-2
-returns-2 c = search needs
+returns-2 c =
+    let read = c .before .before .before in
+    let n = read .before .before .count-of .result in
+    let buf = read .before .before .before .before .before .before .before .before .args .buf .now in
+    let fits : n ≤ length buf = omega arith in
+    cut n (read .read-full2 .last .1 .0) buf (omega (arith, length-take-le n buf fits)) (omega arith)
 
 same-length-2 : tie.Need-same-length-2
 same-length-2 c = search needs
 
 returns-3 : tie.Need-returns-3
-returns-3 c = front _ (c .before .before .before .read-full2 .last .1 .0) _ (omega arith)
+returns-3 c =
+    let read = c .before .before .before in
+    let n = read .before .before .count-of .result in
+    let buf = read .before .before .before .before .before .before .before .before .args .buf .now in
+    let fits : n ≤ length buf = omega arith in
+    stepped n (read .read-full2 .last .1 .0) buf (omega (arith, length-take-le n buf fits)) fits
 
 pub read-step-spec : {M : Type 1} → statement M
 read-step-spec =

@@ -1,0 +1,2 @@
+-- Laws of bursts one behind the other.
+pub mod Bursts

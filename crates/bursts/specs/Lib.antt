@@ -1,0 +1,2 @@
+-- What is right of bursts one behind the other.
+pub mod Bursts
