@@ -1,9 +1,10 @@
 -- A wall is a list of panels; a table holds it in its places. 01, "The settings", "Table calls and numbers".
 use Prim.Native.Nat.{ℕ, suc, _-_}
 use mathlib.Core.Bool.{cond}
-use mathlib.Core.List.{List, [], _∷_, _++_}
+use mathlib.Core.List.{List, [], _∷_, _++_, map}
+use mathlib.Core.Path.{_≡_}
 use lib.Dec.{eqb}
-use lib.ListN.{length, take, replicate}
+use lib.ListN.{length, getD, take, set, replicate}
 use Rattle.settings.specs.declared.Profile.{Profile}
 use Rattle.settings.specs.declared.Profile.the-variants.{General, Phoenix}
 use Rattle.tiling.specs.declared.Kind.{Kind}
@@ -50,12 +51,26 @@ videoOf p = videoBy (p .profile) (p .values)
 unfoldable pub blank : Panel
 blank = record { id = monitorId 0; group = groupId 0; profile = General; values = replicate valueCount 0 }
 
--- a wall in a table
+-- a wall in the places of a table
+unfoldable pub inPlaces : Wall → List Panel
+inPlaces w = w ++ replicate (mostPanels - length w) blank
+
 unfoldable pub tableOf : Wall → Table
-tableOf w = record { panels = w ++ replicate (mostPanels - length w) blank; count = length w }
+tableOf w = record { panels = inPlaces w; count = length w }
 
 abbrev pub panelsOf : Table → Wall
 panelsOf t = take (t .count) (t .panels)
+
+-- other values in the panel at place k, whose ID, group and profile stay
+unfoldable pub withValues : ℕ → List ℕ → Wall → Wall
+withValues k values w =
+    let p = getD w k blank in
+    set w k (record { id = p .id; group = p .group; profile = p .profile; values = values })
+
+-- the same panels, whatever their settings: ID and group, place by place
+pub record SamePanels (w v : Wall) : Type 0 where
+  pub ids : map (λ (p : Panel). p .id) w ≡ map (λ (p : Panel). p .id) v
+  pub groups : map (λ (p : Panel). p .group) w ≡ map (λ (p : Panel). p .group) v
 
 -- the place of the first panel, counted from k, that has the ID
 unfoldable pub placeFrom : MonitorId → ℕ → Wall → Place

@@ -1,7 +1,9 @@
 // The panels of a line: a panel, the table of them, and who is addressed.
 ghost use mathlib.Core.Path.{_≡_};
 ghost use mathlib.Core.List.{[]};
-ghost use Rattle.panels.specs.Wall.{blank, tableOf, panelsOf, placeOf, videoOf};
+ghost use Prim.Native.Nat.{_≤_};
+ghost use lib.ListN.{length, getD, take};
+ghost use Rattle.panels.specs.Wall.{mostPanels, blank, inPlaces, tableOf, panelsOf, withValues, SamePanels, placeOf, videoOf};
 ghost use Rattle.panels.specs.Addressed.{reaches};
 ghost use Rattle.panels.specs.WellFormed.{WellFormed};
 use packet::GroupId;
@@ -57,6 +59,69 @@ pub fn empty_table() -> Table
         panels: [p; MOST_PANELS],
         count: 0,
     }
+}
+
+// How many panels a table has.
+pub fn count_of(t: Table) -> usize
+    requires { ⌜ WellFormed t ⌝ }
+    ensures { λ r. ⌜ r ≡ length (panelsOf t) ⌝ }
+{
+    t.count
+}
+
+// The panel at place k; where no panel is, what stands there.
+pub fn panel_at(t: Table, k: usize) -> Panel
+    requires { ⌜ WellFormed t ⌝ }
+    ensures { λ r. ⌜ r ≡ getD (panelsOf t) k blank ⌝ }
+{
+    if MOST_PANELS <= k {
+        return blank_panel();
+    }
+    t.panels[k]
+}
+
+// All places of a table.
+pub fn places_of(t: Table) -> [Panel; MOST_PANELS]
+    requires { ⌜ WellFormed t ⌝ }
+    ensures { λ r. ⌜ r ≡ inPlaces (panelsOf t) ⌝ }
+{
+    t.panels
+}
+
+// The table of the panels in the first of some places, behind which all are blank.
+pub fn table_of(places: [Panel; MOST_PANELS], count: usize) -> Table
+    requires { ⌜ (count ≤ mostPanels) × (places ≡ inPlaces (take count places)) ⌝ }
+    ensures { λ r. ⌜ r ≡ tableOf (take count places) ⌝ }
+{
+    Table {
+        panels: places,
+        count,
+    }
+}
+
+// The table with other settings: these places have its panels, each with its ID and its group.
+pub fn with_places(t: Table, places: [Panel; MOST_PANELS]) -> Table
+    requires { ⌜ WellFormed t × (places ≡ inPlaces (take (length (panelsOf t)) places)) × SamePanels (panelsOf t) (take (length (panelsOf t)) places) ⌝ }
+    ensures { λ r. ⌜ r ≡ tableOf (take (length (panelsOf t)) places) ⌝ }
+{
+    let mut next = t;
+    next.panels = places;
+    next
+}
+
+// The table with these values in the panel at place k, if there is one.
+pub fn with_values(t: Table, k: usize, values: [u8; VALUE_COUNT]) -> Table
+    requires { ⌜ WellFormed t ⌝ }
+    ensures { λ r. ⌜ r ≡ tableOf (withValues k values (panelsOf t)) ⌝ }
+{
+    if t.count <= k {
+        return t;
+    }
+    let mut next = t;
+    let mut p = t.panels[k];
+    p.values = values;
+    next.panels[k] = p;
+    next
 }
 
 pub fn find_panel(t: Table, id: MonitorId) -> Place

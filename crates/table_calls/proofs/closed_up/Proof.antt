@@ -10,7 +10,7 @@ use lib.ListN.{length, getD, take, drop, set, length-append, length-take, length
 use lib.Seq.{take-at, take-take, take-all, drop-at, drop-cons, getD-take, set-at}
 use Rattle.panels.specs.declared.Panel.{Panel}
 use Rattle.panels.specs.declared.Place.the-variants.{At}
-use Rattle.panels.specs.Wall.{Wall, panelsOf, blank, mostPanels}
+use Rattle.panels.specs.Wall.{Wall, inPlaces, panelsOf, blank, mostPanels}
 use Rattle.table_calls.specs.Calls.{without}
 use Rattle.lists.proofs.Places.{store, from-seam, moved-up}
 use Rattle.panels.proofs.Laws.{count-is, count-few, places-are, places-count, table-is}
@@ -105,6 +105,7 @@ element-set-from-b : tie.Need-element-set-from-b Inv-loop μ-loop
 element-set-from-b c = omega (arith, count-few (c .before .before .before .before .pre .0))
 
 returns : tie.Need-returns Inv-loop μ-loop
+unfolding inPlaces
 returns c =
     let loop = c .before .before in
     let start = loop .before .before in

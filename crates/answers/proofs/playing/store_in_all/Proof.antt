@@ -10,7 +10,7 @@ use lib.Seq.{drop-at}
 use Rattle.packet.specs.declared.MonitorId.{MonitorId}
 use Rattle.packet.specs.declared.GroupId.{GroupId}
 use Rattle.panels.specs.declared.Panel.{Panel}
-use Rattle.panels.specs.Wall.{Wall, blank, panelsOf, mostPanels}
+use Rattle.panels.specs.Wall.{Wall, blank, inPlaces, panelsOf, mostPanels}
 use Rattle.lists.proofs.Places.{getD-inside}
 use Rattle.panels.proofs.Laws.{count-is, count-few, places-are, places-count, table-is}
 use Rattle.answers.specs.Judged.{setOf}
@@ -81,6 +81,7 @@ loop-again c =
     )
 
 returns : tie.Need-returns Inv-loop μ-loop
+unfolding inPlaces
 returns c =
     let loop = c .before in
     let start = loop .before .before .before in
