@@ -68,9 +68,12 @@ same-panels g keeps (p ∷ w) =
     let rest = same-panels g keeps w in
     record { ids = ap₂ (λ (i : MonitorId) (l : List MonitorId). i ∷ l) (sym (keeps p .0)) (rest .ids); groups = ap₂ (λ (i : GroupId) (l : List GroupId). i ∷ l) (sym (keeps p .1)) (rest .groups) }
 
--- places that hold a wall hold it in their first
+-- places that hold a wall hold it in their first: a table is made of them
 pub held-first : {l : List Panel} {w : Wall} (n : ℕ) → l ≡ inPlaces w → n ≡ length w → take n l ≡ w
 held-first {w = w} n e m = ap₂ take m e ∙ taken w
+
+pub may-hold : {l : List Panel} (w : Wall) (n : ℕ) → l ≡ inPlaces w → n ≡ length w → length w ≤ mostPanels → (n ≤ mostPanels) × (l ≡ inPlaces (take n l))
+may-hold w n e m few = (omega arith, e ∙ ap inPlaces (sym (held-first n e m)))
 
 -- and as many as are taken of them
 pub first-many : {l : List Panel} (n : ℕ) → n ≤ mostPanels → l ≡ inPlaces (take n l) → length (take n l) ≡ n

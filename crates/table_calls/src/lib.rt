@@ -1,6 +1,7 @@
 // The table calls: a panel added, a panel removed.
 ghost use mathlib.Core.Path.{_≡_};
 ghost use Prim.Native.Nat.{_<_};
+ghost use lib.ListN.{length};
 ghost use Rattle.panels.specs.Wall.{freshPanel, tableOf, panelsOf};
 ghost use Rattle.panels.specs.WellFormed.{WellFormed};
 ghost use Rattle.table_calls.specs.Calls.{refusalOf, addedTo, without, removedFrom};
@@ -58,7 +59,7 @@ pub fn add(t: Table, id: MonitorId, group: GroupId, number: u8, kind: u8) -> Cha
     requires { ⌜ WellFormed t ⌝ }
     ensures { λ r. ⌜ r ≡ addedTo (panelsOf t) id group number kind ⌝ }
 {
-    let n = t.count;
+    let n = panels::count_of(t);
     if MOST_PANELS <= n {
         return refused(t, Refusal::Full);
     }
@@ -79,13 +80,13 @@ pub fn add(t: Table, id: MonitorId, group: GroupId, number: u8, kind: u8) -> Cha
     if !tiling::is_kind(kind) {
         return refused(t, Refusal::UnknownKind);
     }
-    let mut next = t;
     let p = fresh_panel(id, group, profile, tiling::with_number(kind));
-    next.panels[n] = p;
-    next.count = n + 1;
+    let mut places = panels::places_of(t);
+    places[n] = p;
+    let table = panels::table_of(places, n + 1);
     Changed {
         refusal: Refusal::Nothing,
-        table: next,
+        table,
     }
 }
 
@@ -107,21 +108,19 @@ pub fn refusal_number(r: Refusal) -> u8
 
 // The table without the panel at place k: later panels move up.
 fn closed_up(t: Table, k: usize) -> Table
-    requires { ⌜ WellFormed t × (k < t .count) ⌝ }
+    requires { ⌜ WellFormed t × (k < length (panelsOf t)) ⌝ }
     ensures { λ r. ⌜ r ≡ tableOf (without (Place.At k) (panelsOf t)) ⌝ }
 {
-    let mut next = t;
-    let last = t.count - 1;
+    let mut places = panels::places_of(t);
+    let last = panels::count_of(t) - 1;
     let mut j = k;
     while j < last {
-        let p = next.panels[j + 1];
-        next.panels[j] = p;
+        let p = places[j + 1];
+        places[j] = p;
         j += 1;
     }
-    let b = panels::blank_panel();
-    next.panels[last] = b;
-    next.count = last;
-    next
+    places[last] = panels::blank_panel();
+    panels::table_of(places, last)
 }
 
 pub fn remove(t: Table, id: MonitorId) -> Changed

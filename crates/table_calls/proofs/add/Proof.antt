@@ -1,13 +1,13 @@
 -- A refusal leaves the table as it is; otherwise a fresh panel stands behind the last. Assumes nothing.
-use mathlib.Core.Path.{_≡_, sym, ap, _∙_}
+use mathlib.Core.Path.{_≡_, sym, ap, ap₂, _∙_}
 use mathlib.Core.List.{_∷_, [], _++_}
 use mathlib.Core.Bool.{false, cond}
-use Prim.Native.Nat.{ℕ}
+use Prim.Native.Nat.{ℕ, _+_}
 use native.Mathlib.Omega.{arith}
 use borrow.Author.Needs.{needs}
 use borrow.Author.Tests.{le-leb, lt-leb, eq-eqb, ne-eqb, not-true, not-false}
 use lib.Dec.{leb, eqb}
-use lib.ListN.{length}
+use lib.ListN.{length, set, length-append}
 use Rattle.tiling.specs.Kinds.{isKind, kindWith}
 use Rattle.profiles.specs.declared.Numbered.{Numbered}
 use Rattle.profiles.specs.declared.Numbered.the-variants.{Known}
@@ -19,9 +19,9 @@ use Rattle.panels.specs.declared.Table.{Table}
 use Rattle.table_calls.specs.declared.Changed.{Changed}
 use Rattle.table_calls.specs.declared.Refusal.{Refusal}
 use Rattle.table_calls.specs.declared.Refusal.the-variants.{Nothing, UnknownKind}
-use Rattle.panels.specs.Wall.{freshPanel, panelsOf, tableOf, mostPanels}
+use Rattle.panels.specs.Wall.{Wall, freshPanel, inPlaces, panelsOf, tableOf, mostPanels}
 use Rattle.table_calls.specs.Calls.{refusalOf, freshOf, addRefusal, added, addedTo}
-use Rattle.panels.proofs.Laws.{count-is, grown}
+use Rattle.panels.proofs.Laws.{grown-places, held-first, may-hold}
 use Rattle.table_calls.proofs.add.Statement.{statement}
 use Rattle.table_calls.proofs.add.Tie as tie
 
@@ -31,19 +31,22 @@ answered : (t : Table) {u : Table} (i : MonitorId) (g : GroupId) (n k : ℕ) (r 
 unfolding added
 answered t i g n k r e after = rw (e, after)
 
+count-of-requires : tie.Need-count-of-requires
+count-of-requires c κs = search needs
+
 refused-requires : tie.Need-refused-requires
 refused-requires c κs = search needs
 
 returns : tie.Need-returns
 unfolding addRefusal
 returns c =
-    let start = c .before .before in
+    let start = c .before .before .before in
     let t = start .args .t in
-    c .refused .ensures ∙ answered t _ _ _ _ _ (simp (le-leb mostPanels (length (panelsOf t)) (omega (arith, count-is (start .pre))))) (start .pre .held)
+    c .refused .ensures ∙ answered t _ _ _ _ _ (simp (le-leb mostPanels (length (panelsOf t)) (omega arith))) (start .pre .held)
 
 -- there is room
-room : (c : tie.Else1) → leb mostPanels (length (panelsOf (c .before .args .t))) ≡ false
-room c = lt-leb mostPanels (length (panelsOf (c .before .args .t))) (omega (arith, count-is (c .before .pre)))
+room : (c : tie.Else1) → leb mostPanels (length (panelsOf (c .before .before .args .t))) ≡ false
+room c = lt-leb mostPanels (length (panelsOf (c .before .before .args .t))) (omega arith)
 
 refused-requires-2 : tie.Need-refused-requires-2
 refused-requires-2 c κs = search needs
@@ -52,7 +55,7 @@ returns-2 : tie.Need-returns-2
 unfolding addRefusal
 returns-2 c =
     let else1 = c .before .before .before in
-    c .refused2 .ensures ∙ answered (else1 .before .args .t) _ _ _ _ _ (simp (room else1, eq-eqb _ _ (c .before .if2 .taken))) (else1 .before .pre .held)
+    c .refused2 .ensures ∙ answered (else1 .before .before .args .t) _ _ _ _ _ (simp (room else1, eq-eqb _ _ (c .before .if2 .taken))) (else1 .before .before .pre .held)
 
 find-panel-requires : tie.Need-find-panel-requires
 find-panel-requires c κs = search needs
@@ -69,7 +72,7 @@ returns-3 c =
     let found = c .before .before .before in
     let else1 = found .before .before .before in
     let there = sym (found .find-panel .ensures) ∙ c .before .enum-told .given .1 in
-    c .refused3 .ensures ∙ answered (else1 .before .args .t) _ _ _ _ _ (simp (room else1, ne-eqb _ _ (found .before .if2 .left), there)) (else1 .before .pre .held)
+    c .refused3 .ensures ∙ answered (else1 .before .before .args .t) _ _ _ _ _ (simp (room else1, ne-eqb _ _ (found .before .if2 .left), there)) (else1 .before .before .pre .held)
 
 enum-told-2 : tie.Need-enum-told-2
 enum-told-2 c = search needs
@@ -85,9 +88,9 @@ returns-4 c =
     let else1 = found .before .before .before in
     let nowhere = sym (found .find-panel .ensures) ∙ told .enum-told2 .given .1 in
     c .refused4 .ensures
-    ∙ answered (else1 .before .args .t) _ _ _ _ _
+    ∙ answered (else1 .before .before .args .t) _ _ _ _ _
     (simp (room else1, ne-eqb _ _ (found .before .if2 .left), nowhere, eq-eqb _ _ (c .before .if3 .taken)))
-    (else1 .before .pre .held)
+    (else1 .before .before .pre .held)
 
 with-number-requires : tie.Need-with-number-requires
 with-number-requires c κs = search needs
@@ -110,9 +113,9 @@ returns-5 c =
     let nowhere = sym (found .find-panel .ensures) ∙ told .enum-told2 .given .1 in
     let unknown = sym (c .before .before .before .with-number .ensures) ∙ c .before .enum-told3 .given .1 in
     c .refused5 .ensures
-    ∙ answered (else1 .before .args .t) _ _ _ _ _
+    ∙ answered (else1 .before .before .args .t) _ _ _ _ _
     (simp (room else1, ne-eqb _ _ (found .before .if2 .left), nowhere, ne-eqb _ _ (c .before .before .before .before .if3 .left), unknown))
-    (else1 .before .pre .held)
+    (else1 .before .before .pre .held)
 
 is-kind-requires : tie.Need-is-kind-requires
 is-kind-requires c κs = search needs
@@ -124,11 +127,11 @@ refused-requires-6 c κs = search needs
 abbrev first : tie.After-known-told → tie.Else1
 first k = k .before .before .before .before .before .before .before .before .before .before .before
 
-known : (k : tie.After-known-told) → profileWith (first k .before .args .number) ≡ Known (k .before .numbered .given .0 .0)
+known : (k : tie.After-known-told) → profileWith (first k .before .before .args .number) ≡ Known (k .before .numbered .given .0 .0)
 known k = sym (k .before .before .before .with-number .ensures) ∙ k .before .numbered .given .1
 
 by-kind : (k : tie.After-known-told)
-    → let a = first k .before .args in addRefusal (panelsOf (a .t)) (a .id) (a .group) (a .number) (a .kind) ≡ cond (isKind (a .kind)) Nothing UnknownKind
+    → let a = first k .before .before .args in addRefusal (panelsOf (a .t)) (a .id) (a .group) (a .number) (a .kind) ≡ cond (isKind (a .kind)) Nothing UnknownKind
 unfolding addRefusal
 by-kind k =
     let told = k .before .before .before .before .before .before in
@@ -140,7 +143,7 @@ returns-6 : tie.Need-returns-6
 returns-6 c =
     let k = c .before .before .before in
     let unknown = sym (c .before .before .is-kind .ensures) ∙ not-true _ (c .before .if4 .taken) in
-    c .refused6 .ensures ∙ answered (first k .before .args .t) _ _ _ _ _ (by-kind k ∙ rw unknown) (first k .before .pre .held)
+    c .refused6 .ensures ∙ answered (first k .before .before .args .t) _ _ _ _ _ (by-kind k ∙ rw unknown) (first k .before .before .pre .held)
 
 with-number-requires-2 : tie.Need-with-number-requires-2
 with-number-requires-2 c κs = search needs
@@ -148,30 +151,54 @@ with-number-requires-2 c κs = search needs
 fresh-panel-requires : tie.Need-fresh-panel-requires
 fresh-panel-requires c κs = search needs
 
-mul-p : tie.Need-mul-p
-mul-p c = search needs
+places-of-requires : tie.Need-places-of-requires
+places-of-requires c κs = search needs
 
-element-set-from-p : tie.Need-element-set-from-p
-element-set-from-p c = search needs
+mul-places : tie.Need-mul-places
+mul-places c = search needs
 
-add-next : tie.Need-add-next
-add-next c = search needs
+array-set-from-places : tie.Need-array-set-from-places
+array-set-from-places c = search needs
+
+add-table-of : tie.Need-add-table-of
+add-table-of c = search needs
+
+-- the places hold the wall and the fresh panel
+abbrev counted : tie.After-places-of → tie.After-count-of
+counted c = first (c .before .before .before .before .before) .before
+
+grown : (c : tie.After-places-of)
+    → let n = counted c .count-of .result in
+    let w = panelsOf (counted c .before .args .t) ++ c .before .fresh-panel .result ∷ [] in
+    (set (c .places-of .result) n (c .before .fresh-panel .result) ≡ inPlaces w) × (n + 1 ≡ length w)
+grown c =
+    let n = counted c .count-of .ensures in
+    let p = c .before .fresh-panel .result in (
+      ap₂ (λ (l : Wall) (k : ℕ). set l k p) (c .places-of .ensures) n ∙ grown-places _ p (omega arith),
+      simp length-append (omega arith),
+    )
+
+table-of-requires : tie.Need-table-of-requires
+table-of-requires c κs = let e = grown c in may-hold _ _ (e .0) (e .1) (omega (arith, e .1))
 
 returns-7 : tie.Need-returns-7
 returns-7 c =
-    let k = c .before .before .before .before in
-    let a = first k .before .args in
+    let k = c .before .before .before .before .before .before in
+    let a = first k .before .before .args in
     let w = panelsOf (a .t) in
-    let kind = sym (c .before .before .before .is-kind .ensures) ∙ not-false _ (c .before .before .if4 .left) in
-    let fresh = c .fresh-panel .ensures ∙ ap (freshPanel (a .id) (a .group) (k .before .numbered .given .0 .0)) (c .before .with-number2 .ensures) in
+    let e = grown (c .before) in
+    let kind = sym (c .before .before .before .before .before .is-kind .ensures) ∙ not-false _ (c .before .before .before .before .if4 .left) in
+    let fresh = c .before .before .fresh-panel .ensures
+    ∙ ap (freshPanel (a .id) (a .group) (k .before .numbered .given .0 .0)) (c .before .before .before .with-number2 .ensures) in
     answered (a .t) _ _ _ _ _ (by-kind k ∙ rw kind)
-    (grown (first k .before .pre) (omega arith) _ ∙ ap (λ (p : Panel). tableOf (w ++ p ∷ [])) fresh
+    (c .table-of .ensures ∙ ap tableOf (held-first _ (e .0) (e .1)) ∙ ap (λ (p : Panel). tableOf (w ++ p ∷ [])) fresh
     ∙ ap (λ (n : Numbered). tableOf (w ++ freshOf n (kindWith (a .kind)) (a .id) (a .group))) (sym (known k)))
 
 pub add-spec : {M : Type 1} → statement M
 add-spec =
     tie.close
     (tie.spec
+    count-of-requires
     refused-requires
     returns
     refused-requires-2
@@ -193,7 +220,9 @@ add-spec =
     returns-6
     with-number-requires-2
     fresh-panel-requires
-    mul-p
-    element-set-from-p
-    add-next
+    places-of-requires
+    mul-places
+    array-set-from-places
+    add-table-of
+    table-of-requires
     returns-7)

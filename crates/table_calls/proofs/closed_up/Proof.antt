@@ -1,6 +1,6 @@
 -- The invariant: the first j places are those of the wall without its panel k, the others are as they were.
 -- Assumes nothing.
-use mathlib.Core.Path.{_≡_, sym, ap, ap₂, _∙_}
+use mathlib.Core.Path.{_≡_, refl, sym, ap, ap₂, _∙_}
 use mathlib.Core.List.{_++_}
 use Prim.Native.Nat.{ℕ, suc, _-_, _≤_, _<_}
 use native.Mathlib.Numerals.{add-one}
@@ -10,10 +10,10 @@ use lib.ListN.{length, getD, take, drop, set, length-append, length-take, length
 use lib.Seq.{take-at, take-take, take-all, drop-at, drop-cons, getD-take, set-at}
 use Rattle.panels.specs.declared.Panel.{Panel}
 use Rattle.panels.specs.declared.Place.the-variants.{At}
-use Rattle.panels.specs.Wall.{Wall, inPlaces, panelsOf, blank, mostPanels}
+use Rattle.panels.specs.Wall.{Wall, inPlaces, tableOf, panelsOf, blank, mostPanels}
 use Rattle.table_calls.specs.Calls.{without}
 use Rattle.lists.proofs.Places.{store, from-seam, moved-up}
-use Rattle.panels.proofs.Laws.{count-is, count-few, places-are, places-count, table-is}
+use Rattle.panels.proofs.Laws.{places-many, held-first, may-hold}
 use Rattle.table_calls.proofs.closed_up.Statement.{statement}
 use Rattle.table_calls.proofs.closed_up.Tie as tie
 
@@ -41,8 +41,8 @@ turns orig n k j d h r m =
 
 -- the last place becomes blank
 ends : (w : Wall) (k m : ℕ) → k < length w → length w ≡ suc m → length w ≤ mostPanels
-    → set (take m (without (At k) w) ++ drop m (w ++ replicate (mostPanels - length w) blank)) m blank
-    ≡ without (At k) w ++ replicate (mostPanels - length (without (At k) w)) blank
+    → set (take m (without (At k) w) ++ drop m (inPlaces w)) m blank ≡ inPlaces (without (At k) w)
+unfolding inPlaces
 ends w k m h e few =
     let w′ = without (At k) w in
     let pad = replicate (mostPanels - length w) blank in
@@ -53,36 +53,47 @@ ends w k m h e few =
     rw (take-all m w′ (omega arith), drop-cons (w ++ pad) m blank some, gone, fill) (set-at w′ _ pad blank m short)
 
 abbrev Inv-loop : tie.InvT-loop
-Inv-loop k next₀ last j₀ next j = (k ≤ j) × (j ≤ last) × (next .panels ≡ take j (without (At k) (panelsOf next₀)) ++ drop j (next₀ .panels))
+Inv-loop k places₀ last j₀ places j = (k ≤ j) × (j ≤ last) × (places ≡ take j (without (At k) (take (suc last) places₀)) ++ drop j places₀)
 
 abbrev μ-loop : tie.MeasureT-loop
-μ-loop k next₀ last j₀ next j = last - j
+μ-loop k places₀ last j₀ places j = last - j
+
+places-of-requires : tie.Need-places-of-requires Inv-loop μ-loop
+places-of-requires c κs = search needs
+
+count-of-requires : tie.Need-count-of-requires Inv-loop μ-loop
+count-of-requires c κs = search needs
 
 sub-last : tie.Need-sub-last Inv-loop μ-loop
-sub-last c = search needs
+sub-last c = omega arith
+
+-- the table's places
+wide : (c : tie.After-count-of Inv-loop μ-loop) → length (c .before .places-of .result) ≡ mostPanels
+wide c = let f = c .before .before .pre .0 in ap length (c .before .places-of .ensures) ∙ places-many _ (f .few)
 
 loop-holds : tie.Need-loop-holds Inv-loop μ-loop
 loop-holds c =
-    let f = c .before .pre .0 in
-    (omega arith, omega (arith, c .before .pre .1), begins _ _ _ (c .before .pre .1) (omega (arith, count-few f, places-count f)))
+    let l = c .before .places-of .result in
+    let many = wide c in
+    (omega arith, omega arith, begins l (suc (c .count-of .result - 1)) (c .before .before .args .k) (omega arith) (omega arith))
 
 add-p : tie.Need-add-p Inv-loop μ-loop
-add-p c = omega (arith, count-few (c .before .before .before .pre .0))
+add-p c = omega arith
 
 mul-p : tie.Need-mul-p Inv-loop μ-loop
-mul-p c = omega (arith, count-few (c .before .before .before .pre .0))
+mul-p c = omega arith
 
-element-copy-out-p : tie.Need-element-copy-out-p Inv-loop μ-loop
-element-copy-out-p c = omega (arith, count-few (c .before .before .before .pre .0))
+array-copy-out-p : tie.Need-array-copy-out-p Inv-loop μ-loop
+array-copy-out-p c = omega arith
 
-mul-p-2 : tie.Need-mul-p-2 Inv-loop μ-loop
-mul-p-2 c = omega (arith, count-few (c .before .before .before .before .pre .0))
+mul-places : tie.Need-mul-places Inv-loop μ-loop
+mul-places c = omega arith
 
-element-set-from-p : tie.Need-element-set-from-p Inv-loop μ-loop
-element-set-from-p c = omega (arith, count-few (c .before .before .before .before .pre .0))
+array-set-from-places : tie.Need-array-set-from-places Inv-loop μ-loop
+array-set-from-places c = omega arith
 
 add-j : tie.Need-add-j Inv-loop μ-loop
-add-j c = omega (arith, count-few (c .before .before .before .before .pre .0))
+add-j c = omega arith
 
 loop-less : tie.Need-loop-less Inv-loop μ-loop
 loop-less c = search needs
@@ -90,36 +101,48 @@ loop-less c = search needs
 loop-again : tie.Need-loop-again Inv-loop μ-loop
 loop-again c =
     let loop = c .before .before in
-    let start = loop .before .before in
-    let f = start .pre .0 in
-    let e = turns (start .args .t .panels) (start .args .t .count) (start .args .k) (loop .loop .j) _ (loop .loop .inv .0) (omega arith) (omega (arith, count-few f, places-count f)) in
+    let many = wide (loop .before) in
+    let e = turns (loop .before .before .places-of .result) (suc (loop .before .count-of .result - 1)) _ (loop .loop .j) _ (loop .loop .inv .0) (omega arith) (omega arith) in
     (omega arith, omega arith, rw (loop .loop .inv .2, add-one) e)
 
 blank-panel-requires : tie.Need-blank-panel-requires Inv-loop μ-loop
 blank-panel-requires c κs = search needs
 
-mul-b : tie.Need-mul-b Inv-loop μ-loop
-mul-b c = omega (arith, count-few (c .before .before .before .before .pre .0))
+mul-places-2 : tie.Need-mul-places-2 Inv-loop μ-loop
+mul-places-2 c = omega arith
 
-element-set-from-b : tie.Need-element-set-from-b Inv-loop μ-loop
-element-set-from-b c = omega (arith, count-few (c .before .before .before .before .pre .0))
+array-set-from-places-2 : tie.Need-array-set-from-places-2 Inv-loop μ-loop
+array-set-from-places-2 c = omega arith
 
-returns : tie.Need-returns Inv-loop μ-loop
-unfolding inPlaces
-returns c =
+-- behind the loop the places hold the wall without its panel k
+moved : (c : tie.After-blank-panel Inv-loop μ-loop)
+    → let loop = c .before .before in
+    let m = loop .before .count-of .result - 1 in
+    let start = loop .before .before .before in
+    let w = without (At (start .args .k)) (panelsOf (start .args .t)) in
+    (set (loop .loop .places) m (c .blank-panel .result) ≡ inPlaces w) × (m ≡ length w)
+moved c =
     let loop = c .before .before in
-    let start = loop .before .before in
+    let m = loop .before .count-of .result - 1 in
+    let start = loop .before .before .before in
+    let k = start .args .k in
     let f = start .pre .0 in
     let w = panelsOf (start .args .t) in
-    let k = start .args .k in
-    let m = start .args .t .count - 1 in
     let all : loop .loop .j ≡ m = omega arith in
-    let here : k < length w = omega (arith, count-is f, start .pre .1) in
-    table-is _ (without (At k) w)
-    (ap₂ (λ (l : Wall) (p : Panel). set l m p) (rw all at (loop .loop .inv .2)) (c .blank-panel .ensures)
-    ∙ ap (λ (l : Wall). set (take m (without (At k) w) ++ drop m l) m blank) (places-are f)
-    ∙ ends w k m here (omega (arith, count-is f)) (f .few))
-    (omega (arith, length-without w k here, count-is f))
+    let n : suc m ≡ length w = omega (arith, start .pre .1) in
+    let whole = ap (take (suc m)) (loop .before .before .places-of .ensures) ∙ held-first (suc m) refl n in
+    let here : k < length w = start .pre .1 in (
+      ap₂ (λ (l : Wall) (p : Panel). set l m p) (rw all at (loop .loop .inv .2)) (c .blank-panel .ensures)
+          ∙ ap₂ (λ (v l : Wall). set (take m (without (At k) v) ++ drop m l) m blank) whole (loop .before .before .places-of .ensures)
+          ∙ ends w k m here (sym n) (f .few),
+      omega (arith, length-without w k here),
+    )
+
+table-of-requires : tie.Need-table-of-requires Inv-loop μ-loop
+table-of-requires c κs = let e = moved c in may-hold _ _ (e .0) (e .1) (omega (arith, e .1))
+
+returns : tie.Need-returns Inv-loop μ-loop
+returns c = let e = moved (c .before) in c .table-of .ensures ∙ ap tableOf (held-first _ (e .0) (e .1))
 
 pub closed-up-spec : {M : Type 1} → statement M
 closed-up-spec =
@@ -127,17 +150,20 @@ closed-up-spec =
     (tie.spec
     Inv-loop
     μ-loop
+    places-of-requires
+    count-of-requires
     sub-last
     loop-holds
     add-p
     mul-p
-    element-copy-out-p
-    mul-p-2
-    element-set-from-p
+    array-copy-out-p
+    mul-places
+    array-set-from-places
     add-j
     loop-less
     loop-again
     blank-panel-requires
-    mul-b
-    element-set-from-b
+    mul-places-2
+    array-set-from-places-2
+    table-of-requires
     returns)

@@ -1,11 +1,10 @@
 -- The panel with the ID is found, and the table is closed up over its place. Assumes nothing.
 use mathlib.Core.Path.{_≡_, sym, _∙_}
-use native.Mathlib.Omega.{arith}
 use borrow.Author.Needs.{needs}
 use Rattle.panels.specs.declared.Place.the-variants.{At}
 use Rattle.panels.specs.Wall.{panelsOf, placeOf}
 use Rattle.table_calls.specs.Calls.{removed}
-use Rattle.panels.proofs.Laws.{count-is, place-there}
+use Rattle.panels.proofs.Laws.{place-there}
 use Rattle.table_calls.proofs.remove.Statement.{statement}
 use Rattle.table_calls.proofs.remove.Tie as tie
 
@@ -34,9 +33,7 @@ at : (c : tie.After-known-told)
 at c = sym (c .before .before .before .find-panel .ensures) ∙ c .before .place .given .1
 
 closed-up-requires : tie.Need-closed-up-requires
-closed-up-requires c κs =
-    let f = c .before .before .before .before .pre in
-    (f, omega (arith, count-is f, place-there _ _ _ (at c)))
+closed-up-requires c κs = (c .before .before .before .before .pre, place-there _ _ _ (at c) .0)
 
 returns-2 : tie.Need-returns-2
 unfolding removed
