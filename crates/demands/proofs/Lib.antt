@@ -8,9 +8,7 @@ pub mod Profiles
 pub mod ToOne
 pub mod Tiling
 pub mod Forms
-pub mod Unseen
-pub mod Walked
-pub mod KeptWalk
+pub mod RowsTold
 pub mod Salvage
 pub mod SameFaults
 pub mod LinesTell

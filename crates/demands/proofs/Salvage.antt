@@ -29,9 +29,10 @@ use Rattle.image_salvage.specs.Salvaged.{Salvage, salvagedFrom, salvageOf}
 use Rattle.image_salvage.proofs.Sound.{record-dropped, record-kept, salvage-formed}
 use Rattle.image_salvage.proofs.Told.{lines-few, text-short}
 use Rattle.demands.specs.Salvage.{KeptReads, LinesFew, TellsRow, Tells, Told, none, dropped, panel, AllTold}
-use Rattle.demands.proofs.Unseen.{unseen}
-use Rattle.demands.proofs.Walked.{RowTold, walked-fields, walked-row}
-use Rattle.demands.proofs.KeptWalk.{KeptWalk, kept-walk, none-dropped}
+use Rattle.image_salvage.proofs.Unseen.{unseen}
+use Rattle.image_salvage.proofs.Walked.{walked-fields}
+use Rattle.image_salvage.proofs.KeptWalk.{KeptWalk, kept-walk, none-dropped}
+use Rattle.demands.proofs.RowsTold.{RowTold, walked-row}
 
 pub kept-reads : KeptReads
 kept-reads image =

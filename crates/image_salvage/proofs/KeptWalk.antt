@@ -21,10 +21,10 @@ use Rattle.image_record.proofs.Steps.{stands}
 use Rattle.image_record.proofs.Gathering.{Gathering, taken-on, passed-on, there}
 use Rattle.image_record.proofs.Runs.{run-stopped, run-gathers}
 use Rattle.image_read.specs.Entries.{Entry}
 use Rattle.image_salvage.specs.Kept.{Kept, keptFrom}
 use Rattle.image_salvage.proofs.Walk.{kept-step, kept-passed, behind-run}
-use Rattle.demands.proofs.Unseen.{unseen, one-less}
-use Rattle.demands.proofs.Walked.{Walked, stay, took, told, walked-on, entryAt}
+use Rattle.image_salvage.proofs.Unseen.{unseen, one-less}
+use Rattle.image_salvage.proofs.Walked.{Walked, stay, took, told, walked-on, entryAt}
 
 module _ (form : Form) (profile : Profile) where
   -- a run takes fields and tells nothing
