@@ -10,6 +10,7 @@ use Rattle.packet.specs.declared.Control.{Control}
 use Rattle.packet.specs.Packet.{monitorId, groupId, packetOf, longest}
 use Rattle.lists.specs.Lists.{laidOver}
 use Rattle.packet.specs.Control.{controlData}
+use Rattle.refusals.specs.Refusals.{noRoom}
 use Rattle.answers.specs.declared.Answer.{Answer}
 use Rattle.answers.specs.declared.Answer.the-variants.{Silence, Word, Report}
 use Rattle.answers.specs.declared.Reply.{Reply}
@@ -40,9 +41,14 @@ sentBy Report i d = packetOf i (groupId 0) d
 unfoldable pub sentBytes : Reply → List ℕ
 sentBytes r = sentBy (r .answer) (r .id) (take (r .count) (r .bytes))
 
--- 19 for an output without room for any packet
+-- an answer needs room for any packet
 unfoldable pub sentOf : List ℕ → Reply → Sent
 sentOf out r = cond (leb longest (length out)) (Bytes (length (sentBytes r))) NoRoom
+
+-- its number, 0 where it is written
+abbrev pub refusalNumber : Sent → ℕ
+refusalNumber (Sent.Bytes n) = 0
+refusalNumber Sent.NoRoom = noRoom
 
 -- how many bytes went out, none on a refusal
 abbrev pub bytesSent : Sent → ℕ

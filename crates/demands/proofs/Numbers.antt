@@ -3,6 +3,7 @@ use Prim.Native.Nat.{ℕ, _+_, _*_}
 use mathlib.Core.Path.{_≡_, refl, ap, _∙_}
 use mathlib.Core.Bool.{Bool, true, false, cond, _&&_, _||_}
 use mathlib.Core.List.{List, [], _∷_, flatten}
+use mathlib.Core.Option.{none, some}
 use lib.Dec.{leb, eqb}
 use lib.ListN.{length}
 use Rattle.settings.specs.declared.Profile.the-variants.{General, Phoenix}
@@ -11,21 +12,21 @@ use Rattle.settings.specs.Settings.{settings, freshValues, allowedByRow}
 use Rattle.profiles.specs.declared.Numbered.the-variants.{Known, Unknown}
 use Rattle.profiles.specs.Numbers.{profileWith, ifKnown}
 use Rattle.packet.specs.declared.Written.the-variants.{Bytes as PacketBytes, TooLong, NoRoom as NoPacket}
-use Rattle.packet.specs.Packet.{writtenOf as packetWritten}
+use Rattle.packet.specs.Packet.{writtenOf as packetWritten, refusalNumber as packetNumber}
 use Rattle.panels.specs.declared.Place.{Place}
 use Rattle.panels.specs.declared.Place.the-variants.{At, Nowhere}
 use Rattle.table_calls.specs.declared.Refusal.the-variants.{Nothing, Full, IdZero, IdTaken, GroupZero, UnknownProfile, NoPanel, UnknownKind}
 use Rattle.panels.specs.Wall.{Wall, placeOf, ifThere}
 use Rattle.table_calls.specs.Calls.{refusalOf as tableNumber, addRefusal}
 use Rattle.answers.specs.declared.Sent.the-variants.{Bytes as AnswerBytes, NoRoom as NoAnswer}
-use Rattle.answers.specs.Reply.{sentBytes, sentOf}
+use Rattle.answers.specs.Reply.{sentBytes, sentOf, refusalNumber as answerNumber}
 use Rattle.image_write.specs.declared.Written.the-variants.{Bytes as ImageBytes, WouldLose, NoRoom as NoImage}
 use Rattle.forms.specs.declared.Form.{Form}
 use Rattle.forms.specs.declared.Form.the-variants.{One, Two}
 use Rattle.forms.specs.Forms.{keeps}
-use Rattle.image_write.specs.Written.{recordSize, sizeOf, losesNothing, writtenOf as imageWritten}
+use Rattle.image_write.specs.Written.{recordSize, sizeOf, losesNothing, writtenOf as imageWritten, refusalNumber as imageNumber}
 use Rattle.image_write.proofs.Losing.{two-holds}
-use Rattle.demands.specs.Numbers.{Add, Remove, imageNumber, answerNumber, packetNumber, isPlain, allPlain, ImageOne, ImageTwo, Answer, Packet}
+use Rattle.demands.specs.Numbers.{Add, Remove, isPlain, allPlain, ImageOne, ImageTwo, Answer, Packet}
 
 pub add-number : Add
 unfolding addRefusal profileWith isKind
@@ -66,7 +67,7 @@ plain-kept (p ∷ w) = ap (λ (t : Bool). isPlain p && t) (plain-kept w)
 
 image-number : (form : Form) (w : Wall) (out : List ℕ)
     → imageNumber (imageWritten form w out) ≡ cond (losesNothing form w) (cond (leb (sizeOf form w) (length out)) 0 19) 31
-unfolding imageWritten imageNumber
+unfolding imageWritten
 image-number form w out = go (losesNothing form w) (leb (sizeOf form w) (length out))
   where
     go : (a b : Bool) → imageNumber (cond a (cond b (ImageBytes (sizeOf form w)) NoImage) WouldLose) ≡ cond a (cond b 0 19) 31
@@ -83,7 +84,7 @@ unfolding recordSize
 image-two w out = image-number Two w out ∙ ap (λ (t : Bool). cond t (cond (leb (45 * length w + 2) (length out)) 0 19) 31) (two-holds w)
 
 pub answer-number : Answer
-unfolding sentOf answerNumber
+unfolding sentOf
 answer-number out r = go (leb 40 (length out))
   where
     go : (t : Bool) → answerNumber (cond t (AnswerBytes (length (sentBytes r))) NoAnswer) ≡ cond t 0 19
@@ -91,10 +92,10 @@ answer-number out r = go (leb 40 (length out))
     go false = refl
 
 pub packet-number : Packet
-unfolding packetWritten packetNumber
+unfolding packetWritten
 packet-number out d = go (leb 40 (length out)) (leb (length d) 36)
   where
-    go : (a b : Bool) → packetNumber (cond a (cond b (PacketBytes (length d + 4)) TooLong) NoPacket) ≡ cond (a && b) 0 19
+    go : (a b : Bool) → packetNumber (cond a (cond b (PacketBytes (length d + 4)) TooLong) NoPacket) ≡ cond a (cond b (some 0) none) (some 19)
     go true true = refl
     go true false = refl
     go false b = refl

@@ -4,26 +4,21 @@ use Prim.Native.Nat.{ℕ, _+_, _*_}
 use mathlib.Core.Bool.{Bool, true, cond, _&&_, _||_}
 use mathlib.Core.Path.{_≡_}
 use mathlib.Core.List.{List, [], _∷_}
+use mathlib.Core.Option.{none, some}
 use lib.Dec.{leb, eqb}
 use lib.ListN.{length, take, drop}
 use Rattle.lists.specs.Lists.{same}
 use Rattle.profiles.specs.Numbers.{profileNumber}
 use Rattle.packet.specs.declared.MonitorId.{MonitorId}
 use Rattle.packet.specs.declared.GroupId.{GroupId}
-use Rattle.packet.specs.declared.Written.{Written as PacketWritten}
-use Rattle.packet.specs.declared.Written.the-variants.{Bytes as PacketBytes, TooLong, NoRoom as NoPacketRoom}
-use Rattle.packet.specs.Packet.{writtenOf as packetWritten}
+use Rattle.packet.specs.Packet.{writtenOf as packetWritten, refusalNumber as packetNumber}
 use Rattle.panels.specs.declared.Panel.{Panel}
 use Rattle.panels.specs.Wall.{Wall, placeOf, ifThere}
 use Rattle.table_calls.specs.Calls.{refusalOf as tableNumber, addRefusal, removedFrom}
 use Rattle.answers.specs.declared.Reply.{Reply}
-use Rattle.answers.specs.declared.Sent.{Sent}
-use Rattle.answers.specs.declared.Sent.the-variants.{Bytes as AnswerBytes, NoRoom as NoAnswerRoom}
-use Rattle.answers.specs.Reply.{sentOf}
+use Rattle.answers.specs.Reply.{sentOf, refusalNumber as answerNumber}
 use Rattle.forms.specs.declared.Form.the-variants.{One, Two}
-use Rattle.image_write.specs.declared.Written.{Written as ImageWritten}
-use Rattle.image_write.specs.declared.Written.the-variants.{Bytes as ImageBytes, WouldLose, NoRoom as NoImageRoom}
-use Rattle.image_write.specs.Written.{writtenOf as imageWritten}
+use Rattle.image_write.specs.Written.{writtenOf as imageWritten, refusalNumber as imageNumber}
 
 -- 32 panels are there, ID 0, ID in the table, group 0, a profile that is neither 0 nor 1, a kind that is neither
 abbrev pub Add : Type 0
@@ -38,24 +33,9 @@ Add =
 abbrev pub Remove : Type 0
 Remove = (w : Wall) (i : MonitorId) → tableNumber (removedFrom w i .refusal) ≡ ifThere (placeOf i w) 0 6
 
--- the number of what writing answers: an image, an answer, a packet
-unfoldable pub imageNumber : ImageWritten → ℕ
-imageNumber (ImageBytes n) = 0
-imageNumber WouldLose = 31
-imageNumber NoImageRoom = 19
-
-unfoldable pub answerNumber : Sent → ℕ
-answerNumber (AnswerBytes n) = 0
-answerNumber NoAnswerRoom = 19
-
-unfoldable pub packetNumber : PacketWritten → ℕ
-packetNumber (PacketBytes n) = 0
-packetNumber TooLong = 19
-packetNumber NoPacketRoom = 19
-
 -- form 1: 31 where a panel is not general, its kind, the first of its values, not 0, or its tiling, the third to the sixth, not
 -- fresh; then, in either form, 19, lent output too short: image under 35n + 2 bytes in form 1 and 45n + 2 in form 2, answer or
--- packet under 40; data that fits no packet is refused so too
+-- packet under 40; data that fits no packet has no number
 abbrev pub isPlain : Panel → Bool
 isPlain p =
     eqb (profileNumber (p .profile)) 0
@@ -76,4 +56,4 @@ abbrev pub Answer : Type 0
 Answer = (out : List ℕ) (r : Reply) → answerNumber (sentOf out r) ≡ cond (leb 40 (length out)) 0 19
 
 abbrev pub Packet : Type 0
-Packet = (out d : List ℕ) → packetNumber (packetWritten out d) ≡ cond (leb 40 (length out) && leb (length d) 36) 0 19
+Packet = (out d : List ℕ) → packetNumber (packetWritten out d) ≡ cond (leb 40 (length out)) (cond (leb (length d) 36) (some 0) none) (some 19)

@@ -8,6 +8,7 @@ use lib.Dec.{leb}
 use Rattle.settings.specs.Settings.{mostValues}
 use Rattle.packet.specs.Packet.{longest}
 use Rattle.lists.specs.Lists.{laidOver}
+use Rattle.refusals.specs.Refusals.{noRoom}
 use Rattle.host.specs.declared.Host.{Host}
 use Rattle.host.specs.declared.Step.{Step}
 use Rattle.host.specs.declared.Refusal.{Refusal}
@@ -18,7 +19,7 @@ use Rattle.host.specs.Machine.{Happening, State, Move, quiet, step}
 
 -- 01's numbers
 abbrev pub refusalOf : Refusal → ℕ
-refusalOf NoRoom = 19
+refusalOf NoRoom = noRoom
 refusalOf Busy = 21
 refusalOf NotARequest = 22
 

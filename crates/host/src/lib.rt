@@ -11,6 +11,7 @@ use packet::Damage;
 use packet::GroupId;
 use packet::LONGEST;
 use packet::MonitorId;
+use refusals::NO_ROOM;
 use requests::Request;
 use settings::MOST_VALUES;
 use settings::Profile;
@@ -62,7 +63,7 @@ pub fn refusal_number(refusal: Refusal) -> u8
     ensures { λ r. ⌜ r ≡ refusalOf refusal ⌝ }
 {
     match refusal {
-        Refusal::NoRoom => 19,
+        Refusal::NoRoom => NO_ROOM,
         Refusal::Busy => 21,
         Refusal::NotARequest => 22,
     }

@@ -48,6 +48,11 @@ fn print_hex(bytes: &[u8]) {
     io::write_all(1, text::front(&digits, count));
 }
 
+fn print_refusal(number: u8) {
+    io::write_all(1, b"refused ");
+    io::print_decimal(1, number as u64);
+}
+
 // The table's image in a form, in upper-case hex, or the refusal.
 fn print_image(form: Form, t: Table)
     requires { ⌜ WellFormed t ⌝ }
@@ -56,12 +61,7 @@ fn print_image(form: Form, t: Table)
     let written = image_write::write_image(form, t, &mut out);
     match written {
         Written::Bytes(n) => print_hex(text::front(&out, n)),
-        Written::WouldLose => {
-            io::write_all(1, b"refused 31");
-        }
-        Written::NoRoom => {
-            io::write_all(1, b"refused 19");
-        }
+        _ => print_refusal(image_write::refusal_number(written)),
     }
 }
 
@@ -74,8 +74,7 @@ fn print_reading(bytes: &[u8]) {
     let refusal = read.refusal;
     let number = refusals::refusal_number(refusal);
     if number != 0 {
-        io::write_all(1, b"refused ");
-        io::print_decimal(1, number as u64);
+        print_refusal(number);
         return;
     }
     let table = read.table;

@@ -11,6 +11,7 @@ use Rattle.forms.specs.Forms.{formByte, headSize, headOf, hasField, keeps}
 use Rattle.lists.specs.Lists.{startOf, each, laidOver}
 use Rattle.panels.specs.declared.Panel.{Panel}
 use Rattle.panels.specs.Wall.{Wall}
+use Rattle.refusals.specs.Refusals.{noRoom, wouldLose}
 use Rattle.image_write.specs.declared.Written.{Written}
 use Rattle.image_write.specs.declared.Written.the-variants.{Bytes, WouldLose, NoRoom}
 
@@ -86,6 +87,12 @@ losesNothing form (p ∷ w) = keeps form (p .profile) (p .values) && losesNothin
 unfoldable pub writtenOf : Form → Wall → List ℕ → Written
 writtenOf form w out =
     cond (losesNothing form w) (cond (leb (sizeOf form w) (length out)) (Bytes (sizeOf form w)) NoRoom) WouldLose
+
+-- its number, 0 where the image is written
+abbrev pub refusalNumber : Written → ℕ
+refusalNumber (Written.Bytes n) = 0
+refusalNumber Written.WouldLose = wouldLose
+refusalNumber Written.NoRoom = noRoom
 
 -- how many bytes were written, none on a refusal
 abbrev pub bytesWritten : Written → ℕ

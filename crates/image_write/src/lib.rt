@@ -4,10 +4,12 @@ mod write;
 ghost use mathlib.Core.Path.{_≡_};
 ghost use Rattle.panels.specs.Wall.{panelsOf};
 ghost use Rattle.panels.specs.WellFormed.{WellFormed};
-ghost use Rattle.image_write.specs.Written.{fieldsSize, recordSize, sizeOf, losesNothing, writtenOf, outputOf};
+ghost use Rattle.image_write.specs.Written.{fieldsSize, recordSize, sizeOf, losesNothing, writtenOf, refusalNumber, outputOf};
 use forms::Form;
 use panels::MOST_PANELS;
 use panels::Table;
+use refusals::NO_ROOM;
+use refusals::WOULD_LOSE;
 use settings::ROW_COUNT;
 use settings::VALUE_COUNT;
 
@@ -34,6 +36,17 @@ pub enum Written {
     Bytes(usize),
     WouldLose,
     NoRoom,
+}
+
+// 01's number for what writing answers, 0 where the image is written.
+pub fn refusal_number(written: Written) -> u8
+    ensures { λ r. ⌜ r ≡ refusalNumber written ⌝ }
+{
+    match written {
+        Written::Bytes(_) => 0,
+        Written::WouldLose => WOULD_LOSE,
+        Written::NoRoom => NO_ROOM,
+    }
 }
 
 // The bytes of all fields of a record.

@@ -2,9 +2,11 @@
 use Prim.Native.Nat.{ℕ, _+_, _-_}
 use mathlib.Core.Bool.{Bool, not, cond, _&&_}
 use mathlib.Core.List.{List, [], _∷_, _++_}
+use mathlib.Core.Option.{Option, none, some}
 use lib.ListN.{length, getD, take, drop}
 use lib.Dec.{leb, ltb, eqb}
 use Rattle.lists.specs.Lists.{laidOver}
+use Rattle.refusals.specs.Refusals.{noRoom}
 use Rattle.packet.specs.Xor.{xorAll}
 use Rattle.packet.specs.declared.MonitorId.{MonitorId}
 use Rattle.packet.specs.declared.GroupId.{GroupId}
@@ -79,6 +81,12 @@ packetOf id group d = let bytes = (length d + shortest) ∷ id .0 ∷ group .0 �
 -- what writing answers: the output has room for any packet, and a packet for the data
 unfoldable pub writtenOf : List ℕ → List ℕ → Written
 writtenOf out d = cond (leb longest (length out)) (cond (leb (length d) mostData) (Bytes (length d + shortest)) DataTooLong) NoRoom
+
+-- its number, 0 where the packet is written; data that fits no packet has none
+abbrev pub refusalNumber : Written → Option ℕ
+refusalNumber (Written.Bytes n) = some 0
+refusalNumber Written.TooLong = none
+refusalNumber Written.NoRoom = some noRoom
 
 -- the output after a packet was written, or not
 unfoldable pub outputOf : List ℕ → MonitorId → GroupId → List ℕ → List ℕ

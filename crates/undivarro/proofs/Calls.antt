@@ -23,7 +23,7 @@ use Rattle.forms.specs.declared.Form.{Form}
 use Rattle.refusals.specs.declared.Refusal.{Refusal}
 use Rattle.image_read.specs.declared.Read.{Read}
 use Rattle.image_write.specs.Written.{setupOf, sizeOf, losesNothing, panelSize}
-use Rattle.refusals.specs.Refusals.{isSound, refusalNumber}
+use Rattle.refusals.specs.Refusals.{isSound, refusalNumber, noRoom, wouldLose}
 use Rattle.image_read.specs.Read.{readOf, inTable}
 use Rattle.image_read.proofs.Sound.{read-formed}
 use Rattle.undivarro.specs.Calls.{refused, given, refusalFor, afterBurst}
@@ -33,7 +33,7 @@ pub all-there : (read : Refusal) (held room : Bool) → refusalFor read held roo
 unfolding refusalFor
 all-there read held room e = go (isSound read) refl held room e
   where
-    go : (t : Bool) → isSound read ≡ t → (a b : Bool) → cond t (cond a (cond b 0 19) 31) (refusalNumber read) ≡ 0 → (a ≡ true) × (b ≡ true)
+    go : (t : Bool) → isSound read ≡ t → (a b : Bool) → cond t (cond a (cond b 0 noRoom) wouldLose) (refusalNumber read) ≡ 0 → (a ≡ true) × (b ≡ true)
     go true s true true e = (refl, refl)
     go true s true false e = absurd (omega arith)
     go true s false b e = absurd (omega arith)

@@ -15,7 +15,7 @@ use Rattle.refusals.specs.declared.Refusal.{Refusal}
 use Rattle.forms.specs.declared.Form.{Form}
 use Rattle.forms.specs.declared.Form.the-variants.{One, Two}
 use Rattle.image_write.specs.Written.{setupOf, sizeOf, losesNothing}
-use Rattle.refusals.specs.Refusals.{isSound, refusalNumber}
+use Rattle.refusals.specs.Refusals.{isSound, refusalNumber, noRoom, wouldLose}
 use Rattle.image_read.specs.Read.{readOf}
 use Rattle.image_whole.specs.Whole.{wholeRefusal}
 use Rattle.image_salvage.specs.Salvaged.{salvageOf, textOf, linesCap}
@@ -43,7 +43,7 @@ given sent setup damage answer out = record {
 
 -- reading faults are 11 to 18; then 31 where the form would lose something; then 19 where there is no room
 unfoldable pub refusalFor : Refusal → Bool → Bool → ℕ
-refusalFor read held room = cond (isSound read) (cond held (cond room 0 19) 31) (refusalNumber read)
+refusalFor read held room = cond (isSound read) (cond held (cond room 0 noRoom) wouldLose) (refusalNumber read)
 
 -- A burst played, and the setup then written in a form. There is room where the answer buffer has it for any packet, and the
 -- output for the image.

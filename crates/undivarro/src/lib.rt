@@ -19,7 +19,9 @@ use image_salvage::LINES_CAP;
 use image_write::Written;
 use packet::LONGEST;
 use panels::Table;
+use refusals::NO_ROOM;
 use refusals::Refusal;
+use refusals::WOULD_LOSE;
 
 // What comes back: 0 or the refusal's number, how many bytes the answer and the image written have, and the number of what was
 // wrong with the burst.
@@ -51,9 +53,9 @@ fn refusal_for(read: Refusal, held: bool, room: bool) -> u32
         return number as u32;
     }
     if !held {
-        return 31;
+        return WOULD_LOSE as u32;
     }
-    if room { 0 } else { 19 }
+    if room { 0 } else { NO_ROOM as u32 }
 }
 
 // A refusal: both lengths are 0, and no damage is told.

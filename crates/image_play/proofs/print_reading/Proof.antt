@@ -25,17 +25,8 @@ read-image-requires c κs = search needs
 refusal-number-requires : tie.Need-refusal-number-requires
 refusal-number-requires c κs = search needs
 
-slice-aggregate-write-all-2 : tie.Need-slice-aggregate-write-all-2
-slice-aggregate-write-all-2 c = search needs
-
-write-all-requires-2 : tie.Need-write-all-requires-2
-write-all-requires-2 c κs = search needs
-
-cast-print-decimal : tie.Need-cast-print-decimal
-cast-print-decimal c = search needs
-
-print-decimal-requires : tie.Need-print-decimal-requires
-print-decimal-requires c κs = search needs
+print-refusal-requires : tie.Need-print-refusal-requires
+print-refusal-requires c κs = search needs
 
 returns-2 : tie.Need-returns-2
 returns-2 c = search needs
@@ -43,11 +34,11 @@ returns-2 c = search needs
 print-image-requires : tie.Need-print-image-requires
 print-image-requires c κs = formed (c .before .before .before)
 
-slice-aggregate-write-all-3 : tie.Need-slice-aggregate-write-all-3
-slice-aggregate-write-all-3 c = search needs
+slice-aggregate-write-all-2 : tie.Need-slice-aggregate-write-all-2
+slice-aggregate-write-all-2 c = search needs
 
-write-all-requires-3 : tie.Need-write-all-requires-3
-write-all-requires-3 c κs = search needs
+write-all-requires-2 : tie.Need-write-all-requires-2
+write-all-requires-2 c κs = search needs
 
 print-image-requires-2 : tie.Need-print-image-requires-2
 print-image-requires-2 c κs = formed (c .before .before .before .before .before .before)
@@ -64,13 +55,10 @@ print-reading-spec =
     returns
     read-image-requires
     refusal-number-requires
-    slice-aggregate-write-all-2
-    write-all-requires-2
-    cast-print-decimal
-    print-decimal-requires
+    print-refusal-requires
     returns-2
     print-image-requires
-    slice-aggregate-write-all-3
-    write-all-requires-3
+    slice-aggregate-write-all-2
+    write-all-requires-2
     print-image-requires-2
     returns-3)

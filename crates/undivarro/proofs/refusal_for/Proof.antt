@@ -26,12 +26,18 @@ returns c =
 sound : (c : tie.Else1) → isSound (c .before .before .args .read) ≡ true
 sound c = eq-eqb _ 0 (sym (c .before .refusal-number .ensures) ∙ c .if1 .left)
 
+cast-result-2 : tie.Need-cast-result-2
+cast-result-2 c = search needs
+
 returns-2 : tie.Need-returns-2
 unfolding refusalFor
 returns-2 c = let lost = not-true (c .before .before .before .args .held) (c .if2 .taken) in sym (rw (sound (c .before), lost))
 
 all-held : (c : tie.Else2) → c .before .before .before .args .held ≡ true
 all-held c = not-false (c .before .before .before .args .held) (c .if2 .left)
+
+cast-result-3 : tie.Need-cast-result-3
+cast-result-3 c = search needs
 
 returns-3 : tie.Need-returns-3
 unfolding refusalFor
@@ -43,4 +49,4 @@ returns-4 c = sym (rw (sound (c .before .before), all-held (c .before), c .if3 .
 
 pub refusal-for-spec : {M : Type 1} → statement M
 refusal-for-spec =
-    tie.close (tie.spec refusal-number-requires cast-result returns returns-2 returns-3 returns-4)
+    tie.close (tie.spec refusal-number-requires cast-result returns cast-result-2 returns-2 cast-result-3 returns-3 returns-4)
