@@ -41,14 +41,12 @@ use Rattle.image.proofs.Back.{image-size}
 use Rattle.host.specs.declared.Refusal.{Refusal as HostRefusal}
 use Rattle.requests.specs.declared.Request.{Request}
 use Rattle.host.specs.declared.Outcome.{Outcome}
-use Rattle.host.specs.declared.Outcome.the-variants.{Idle, Waiting, Unheard, Ack as Acked, Nav as NotAvailable, OffOrRefused, Report as Reported, GivenUp, Refused}
 use Rattle.requests.specs.declared.Said.{Said}
 use Rattle.requests.specs.declared.Said.the-variants.{Ack, Nack, Nav, Report, Nothing as Silent}
 use Rattle.requests.specs.Request.{isRequest}
 use Rattle.host.specs.Machine.{Happening, start, burst, mark, State, Move, sendings, waits, quiet, begun, again, ending, heard, step}
 use Rattle.host.specs.Calls.{hostOf, stateOf, stepOf, call}
 use Rattle.host.proofs.Answers.{host-back}
-use Rattle.host.proofs.Lasting.{nav-either}
 use Rattle.demands.specs.Demand1.{AddRefused, RemoveRefused, ReadRefused, CallRefused, Bad, BadBurst, AnswerAlone, ImageAlone}
 
 pub add-refused : AddRefused
@@ -126,21 +124,16 @@ read-refused image n = either (isSound (wholeRefusal image)) _ (wholeRefusal ima
 
 -- A refused call of the host: it gives nothing out, and stays.
 abbrev Stays : State → Move → Type 0
-Stays s m = (r : HostRefusal) → m .outcome ≡ Refused r → (m .next ≡ s) × (m .sent ≡ [])
+Stays s m = (r : HostRefusal) → m .outcome ≡ Outcome.Refused r → (m .next ≡ s) × (m .sent ≡ [])
 
 abbrev isRefused : Outcome → Bool
-isRefused Idle = false
-isRefused Waiting = false
-isRefused (Unheard n) = false
-isRefused (Acked n) = false
-isRefused (NotAvailable n) = false
-isRefused (OffOrRefused n) = false
-isRefused (Reported n) = false
-isRefused (GivenUp n) = false
-isRefused (Refused r) = true
+isRefused Outcome.Idle = false
+isRefused Outcome.Waiting = false
+isRefused (Outcome.Over e n) = false
+isRefused (Outcome.Refused r) = true
 
 taken : {s next : State} {sent : List (List ℕ)} (o : Outcome) → isRefused o ≡ false
-    → (r : HostRefusal) → o ≡ Refused r → (next ≡ s) × (sent ≡ [])
+    → (r : HostRefusal) → o ≡ Outcome.Refused r → (next ≡ s) × (sent ≡ [])
 taken o h r e = absurd (false≢true (sym h ∙ ap isRefused e))
 
 one-of : (s : State) (t : Bool) (m n : Move) → Stays s m → Stays s n → Stays s (cond t m n)
@@ -158,7 +151,7 @@ ending-stays : (s : State) (d : List ℕ) (w : Said) → Stays s (ending s d w)
 unfolding ending
 ending-stays s d Ack = taken _ refl
 ending-stays s d Nack = again-stays s
-ending-stays s d Nav = taken _ (nav-either (λ o. isRefused o ≡ false) s refl refl)
+ending-stays s d Nav = taken _ refl
 ending-stays s d Report = taken _ refl
 ending-stays s d Silent = taken _ refl
 
@@ -170,7 +163,7 @@ step-stays : (s : State) (h : Happening) → Stays s (step s h)
 unfolding step heard
 step-stays s (start r) =
     one-of s (waits s) _ _ (quiet-stays s _) (one-of s (isRequest r) _ _ (begun-stays s r) (quiet-stays s _))
-step-stays s (burst b) = one-of s (waits s) (heard s b) (quiet s Idle) (ending-stays s _ _) (quiet-stays s _)
+step-stays s (burst b) = one-of s (waits s) (heard s b) (quiet s Outcome.Idle) (ending-stays s _ _) (quiet-stays s _)
 step-stays s mark = one-of s (waits s) _ _ (again-stays s) (quiet-stays s _)
 
 pub call-refused : CallRefused

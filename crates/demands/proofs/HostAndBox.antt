@@ -6,7 +6,7 @@ use mathlib.Core.List.{List, [], _∷_}
 use native.Mathlib.Omega.{arith}
 use borrow.Author.Tests.{eqb-true, eqb-false, eq-eqb, ne-eqb, lt-ltb}
 use lib.Dec.{eqb, leb, ltb}
-use lib.ListN.{length, getD, replicate, length-take, length-replicate}
+use lib.ListN.{length, getD, length-take, length-replicate}
 use lib.Seq.{take-append-seam}
 use Rattle.models.specs.declared.Model.{Model}
 use Rattle.finding.specs.declared.Found.{Found}
@@ -43,12 +43,11 @@ use Rattle.requests.specs.declared.Said.the-variants.{Ack, Nack, Nav, Report, N
 use Rattle.requests.specs.Request.{valuesOf as requestValues, requestData, requestPacket, isPowerOff, maySet, isTaken, isRequest}
 use Rattle.lists.specs.Lists.{same}
 use Rattle.requests.specs.Said.{isControl, isReport, endedBy, wordIn}
-use Rattle.host.specs.declared.Outcome.{Outcome}
-use Rattle.host.specs.declared.Outcome.the-variants.{Nav as NavHeard, OffOrRefused}
+use Rattle.host.specs.declared.End.{End}
 use Rattle.host.specs.Heard.{saidBy, saidTo}
 use Rattle.host.specs.Machine.{start, burst, mark, idle, State, Move, sendings, mostSendings, over, begun, again, navEnds, ending, heard, telling, step}
 use Rattle.host.proofs.Lasting.{packet-reads}
-use Rattle.demands.specs.HostAndBox.{asking, pastWall, EndsWith, Lossless}
+use Rattle.demands.specs.HostAndBox.{asking, waiting, pastWall, EndsWith, Lossless}
 use Rattle.demands.proofs.Tiling.{in-own-wall, value-at, held-allowed, host-tiling}
 
 -- no setting's get code is 0
@@ -125,18 +124,15 @@ module _ (w : Wall) (r : Request) (k : ℕ) (asked : isRequest r ≡ true) (due 
       rw (verdict, d, due, there)
 
   -- and the host, which waits and has sent the packet so often, hears one from that panel
-  abbrev waiting : ℕ → State
-  waiting n = record { request = r; given = replicate n (requestPacket r) }
-
-  starts : step idle (start r) .next ≡ waiting 1
+  starts : step idle (start r) .next ≡ waiting r 1
   unfolding step begun
   starts = rw (asked, due)
 
-  sends : (n : ℕ) → suc n < mostSendings → step (waiting (suc n)) mark .next ≡ waiting (suc (suc n))
+  sends : (n : ℕ) → suc n < mostSendings → step (waiting r (suc n)) mark .next ≡ waiting r (suc (suc n))
   unfolding step again
   sends n h = rw (length-replicate, lt-ltb 0 (suc n) (omega arith), lt-ltb (suc n) mostSendings h)
 
-  waits-on : (n : ℕ) → n < mostSendings → asking r n ≡ waiting (suc n)
+  waits-on : (n : ℕ) → n < mostSendings → asking r n ≡ waiting r (suc n)
   waits-on zero h = starts
   waits-on (suc n) h = ap (λ (s : State). step s mark .next) (waits-on n (omega arith)) ∙ sends n h
 
@@ -161,7 +157,7 @@ module _ (w : Wall) (r : Request) (k : ℕ) (asked : isRequest r ≡ true) (due 
       let code = sym (subst (IsFound (r .code)) found (found-right (r .code)) .1) ∙ ap setCode (eqb-true row powerRow at) in
       rw (eq-eqb (r .code) (setCode powerRow) code) (both (same (requestValues r) off) _ sets .0)
 
-  nav-ends : (n : ℕ) → isPowerOff r ≡ true → navEnds (waiting (suc n)) ≡ cond (eqb (suc n) 1) (NavHeard (suc n)) (OffOrRefused (suc n))
+  nav-ends : (n : ℕ) → isPowerOff r ≡ true → navEnds (waiting r (suc n)) ≡ cond (eqb (suc n) 1) End.Nav End.OffOrRefused
   unfolding navEnds
   nav-ends zero e = rw e
   nav-ends (suc n) e = rw (e, length-replicate, lt-ltb 1 (suc (suc n)) (omega arith), ne-eqb (suc (suc n)) 1 (λ d. omega arith))
@@ -174,17 +170,17 @@ module _ (w : Wall) (r : Request) (k : ℕ) (asked : isRequest r ≡ true) (due 
       let code = sym (subst (IsFound (r .code)) found (found-right (r .code)) .1) ∙ ap setCode (eqb-true row tilingRow at) in
       rw code
 
-  nav-plain : (n : ℕ) → isPowerOff r ≡ false → navEnds (waiting (suc n)) ≡ NavHeard (suc n)
+  nav-plain : (n : ℕ) → isPowerOff r ≡ false → navEnds (waiting r (suc n)) ≡ End.Nav
   unfolding navEnds
-  nav-plain n e = rw (e, length-replicate)
+  nav-plain n e = rw e
 
   hears : (n : ℕ) → n < mostSendings → (d : List ℕ) → length d ≤ mostData
-      → step (asking r n) (burst (packetOf (r .id) (groupId 0) d)) ≡ ending (waiting (suc n)) d (wordIn (r .model) (r .code) d)
+      → step (asking r n) (burst (packetOf (r .id) (groupId 0) d)) ≡ ending (waiting r (suc n)) d (wordIn (r .model) (r .code) d)
   unfolding step heard saidTo saidBy
   hears n few d short =
       let none = undamaged _ (sound _ (packet-intact (r .id) (groupId 0) d short)) in
       rw (waits-on n few, length-replicate, lt-ltb 0 (suc n) (omega arith), none, packet-data (r .id) (groupId 0) d short, packet-verdict (r .id) (groupId 0) d short, eq-eqb (r .id .0) _ refl)
-      (untold (waiting (suc n)) d (wordIn (r .model) (r .code) d))
+      (untold (waiting r (suc n)) d (wordIn (r .model) (r .code) d))
 
   -- a set to which the panel says the word
   set-ends : (n : ℕ) → n < mostSendings → (row : ℕ) → foundBy (r .code) ≡ Set row
@@ -194,13 +190,13 @@ module _ (w : Wall) (r : Request) (k : ℕ) (asked : isRequest r ≡ true) (due 
   unfolding command takes judge sentBytes ending
   set-ends n few row found allowed true past e f =
       let reply : played w (requestPacket r) .reply ≡ wordFrom (r .id) NavWord = box-answers ∙ rw (found, allowed, e, and-false (not (pastWall row (requestValues r) panel))) in
-      rw (reply, e) (hears n few (controlData NavWord) (omega arith) ∙ (unfold wordIn isControl same in ap (λ (o : Outcome). over o []) (nav-ends n (power-off row found e))))
+      rw (reply, e) (hears n few (controlData NavWord) (omega arith) ∙ (unfold wordIn isControl same in ap (λ (e : End). over (waiting r (suc n)) [] e []) (nav-ends n (power-off row found e))))
   set-ends n few row found allowed false true e f =
       let reply : played w (requestPacket r) .reply ≡ wordFrom (r .id) NavWord = box-answers ∙ rw (found, allowed, f) in
-      rw (reply, e, f) (hears n few (controlData NavWord) (omega arith) ∙ (unfold wordIn isControl same in ap (λ (o : Outcome). over o []) (nav-plain n (not-power row found f))))
+      rw (reply, e, f) (hears n few (controlData NavWord) (omega arith) ∙ (unfold wordIn isControl same in ap (λ (e : End). over (waiting r (suc n)) [] e []) (nav-plain n (not-power row found f))))
   set-ends n few row found allowed false false e f =
       let reply : played w (requestPacket r) .reply ≡ wordFrom (r .id) AckWord = box-answers ∙ rw (found, allowed, e, f) in
-      rw (reply, e, f) (hears n few (controlData AckWord) (omega arith) ∙ (unfold wordIn isControl same endedBy in rw (found, length-replicate)))
+      rw (reply, e, f) (hears n few (controlData AckWord) (omega arith) ∙ (unfold wordIn isControl same endedBy in rw found))
 
   ends : (n : ℕ) → n < mostSendings → GoodPanel panel → (f : Found) → foundBy (r .code) ≡ f → isTaken r f ≡ true
       → EndsWith f r panel (suc n) (step (asking r n) (burst (sentBytes (played w (requestPacket r) .reply))))
@@ -218,8 +214,7 @@ module _ (w : Wall) (r : Request) (k : ℕ) (asked : isRequest r ≡ true) (due 
       let sent : sentBytes (reportFrom (r .id) d) ≡ packetOf (r .id) (groupId 0) d = ap (packetOf (r .id) (groupId 0)) (take-append-seam d _) in
       let notZero = codes-some row setting inTable in
       rw (reply, sent)
-      (hears n few d short ∙ ap (ending (waiting (suc n)) d) (word-report (r .model) (r .code) row (valuesOf row (panel .values)) found notZero (subst (λ (m : Model). allowedFor m row (valuesOf row (panel .values)) ≡ true) told (good .inRange row inTable)))
-      ∙ rw length-replicate)
+      (hears n few d short ∙ ap (ending (waiting r (suc n)) d) (word-report (r .model) (r .code) row (valuesOf row (panel .values)) found notZero (subst (λ (m : Model). allowedFor m row (valuesOf row (panel .values)) ≡ true) told (good .inRange row inTable))))
 
 pub lossless : Lossless
 unfolding isRequest

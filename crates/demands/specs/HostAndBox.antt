@@ -4,7 +4,7 @@ use mathlib.Core.Bool.{Bool, true, cond, not, _&&_}
 use mathlib.Core.Path.{_≡_}
 use mathlib.Core.List.{List, []}
 use lib.Dec.{eqb}
-use lib.ListN.{getD}
+use lib.ListN.{getD, replicate}
 use Rattle.finding.specs.declared.Found.{Found}
 use Rattle.finding.specs.declared.Found.the-variants.{Set, Get, Nothing}
 use Rattle.tiling.specs.Kinds.{inWall}
@@ -21,13 +21,17 @@ use Rattle.answers.specs.Judged.{offAlready}
 use Rattle.answers.specs.Played.{played}
 use Rattle.requests.specs.declared.Request.{Request}
 use Rattle.requests.specs.Request.{valuesOf as requestValues, requestPacket, isRequest}
-use Rattle.host.specs.declared.Outcome.the-variants.{Ack, Nav, OffOrRefused, Report}
+use Rattle.host.specs.declared.End.{End}
 use Rattle.host.specs.Machine.{start, burst, mark, State, Move, idle, over, step, mostSendings}
 
 -- the host that was started with a request, and to which the mark then came n times
 abbrev pub asking : Request → ℕ → State
 asking r zero = step idle (start r) .next
 asking r (suc n) = step (asking r n) mark .next
+
+-- the host that has sent a request's packet n times
+abbrev pub waiting : Request → ℕ → State
+waiting r n = record { request = r; given = replicate n (requestPacket r) }
 
 -- a tiling that leaves the panel its wall, which has no such position (02, A6)
 abbrev pub pastWall : ℕ → List ℕ → Panel → Bool
@@ -40,8 +44,8 @@ pastWall row values p =
 -- own wall with NAV.
 abbrev pub EndsWith : Found → Request → Panel → ℕ → Move → Type 0
 EndsWith (Set row) r p n m =
-    m ≡ over (cond (offAlready row (requestValues r) p) (cond (eqb n 1) (Nav n) (OffOrRefused n)) (cond (pastWall row (requestValues r) p) (Nav n) (Ack n))) []
-EndsWith (Get row) r p n m = m ≡ over (Report n) (valuesOf row (p .values))
+    m ≡ over (waiting r n) [] (cond (offAlready row (requestValues r) p) (cond (eqb n 1) End.Nav End.OffOrRefused) (cond (pastWall row (requestValues r) p) End.Nav End.Ack)) []
+EndsWith (Get row) r p n m = m ≡ over (waiting r n) [] End.Report (valuesOf row (p .values))
 EndsWith Nothing r p n m = ⊥
 
 -- A request to a panel that is there, and of the profile and kind that the request says, ends so with the first packet that is answered: on

@@ -19,7 +19,7 @@ use Rattle.answers.specs.Reply.{wordFrom}
 use Rattle.answers.specs.Played.{played}
 use Rattle.requests.specs.declared.Said.the-variants.{Nav as NavSaid}
 use Rattle.requests.specs.Request.{requestData}
-use Rattle.host.specs.declared.Outcome.the-variants.{Nav as NavHeard, OffOrRefused}
+use Rattle.host.specs.declared.End.{End}
 use Rattle.host.specs.Machine.{State, sendings, over, ending}
 
 -- A panel that is there answers the set of power with ACK: on always, and off while it is on. Every other value, and off while it
@@ -43,4 +43,4 @@ NavEnds =
     (s : State) (d : List ℕ)
     → let n = sendings s in
     ending s d NavSaid
-    ≡ over (cond (same (requestData (s .request)) (0x18 ∷ 1 ∷ []) && leb 2 n) (OffOrRefused n) (NavHeard n)) []
+    ≡ over s [] (cond (same (requestData (s .request)) (0x18 ∷ 1 ∷ []) && leb 2 n) End.OffOrRefused End.Nav) []

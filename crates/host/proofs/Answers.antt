@@ -7,8 +7,9 @@ use Rattle.lists.specs.Lists.{laidOver}
 use Rattle.packet.specs.declared.Damage.{Damage}
 use Rattle.host.specs.declared.Host.{Host}
 use Rattle.host.specs.declared.Step.{Step}
+use Rattle.host.specs.declared.End.{End}
 use Rattle.host.specs.declared.Outcome.{Outcome}
-use Rattle.host.specs.Machine.{Move, State, move, quiet, over, telling, idle}
+use Rattle.host.specs.Machine.{Move, State, move, quiet, over, telling}
 use Rattle.host.specs.Calls.{hostOf, stateOf, stepOf, Answers}
 use Rattle.host.specs.Private.Steps.{plainStep, tellingStep}
 
@@ -22,15 +23,15 @@ module _ {m : Move} {r : Step} where
   unfolding stepOf laidOver flatten
   stays h o out e f = rw (e, f) (rw length-replicate, refl)
 
-  -- nothing is given out and nothing waits any more
-  pub ends : (h : Host) (o : Outcome) (out : List ℕ) → h ≡ hostOf idle → m ≡ over o [] → r ≡ plainStep h 0 o → Answers m out r out
-  unfolding stepOf laidOver flatten
-  ends h o out w e f = rw (e, f, w) (refl, refl)
+  -- the request is over, and nothing is given out or a packet
+  module _ (h : Host) {e : End} {vs : List ℕ} {n : ℕ} (f : (packets : List (List ℕ)) → n ≡ length (flatten packets) → r ≡ stepOf (over (stateOf h) packets e vs)) where
+    pub ends : (out : List ℕ) → n ≡ 0 → m ≡ over (stateOf h) [] e vs → Answers m out r out
+    unfolding laidOver flatten
+    ends out none q = rw q (f [] none, refl)
 
-  -- the same, with a report's values
-  pub reports : (o : Outcome) (vs out : List ℕ) → m ≡ over o vs → r ≡ stepOf (over o vs) → Answers m out r out
-  unfolding laidOver flatten
-  reports o vs out e f = rw (e, f) (refl, refl)
+    pub gives-last : (p out out' : List ℕ) → n ≡ length p → out' ≡ laidOver p out → m ≡ over (stateOf h) (p ∷ []) e vs → Answers m out r out'
+    unfolding laidOver flatten
+    gives-last p out out' en eo q = rw (q, eo) (f (p ∷ []) (rw append-nil en), rw append-nil)
 
   -- a packet is given out
   pub gives : (s : State) (p : List ℕ) (o : Outcome) (out out' : List ℕ) (h : Host) (n : ℕ)

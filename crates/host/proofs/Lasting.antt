@@ -21,11 +21,9 @@ use Rattle.packet.proofs.Packets.{packet-verdict, packet-data}
 use Rattle.requests.specs.declared.Request.{Request}
 use Rattle.requests.specs.declared.Said.{Said}
 use Rattle.requests.specs.declared.Said.the-variants.{Ack, Nack, Nav, Report, Nothing}
-use Rattle.requests.specs.Request.{requestData, requestPacket, isPowerOff, isRequest}
-use Rattle.host.specs.declared.Outcome.{Outcome}
-use Rattle.host.specs.declared.Outcome.the-variants.{Nav as NotAvailable, OffOrRefused}
+use Rattle.requests.specs.Request.{requestData, requestPacket, isRequest}
 use Rattle.host.specs.Heard.{saidTo, dataIn}
-use Rattle.host.specs.Machine.{Happening, start, burst, mark, State, Move, idle, sendings, mostSendings, waits, begun, again, navEnds, ending, heard, telling, step}
+use Rattle.host.specs.Machine.{Happening, start, burst, mark, State, Move, idle, sendings, mostSendings, waits, begun, again, ending, heard, telling, step}
 use Rattle.host.specs.Private.Lasting.{run, after, lasts, isNack, pushes, pushed, packets, countIn}
 
 -- one happening
@@ -54,20 +52,11 @@ pushed-on s = go (ltb (sendings s) mostSendings) refl
     go true e = inr (record { next = rw e; sent = rw e; few = λ h. omega (arith, ltb-true (sendings s) mostSendings e) })
     go false e = inl (record { over = rw e; none = rw e; count = rw e })
 
--- what holds of both results that NAV may have
-pub nav-either : (P : Outcome → Type 0) (s : State) → P (OffOrRefused (sendings s)) → P (NotAvailable (sendings s)) → P (navEnds s)
-unfolding navEnds
-nav-either P s off nav = go (isPowerOff (s .request) && ltb 1 (sendings s))
-  where
-    go : (t : Bool) → P (cond t (OffOrRefused (sendings s)) (NotAvailable (sendings s)))
-    go true = off
-    go false = nav
-
 told : (s : State) (d : List ℕ) (w : Said) → Ends s (ending s d w) ⊎ Goes s (isNack w) (ending s d w)
 unfolding ending
 told s d Ack = inl (record { over = refl; none = refl; count = refl })
 told s d Nack = pushed-on s
-told s d Nav = inl (record { over = refl; none = refl; count = nav-either (λ o. countIn o ≡ sendings s) s refl refl })
+told s d Nav = inl (record { over = refl; none = refl; count = refl })
 told s d Report = inl (record { over = refl; none = refl; count = refl })
 told s d Nothing = inr (record { next = refl; sent = refl; few = λ h. omega arith })
 

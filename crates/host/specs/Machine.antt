@@ -12,11 +12,10 @@ use Rattle.packet.specs.Packet.{monitorId, groupId, damageOf}
 use Rattle.packet.specs.declared.Damage.{Damage}
 use Rattle.packet.specs.declared.Damage.the-variants.{Nothing}
 use Rattle.requests.specs.declared.Request.{Request}
-use Rattle.host.specs.declared.Refusal.the-variants.{Busy, NotARequest}
+use Rattle.host.specs.declared.Refusal.{Refusal}
+use Rattle.host.specs.declared.End.{End}
 use Rattle.host.specs.declared.Outcome.{Outcome}
-use Rattle.host.specs.declared.Outcome.the-variants.{Idle, Waiting, Unheard, Ack as Acked, Nav as NotAvailable, OffOrRefused, Report as Reported, GivenUp, Refused}
 use Rattle.requests.specs.declared.Said.{Said}
-use Rattle.requests.specs.declared.Said.the-variants.{Ack, Nack, Nav, Report, Nothing as Other}
 use Rattle.requests.specs.Request.{isRequest, isPowerOff, requestPacket}
 use Rattle.host.specs.Heard.{saidTo, dataIn}
 
@@ -66,37 +65,36 @@ move s packets o vs = record { next = s; sent = packets; outcome = o; values = v
 abbrev pub quiet : State → Outcome → Move
 quiet s o = move s [] o []
 
--- the request is over
-abbrev pub over : Outcome → List ℕ → Move
-over = move idle []
+-- the request of s is over; the result has how it ended and how often its packet was sent
+abbrev pub over : State → List (List ℕ) → End → List ℕ → Move
+over s packets e vs = move idle packets (Outcome.Over e (sendings s)) vs
 
 -- the packet is given out; where no answer is due, the request is over
 unfoldable pub begun : Request → Move
 begun r =
     let p = requestPacket r ∷ [] in
-    cond (isHeard (r .id) (r .group))
-    (move (record { request = r; given = p }) p Waiting [])
-    (move idle p (Unheard (length p)) [])
+    let s : State = record { request = r; given = p } in
+    cond (isHeard (r .id) (r .group)) (move s p Outcome.Waiting []) (over s p End.Unheard [])
 
 -- the same packet again, or after the third sending given up
 unfoldable pub again : State → Move
 again s =
     let p = requestPacket (s .request) in
     cond (ltb (sendings s) mostSendings)
-    (move (record { request = s .request; given = p ∷ s .given }) (p ∷ []) Waiting [])
-    (over (GivenUp (sendings s)) [])
+    (move (record { request = s .request; given = p ∷ s .given }) (p ∷ []) Outcome.Waiting [])
+    (over s [] End.GivenUp [])
 
 -- NAV: where a power off was sent more than once, an earlier sending may have done the work
-unfoldable pub navEnds : State → Outcome
-navEnds s = cond (isPowerOff (s .request) && ltb 1 (sendings s)) (OffOrRefused (sendings s)) (NotAvailable (sendings s))
+unfoldable pub navEnds : State → End
+navEnds s = cond (isPowerOff (s .request) && ltb 1 (sendings s)) End.OffOrRefused End.Nav
 
 -- ACK, report and NAV end the request
 unfoldable pub ending : State → List ℕ → Said → Move
-ending s d Ack = over (Acked (sendings s)) []
-ending s d Nack = again s
-ending s d Nav = over (navEnds s) []
-ending s d Report = over (Reported (sendings s)) (drop 1 d)
-ending s d Other = quiet s Waiting
+ending s d Said.Ack = over s [] End.Ack []
+ending s d Said.Nack = again s
+ending s d Said.Nav = over s [] (navEnds s) []
+ending s d Said.Report = over s [] End.Report (drop 1 d)
+ending s d Said.Nothing = quiet s Outcome.Waiting
 
 unfoldable pub heard : State → List ℕ → Move
 heard s b = ending s (dataIn b) (saidTo (s .request) b)
@@ -107,6 +105,6 @@ telling d m = record { next = m .next; sent = m .sent; outcome = m .outcome; val
 
 -- one happening
 unfoldable pub step : State → Happening → Move
-step s (start r) = cond (waits s) (quiet s (Refused Busy)) (cond (isRequest r) (begun r) (quiet s (Refused NotARequest)))
-step s (burst b) = telling (damageOf b) (cond (waits s) (heard s b) (quiet s Idle))
-step s mark = cond (waits s) (again s) (quiet s Idle)
+step s (start r) = cond (waits s) (quiet s (Outcome.Refused Refusal.Busy)) (cond (isRequest r) (begun r) (quiet s (Outcome.Refused Refusal.NotARequest)))
+step s (burst b) = telling (damageOf b) (cond (waits s) (heard s b) (quiet s Outcome.Idle))
+step s mark = cond (waits s) (again s) (quiet s Outcome.Idle)

@@ -3,8 +3,12 @@ mod hearing;
 mod sending;
 
 ghost use mathlib.Core.Path.{_≡_};
-ghost use Rattle.host.specs.Machine.{start, burst, mark, idle};
-ghost use Rattle.host.specs.Calls.{refusalOf, hostOf, stateOf, call, Answers};
+ghost use mathlib.Core.List.{List, flatten};
+ghost use Prim.Native.Nat.{ℕ, _≤_};
+ghost use lib.ListN.{length};
+ghost use Rattle.settings.specs.Settings.{mostValues};
+ghost use Rattle.host.specs.Machine.{start, burst, mark, idle, over};
+ghost use Rattle.host.specs.Calls.{refusalOf, hostOf, stateOf, stepOf, call, Answers};
 ghost use Rattle.host.specs.Private.Steps.{plainStep, tellingStep};
 use models::Model;
 use packet::Damage;
@@ -33,17 +37,21 @@ pub enum Refusal {
     NotARequest,
 }
 
-// What has become of the request; a number is how often its packet was sent. A power off that was sent more than once and got
-// NAV has left the panel off, or was refused.
+// How a request ended. A power off that was sent more than once and got NAV has left the panel off, or was refused.
+pub enum End {
+    Unheard,
+    Ack,
+    Nav,
+    OffOrRefused,
+    Report,
+    GivenUp,
+}
+
+// What has become of the request; where it is over, how it ended and how often its packet was sent.
 pub enum Outcome {
     Idle,
     Waiting,
-    Unheard(usize),
-    Ack(usize),
-    Nav(usize),
-    OffOrRefused(usize),
-    Report(usize),
-    GivenUp(usize),
+    Over(End, usize),
     Refused(Refusal),
 }
 
@@ -80,6 +88,23 @@ fn plain(host: Host, length: usize, outcome: Outcome) -> Step
         outcome,
         values,
         count: 0,
+        damage: Damage::Nothing,
+    }
+}
+
+// The host's request is over. So many bytes were given out, and a report has these values.
+fn over(host: Host, sent: usize, end: End, v: &[u8]) -> Step
+    requires { ⌜ length (now v) ≤ mostValues ⌝ }
+    ensures { λ r. ⌜ ((packets : List (List ℕ)) → sent ≡ length (flatten packets) → r ≡ stepOf (over (stateOf host) packets end (now (v .entry)))) ⌝ }
+{
+    let mut values = [0u8; MOST_VALUES];
+    let count = bytes::copy(v, &mut values);
+    Step {
+        host: Host::idle(),
+        length: sent,
+        outcome: Outcome::Over(end, host.sendings),
+        values,
+        count,
         damage: Damage::Nothing,
     }
 }

@@ -7,6 +7,7 @@ ghost use Rattle.packet.specs.Packet.{longest};
 ghost use Rattle.requests.specs.Request.{requestPacket};
 ghost use Rattle.host.specs.Machine.{begun, again};
 ghost use Rattle.host.specs.Calls.{stateOf, Answers};
+use crate::End;
 use crate::Host;
 use crate::MOST_SENDINGS;
 use crate::Outcome;
@@ -34,17 +35,14 @@ pub(crate) fn begin(request: Request, out: &mut [u8]) -> Step
     ensures { λ r. ⌜ Answers (begun request) (now (out .entry)) r (now (out .exit)) ⌝ }
 {
     let length = send(request, out);
+    let host = Host {
+        request,
+        sendings: 1,
+    };
     if packet::is_answered(request.id, request.group) {
-        crate::plain(
-            Host {
-                request,
-                sendings: 1,
-            },
-            length,
-            Outcome::Waiting,
-        )
+        crate::plain(host, length, Outcome::Waiting)
     } else {
-        crate::plain(Host::idle(), length, Outcome::Unheard(1))
+        crate::over(host, length, End::Unheard, &[])
     }
 }
 
@@ -55,7 +53,7 @@ pub(crate) fn send_again(host: Host, out: &mut [u8]) -> Step
 {
     let sendings = host.sendings;
     if MOST_SENDINGS <= sendings {
-        return crate::plain(Host::idle(), 0, Outcome::GivenUp(sendings));
+        return crate::over(host, 0, End::GivenUp, &[]);
     }
     let request = host.request;
     let length = send(request, out);

@@ -3,6 +3,7 @@ ghost use mathlib.Core.Path.{_≡_};
 ghost use Prim.Native.Nat.{_≤_};
 ghost use lib.ListN.{length};
 ghost use Rattle.host_play.specs.Private.Steps.{requestOf, startHead};
+use host::End;
 use host::Host;
 use host::Outcome;
 use host::Step;
@@ -53,6 +54,22 @@ fn print_counted(word: &[u8], n: u64) {
     io::print_decimal(1, n);
 }
 
+// Prints how a request ended, how often its packet was sent, and a report's values.
+fn print_end(end: End, n: u64, values: &[u8]) {
+    match end {
+        End::Unheard => print_counted(b"unheard", n),
+        End::Ack => print_counted(b"ack", n),
+        End::Nav => print_counted(b"nav", n),
+        End::OffOrRefused => print_counted(b"off-or-refused", n),
+        End::Report => {
+            print_counted(b"report", n);
+            io::write_all(1, b" ");
+            print_hex(values);
+        }
+        End::GivenUp => print_counted(b"given-up", n),
+    }
+}
+
 fn print_outcome(outcome: Outcome, values: &[u8]) {
     match outcome {
         Outcome::Idle => {
@@ -61,16 +78,7 @@ fn print_outcome(outcome: Outcome, values: &[u8]) {
         Outcome::Waiting => {
             io::write_all(1, b"waiting");
         }
-        Outcome::Unheard(n) => print_counted(b"unheard", n as u64),
-        Outcome::Ack(n) => print_counted(b"ack", n as u64),
-        Outcome::Nav(n) => print_counted(b"nav", n as u64),
-        Outcome::OffOrRefused(n) => print_counted(b"off-or-refused", n as u64),
-        Outcome::Report(n) => {
-            print_counted(b"report", n as u64);
-            io::write_all(1, b" ");
-            print_hex(values);
-        }
-        Outcome::GivenUp(n) => print_counted(b"given-up", n as u64),
+        Outcome::Over(end, n) => print_end(end, n as u64, values),
         Outcome::Refused(refusal) => print_counted(
             b"refused",
             host::refusal_number(refusal) as u64,

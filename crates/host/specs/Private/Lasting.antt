@@ -7,7 +7,6 @@ use Rattle.host.specs.declared.Host.{Host}
 use Rattle.host.specs.declared.Step.{Step}
 use Rattle.requests.specs.declared.Request.{Request}
 use Rattle.host.specs.declared.Outcome.{Outcome}
-use Rattle.host.specs.declared.Outcome.the-variants.{Idle, Waiting, Unheard, Ack as Acked, Nav as NotAvailable, OffOrRefused, Report as Reported, GivenUp, Refused}
 use Rattle.requests.specs.declared.Said.{Said}
 use Rattle.requests.specs.declared.Said.the-variants.{Ack, Nack, Nav, Report, Nothing}
 use Rattle.host.specs.Heard.{saidTo}
@@ -53,15 +52,10 @@ packets (m ∷ ms) = m .sent ++ packets ms
 
 -- the number that a result carries
 abbrev pub countIn : Outcome → ℕ
-countIn Idle = 0
-countIn Waiting = 0
-countIn (Unheard n) = n
-countIn (Acked n) = n
-countIn (NotAvailable n) = n
-countIn (OffOrRefused n) = n
-countIn (Reported n) = n
-countIn (GivenUp n) = n
-countIn (Refused r) = 0
+countIn Outcome.Idle = 0
+countIn Outcome.Waiting = 0
+countIn (Outcome.Over e n) = n
+countIn (Outcome.Refused r) = 0
 
 -- what the calls answer one after the other, each with room for a packet
 unfoldable pub calls : Host → List Happening → List Step

@@ -1,0 +1,41 @@
+-- The values are laid over seven zeros. Assumes nothing.
+use mathlib.Core.Path.{_≡_}
+use borrow.Author.Needs.{needs}
+use Prim.Native.Nat.{ℕ}
+use mathlib.Core.List.{List, _++_, flatten}
+use lib.ListN.{length, take, drop, replicate, length-replicate}
+use lib.Seq.{take-length}
+use Rattle.settings.specs.Settings.{mostValues}
+use Rattle.lists.specs.Lists.{laidOver}
+use Rattle.packet.specs.declared.Damage.{Damage}
+use Rattle.host.specs.declared.Host.{Host}
+use Rattle.host.specs.declared.Step.{Step}
+use Rattle.host.specs.declared.End.{End}
+use Rattle.host.specs.declared.Outcome.{Outcome}
+use Rattle.host.specs.Machine.{over, idle}
+use Rattle.host.specs.Calls.{stepOf, hostOf, stateOf}
+use Rattle.host.proofs.over.Statement.{statement}
+use Rattle.host.proofs.over.Tie as tie
+
+made : (h next : Host) (n sent : ℕ) (e : End) (v values : List ℕ) (packets : List (List ℕ)) → next ≡ hostOf idle → n ≡ length v
+    → values ≡ take (length v) v ++ drop (length v) (replicate mostValues 0) → sent ≡ length (flatten packets)
+    → _≡_ {A = Step}
+    (record { host = next; length = sent; outcome = Outcome.Over e (h .sendings); values = values; count = n; damage = Damage.Nothing })
+    (stepOf (over (stateOf h) packets e v))
+unfolding stepOf laidOver flatten
+made h next n sent e v values packets eh en ev es = rw (eh, en, ev, es, take-length v, length-replicate)
+
+slice-aggregate-copy : tie.Need-slice-aggregate-copy
+slice-aggregate-copy c = search needs
+
+copy-requires : tie.Need-copy-requires
+copy-requires c κs = search needs
+
+idle-requires : tie.Need-idle-requires
+idle-requires c κs = search needs
+
+returns : tie.Need-returns
+returns c packets es = made _ _ _ _ _ _ _ packets (c .idle .ensures) (c .before .before .copy .ensures .0) (c .before .before .copy .ensures .1) es
+
+pub over-spec : {M : Type 1} → statement M
+over-spec = tie.close (tie.spec slice-aggregate-copy copy-requires idle-requires returns)
