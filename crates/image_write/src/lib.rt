@@ -71,7 +71,7 @@ pub fn size_of(form: Form, t: Table) -> usize
     requires { ⌜ WellFormed t ⌝ }
     ensures { λ r. ⌜ r ≡ sizeOf form (panelsOf t) ⌝ }
 {
-    (record_size(form) + START_SIZE) * t.count + TRAILER_SIZE
+    (record_size(form) + START_SIZE) * panels::count_of(t) + TRAILER_SIZE
 }
 
 // Whether a form holds all that a table has.
@@ -79,9 +79,11 @@ pub fn loses_nothing(form: Form, t: Table) -> bool
     requires { ⌜ WellFormed t ⌝ }
     ensures { λ r. ⌜ r ≡ losesNothing form (panelsOf t) ⌝ }
 {
+    let n = panels::count_of(t);
+    let places = panels::places_of(t);
     let mut k = 0;
-    while k < t.count {
-        let p = t.panels[k];
+    while k < n {
+        let p = places[k];
         let profile = p.profile;
         let values = p.values;
         if !forms::keeps(form, profile, &values) {
@@ -105,7 +107,7 @@ pub fn write_image(form: Form, t: Table, out: &mut [u8]) -> Written
     if out.len() < size {
         return Written::NoRoom;
     }
-    let n = t.count;
+    let n = panels::count_of(t);
     let end = size - TRAILER_SIZE;
     write::records(form, out, t);
     write::starts(form, out, n);

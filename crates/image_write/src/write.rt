@@ -83,13 +83,15 @@ fn one_record(form: Form, out: &mut [u8], at: usize, p: Panel)
 
 // The records, in table order.
 pub fn records(form: Form, out: &mut [u8], t: Table)
-    requires { ⌜ WellFormed t × (recordSize form * (t .count) ≤ length (now out)) ⌝ }
+    requires { ⌜ WellFormed t × (recordSize form * length (panelsOf t) ≤ length (now out)) ⌝ }
     ensures { λ _. ⌜ now (out .exit) ≡ laidAt 0 (flatten (recordsOf form (panelsOf t))) (now (out .entry)) ⌝ }
 {
     let size = crate::record_size(form);
+    let n = panels::count_of(t);
+    let places = panels::places_of(t);
     let mut k = 0;
-    while k < t.count {
-        let p = t.panels[k];
+    while k < n {
+        let p = places[k];
         one_record(form, out, size * k, p);
         k += 1;
     }

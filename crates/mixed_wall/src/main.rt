@@ -156,7 +156,7 @@ fn show(t: Table)
     let Place::At(k) = place else {
         return;
     };
-    let p = t.panels[k];
+    let p = panels::panel_at(t, k);
     show_tint(p);
     show_place(p);
 }

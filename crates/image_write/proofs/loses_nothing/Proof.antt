@@ -4,8 +4,9 @@ use mathlib.Core.Bool.{Bool, true, false, _&&_}
 use Prim.Native.Nat.{ℕ, _+_, _-_, _≤_, _<_}
 use native.Mathlib.Numerals.{add-one}
 use native.Mathlib.Omega.{arith}
+use borrow.Author.Needs.{needs}
 use borrow.Author.Tests.{not-true, not-false}
-use lib.ListN.{length, getD, drop}
+use lib.ListN.{length, getD, take, drop}
 use lib.Seq.{drop-cons, drop-length}
 use Rattle.settings.specs.Settings.{valueCount}
 use Rattle.forms.specs.declared.Form.{Form}
@@ -13,7 +14,7 @@ use Rattle.forms.specs.Forms.{keeps}
 use Rattle.panels.specs.declared.Panel.{Panel}
 use Rattle.panels.specs.Wall.{Wall, blank, panelsOf}
 use Rattle.panels.proofs.Formed.{good-at}
-use Rattle.panels.proofs.Laws.{count-is, count-few, in-wall}
+use Rattle.panels.proofs.Laws.{place-is, held-first}
 use Rattle.image_write.specs.Written.{losesNothing}
 use Rattle.image_write.proofs.loses_nothing.Statement.{statement}
 use Rattle.image_write.proofs.loses_nothing.Tie as tie
@@ -24,64 +25,85 @@ unfolding losesNothing
 step form w k h = rw (drop-cons w k blank h, add-one)
 
 abbrev Inv-loop : tie.InvT-loop
-Inv-loop form t k₀ k = (k ≤ t .count) × (losesNothing form (panelsOf t) ≡ losesNothing form (drop k (panelsOf t)))
+Inv-loop form n places k₀ k = (k ≤ n) × (losesNothing form (take n places) ≡ losesNothing form (drop k (take n places)))
 
 abbrev μ-loop : tie.MeasureT-loop
-μ-loop form t k₀ k = t .count - k
+μ-loop form n places k₀ k = n - k
+
+count-of-requires : tie.Need-count-of-requires Inv-loop μ-loop
+count-of-requires c κs = search needs
+
+places-of-requires : tie.Need-places-of-requires Inv-loop μ-loop
+places-of-requires c κs = search needs
 
 loop-holds : tie.Need-loop-holds Inv-loop μ-loop
 loop-holds c = (omega arith, refl)
 
 mul-p : tie.Need-mul-p Inv-loop μ-loop
-mul-p c = omega (arith, count-few (c .before .before .pre))
+mul-p c = omega arith
 
-element-copy-out-p : tie.Need-element-copy-out-p Inv-loop μ-loop
-element-copy-out-p c = omega (arith, count-few (c .before .before .pre))
+array-copy-out-p : tie.Need-array-copy-out-p Inv-loop μ-loop
+array-copy-out-p c = omega arith
+
+abbrev start : tie.At-loop Inv-loop μ-loop → tie.Start Inv-loop μ-loop
+start c = c .before .before .before
+
+abbrev wall : tie.At-loop Inv-loop μ-loop → Wall
+wall c = panelsOf (start c .args .t)
+
+-- the places are the wall's
+its-places : (c : tie.At-loop Inv-loop μ-loop) → take (c .before .before .count-of .result) (c .before .places-of .result) ≡ wall c
+its-places c = held-first _ (c .before .places-of .ensures) (c .before .before .count-of .ensures)
+
+its-panel : (c : tie.In-loop Inv-loop μ-loop) (d : Panel) → let k = c .before .loop .k in getD (c .before .before .places-of .result) k d ≡ getD (wall (c .before)) k blank
+its-panel c d =
+    let k = c .before .loop .k in
+    ap (λ (l : Wall). getD l k d) (c .before .before .places-of .ensures) ∙ place-is _ k d (omega arith)
 
 -- a panel of the wall has all its values
-full : (c : tie.At-loop Inv-loop μ-loop) (d : Panel) → let t = c .before .args .t2 in c .loop .k < t .count → length (getD (t .panels) (c .loop .k) d .values) ≡ valueCount
-full c d h =
-    let f = c .before .pre in
-    ap (λ (p : Panel). length (p .values)) (in-wall f (c .loop .k) d h) ∙ good-at (panelsOf (c .before .args .t2)) (f .good) (c .loop .k) (omega (arith, count-is f)) .full
+full : (c : tie.In-loop Inv-loop μ-loop) (d : Panel) → length (getD (c .before .before .places-of .result) (c .before .loop .k) d .values) ≡ valueCount
+full c d =
+    let f = start (c .before) .pre in
+    ap (λ (p : Panel). length (p .values)) (its-panel c d) ∙ good-at (wall (c .before)) (f .good) (c .before .loop .k) (omega arith) .full
 
 slice-aggregate-keeps : tie.Need-slice-aggregate-keeps Inv-loop μ-loop
-slice-aggregate-keeps c = sym (full (c .before .before .before .before) _ (omega arith))
+slice-aggregate-keeps c = sym (full (c .before .before .before) _)
 
 keeps-requires : tie.Need-keeps-requires Inv-loop μ-loop
-keeps-requires c κs = full (c .before .before .before .before) _ (omega arith)
+keeps-requires c κs = full (c .before .before .before) _
 
 -- what is asked is whether the form keeps the wall's panel, and so the wall's answer from here on
 from-here : (c : tie.After-keeps Inv-loop μ-loop) (t : Bool) → c .keeps .result ≡ t → let loop = c .before .before .before .before .before in
-    let a = loop .before .args in
-    losesNothing (a .form) (panelsOf (a .t2)) ≡ t && losesNothing (a .form) (drop (loop .loop .k + 1) (panelsOf (a .t2)))
+    let form = start loop .args .form in
+    losesNothing form (wall loop) ≡ t && losesNothing form (drop (loop .loop .k + 1) (wall loop))
 from-here c t e =
-    let loop = c .before .before .before .before .before in
-    let a = loop .before .args in
-    let f = loop .before .pre in
-    let w = panelsOf (a .t2) in
+    let inside = c .before .before .before .before in
+    let loop = inside .before in
+    let form = start loop .args .form in
+    let w = wall loop in
     let k = loop .loop .k in
-    let kept = ap (λ (p : Panel). keeps (a .form) (p .profile) (p .values)) (sym (in-wall f k _ (omega arith))) ∙ sym (c .keeps .ensures) ∙ e in
-    loop .loop .inv .1 ∙ step (a .form) w k (omega (arith, count-is f)) ∙ ap (λ (t : Bool). t && losesNothing (a .form) (drop (k + 1) w)) kept
+    let kept = ap (λ (p : Panel). keeps form (p .profile) (p .values)) (sym (its-panel inside _)) ∙ sym (c .keeps .ensures) ∙ e in
+    (rw (its-places loop) at (loop .loop .inv .1)) ∙ step form w k (omega arith) ∙ ap (λ (t : Bool). t && losesNothing form (drop (k + 1) w)) kept
 
 returns : tie.Need-returns Inv-loop μ-loop
 returns c = sym (from-here (c .before) false (not-true _ (c .if1 .taken)))
 
 add-k : tie.Need-add-k Inv-loop μ-loop
-add-k c = omega (arith, count-few (c .before .before .before .before .before .before .before .pre))
+add-k c = omega arith
 
 loop-less : tie.Need-loop-less Inv-loop μ-loop
 loop-less c = omega arith
 
 loop-again : tie.Need-loop-again Inv-loop μ-loop
-loop-again c = (omega arith, from-here (c .before) true (not-false _ (c .if1 .left)))
+loop-again c = (omega arith, rw (its-places (c .before .before .before .before .before .before)) (from-here (c .before) true (not-false _ (c .if1 .left))))
 
 returns-2 : tie.Need-returns-2 Inv-loop μ-loop
 unfolding losesNothing
 returns-2 c =
     let loop = c .before in
-    let w = panelsOf (loop .before .args .t2) in
-    let all : loop .loop .k ≡ length w = omega (arith, count-is (loop .before .pre)) in
-    sym (loop .loop .inv .1 ∙ rw (all, drop-length w))
+    let w = wall loop in
+    let all : loop .loop .k ≡ length w = omega arith in
+    sym ((rw (its-places loop) at (loop .loop .inv .1)) ∙ ap (λ (l : Wall). losesNothing (start loop .args .form) l) (ap (λ (k : ℕ). drop k w) all ∙ drop-length w))
 
 pub loses-nothing-spec : {M : Type 1} → statement M
 loses-nothing-spec =
@@ -89,9 +111,11 @@ loses-nothing-spec =
     (tie.spec
     Inv-loop
     μ-loop
+    count-of-requires
+    places-of-requires
     loop-holds
     mul-p
-    element-copy-out-p
+    array-copy-out-p
     slice-aggregate-keeps
     keeps-requires
     returns

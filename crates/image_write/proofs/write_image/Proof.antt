@@ -9,7 +9,6 @@ use lib.ListN.{length, set, length-set, length-append, length-map}
 use Rattle.lists.specs.Lists.{each, laidOver, laidAt}
 use Rattle.panels.specs.Wall.{Wall, panelsOf}
 use Rattle.panels.specs.WellFormed.{GoodWall}
-use Rattle.panels.proofs.Laws.{count-is, count-few}
 use Rattle.forms.specs.declared.Form.{Form}
 use Rattle.forms.specs.Forms.{formByte}
 use Rattle.image_write.specs.declared.Written.the-variants.{Bytes}
@@ -89,29 +88,34 @@ enough c = omega (arith, c .before .size-of .ensures)
 
 -- and what is behind the records
 ends : (c : tie.Else2) → let a = start (c .before .before) .args in
-    (c .before .size-of .result - 2 ≡ panelSize (a .form) * length (panelsOf (a .t))) × (panelSize (a .form) * a .t .count ≡ recordSize (a .form) * a .t .count + 2 * a .t .count)
-ends c = let a = start (c .before .before) .args in (omega (arith, c .before .size-of .ensures), products (a .form) 0 (a .t .count) .0)
+    let n = length (panelsOf (a .t)) in
+    (c .before .size-of .result - 2 ≡ panelSize (a .form) * n) × (panelSize (a .form) * n ≡ recordSize (a .form) * n + 2 * n)
+ends c = let a = start (c .before .before) .args in (omega (arith, c .before .size-of .ensures), products (a .form) 0 (length (panelsOf (a .t))) .0)
+
+count-of-requires : tie.Need-count-of-requires
+count-of-requires c κs = search needs
 
 sub-end : tie.Need-sub-end
-sub-end c = omega (arith, c .before .size-of .ensures)
+sub-end c = omega (arith, c .before .before .size-of .ensures)
 
 records-requires : tie.Need-records-requires
 records-requires c κs =
-    let else2 = c .before in
+    let else2 = c .before .before in
     let s = start (else2 .before .before) in
-    let n = count-is (s .pre) in
-    (s .pre, omega (arith, rw (← n) at (enough else2), ends else2 .1))
+    (s .pre, omega (arith, enough else2, ends else2 .1))
 
 starts-requires : tie.Need-starts-requires
 starts-requires c κs =
     let records = c .before .before .before in
-    let else2 = records .before .before in
-    let s = start (else2 .before .before) in
-    let n = count-is (s .pre) in
-    (count-few (s .pre), omega (arith, rw (← n) at (enough else2), records .records .kept .1 .0))
+    let counted = records .before .before in
+    let else2 = counted .before in
+    let n = counted .count-of .ensures in
+    (omega (arith, start (else2 .before .before) .pre .few), rw n (omega (arith, enough else2, records .records .kept .1 .0)))
 
 cast-out : tie.Need-cast-out
-cast-out c = omega (arith, count-few (start (c .before .before .before .before .before .before .before .before .before .before) .pre))
+cast-out c =
+    let counted = c .before .before .before .before .before .before .before .before in
+    omega (arith, counted .count-of .ensures, start (counted .before .before .before) .pre .few)
 
 slice-write-out : tie.Need-slice-write-out
 slice-write-out c = search needs
@@ -132,13 +136,14 @@ returns-3 : tie.Need-returns-3
 returns-3 c =
     let starts = c .before .before .before in
     let records = starts .before .before .before .before in
-    let else2 = records .before .before in
+    let counted = records .before .before in
+    let else2 = counted .before in
     let else1 = else2 .before .before in
     let s = start else1 in
     let form = s .args .form in
     let w = panelsOf (s .args .t) in
     let out = s .args .out .now in
-    let n = count-is (s .pre) in
+    let n = counted .count-of .ensures in
     let size = else2 .before .size-of .ensures in
     let room = enough else2 in
     let (answer, after) = is-written form w out (all-held else1) room in
@@ -157,6 +162,7 @@ write-image-spec =
     returns
     size-of-requires
     returns-2
+    count-of-requires
     sub-end
     records-requires
     starts-requires
