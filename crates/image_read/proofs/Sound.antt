@@ -12,8 +12,7 @@ use Rattle.profiles.specs.Numbers.{ifKnown}
 use Rattle.settings.specs.Settings.{freshValues, valuesOf}
 use Rattle.lists.specs.Lists.{each}
 use Rattle.lists.proofs.Each.{length-each}
-use Rattle.panels.specs.declared.Table.{Table}
-use Rattle.panels.specs.Wall.{Wall, tableOf, panelsOf, mostPanels}
+use Rattle.panels.specs.Wall.{Wall, tableOf, mostPanels}
 use Rattle.panels.specs.WellFormed.{GoodWall, WellFormed}
 use Rattle.panels.proofs.Formed.{formed, empty-formed}
 use Rattle.panels.proofs.Values.{InRange}
@@ -59,16 +58,11 @@ pub panel-known : (form : Form) (bytes : List ℕ) (profile : Profile) → profi
 unfolding panelIn
 panel-known form bytes profile known = rw known
 
-pub good-with : (form : Form) (w : Wall) (bytes : List ℕ) → GoodWall w → isSound (recordRefusal form w bytes) ≡ true → GoodWall (wallWith form w bytes)
+good-with : (form : Form) (w : Wall) (bytes : List ℕ) → GoodWall w → isSound (recordRefusal form w bytes) ≡ true → GoodWall (wallWith form w bytes)
 good-with form w bytes good e =
     let (profile, head, known) = head-of form w bytes e in
     rw (panel-known form bytes profile known)
     (headed-good form w bytes profile head (fields-gathered form profile (drop (headSize form) bytes) .inRange) good)
-
-pub formed-with : (form : Form) {t : Table} → WellFormed t → length (panelsOf t) < mostPanels → (bytes : List ℕ)
-    → isSound (recordRefusal form (panelsOf t) bytes) ≡ true → WellFormed (tableOf (wallWith form (panelsOf t) bytes))
-formed-with form {t} f h bytes e =
-    formed (wallWith form (panelsOf t) bytes) (simp length-append (omega arith)) (good-with form (panelsOf t) bytes (f .good) e)
 
 -- record k of an image
 pub records-step : (form : Form) (image : List ℕ) (w : Wall) (k : ℕ) → k < countOf image

@@ -13,6 +13,7 @@ use forms::Form;
 use image_record::ID_COUNT;
 use packet::GroupId;
 use packet::MonitorId;
+use panels::MOST_PANELS;
 use panels::Panel;
 use profiles::Numbered;
 use refusals::Refusal;
@@ -55,7 +56,8 @@ pub fn all(image: &[u8]) -> Read
 {
     let form = image_whole::form_of(image);
     let n = image_whole::count_of(image);
-    let mut t = panels::empty_table();
+    let blank = panels::blank_panel();
+    let mut places = [blank; MOST_PANELS];
     let mut seen = [false; ID_COUNT];
     let mut start = 0;
     let mut k = 0;
@@ -69,13 +71,13 @@ pub fn all(image: &[u8]) -> Read
         }
         let panel = read.panel;
         seen[panel.id.0 as usize] = true;
-        t.panels[k] = panel;
+        places[k] = panel;
         k += 1;
-        t.count = k;
         start = end;
     }
+    let table = panels::table_of(places, k);
     Read {
         refusal: Refusal::Nothing,
-        table: t,
+        table,
     }
 }

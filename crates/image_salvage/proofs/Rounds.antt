@@ -6,7 +6,7 @@ use Prim.Native.Nat.{ℕ, _+_, _*_, _≤_, _<_}
 use native.Mathlib.Nat.{zero-add}
 use native.Mathlib.Numerals.{add-one}
 use native.Mathlib.Omega.{arith}
-use lib.ListN.{length, drop, set, replicate, length-append, length-set}
+use lib.ListN.{length, take, drop, set, replicate, length-set}
 use lib.Seq.{drop-length}
 use Rattle.settings.specs.declared.Profile.{Profile}
 use Rattle.settings.specs.Settings.{freshValues, rowCount}
@@ -16,11 +16,8 @@ use Rattle.profiles.specs.declared.Numbered.{Numbered}
 use Rattle.profiles.specs.declared.Numbered.the-variants.{Known, Unknown}
 use Rattle.profiles.specs.Numbers.{ifKnown}
 use Rattle.panels.specs.declared.Panel.{Panel}
-use Rattle.panels.specs.declared.Table.{Table}
-use Rattle.panels.specs.Wall.{Wall, tableOf, panelsOf, mostPanels}
-use Rattle.panels.specs.WellFormed.{WellFormed}
-use Rattle.panels.proofs.Laws.{panels-of-table, count-is, grown}
-use Rattle.panels.proofs.Formed.{formed, empty-formed}
+use Rattle.panels.specs.Wall.{Wall, blank, inPlaces, mostPanels}
+use Rattle.panels.proofs.Laws.{none-held, one-held}
 use Rattle.forms.specs.declared.Form.{Form}
 use Rattle.forms.specs.Forms.{headSize}
 use Rattle.faults.specs.declared.Fault.{Fault}
@@ -36,7 +33,7 @@ use Rattle.image_salvage.specs.Salvaged.{Salvage, behindFaults, salvaged
 use Rattle.image_salvage.specs.Private.Marked.{faultsBy, recordBy}
 use Rattle.image_salvage.proofs.Laying.{Laying, begun, one-more, all-laid}
 use Rattle.image_salvage.proofs.Bounds.{faults-few, lines-short}
-use Rattle.image_salvage.proofs.Sound.{record-dropped, record-kept, kept-good}
+use Rattle.image_salvage.proofs.Sound.{record-dropped, record-kept}
 
 module _ (form : Form) (number from : ℕ) (seen : List Bool) (bytes : List ℕ) where
   -- a record is kept where its head fits, and else dropped
@@ -76,49 +73,52 @@ module _ (image first : List ℕ) where
   left w k = salvagedFrom form w (drop k (recordsIn image))
 
   -- what is left comes to what the whole comes to, and its lines are still to be laid
-  pub record Round (lines : List ℕ) (t : Table) (seen : List Bool) (start next k : ℕ) : Type 0 where
+  pub record Round (lines : List ℕ) (places : Wall) (count : ℕ) (seen : List Bool) (start next k : ℕ) : Type 0 where
     pub few : k ≤ countOf image
     pub place : start ≡ edge image k
     pub room : next ≤ mostFaults * longestLine * k
-    pub good : WellFormed t
-    pub panels : length (panelsOf t) ≤ k
+    pub held : places ≡ inPlaces (take count places)
+    pub panels : count ≤ k
     pub full : length seen ≡ 256
-    pub marks : Marks seen (panelsOf t)
-    pub laying : Laying 0 first (textOf whole) lines next (textFrom (k + 1) (left (panelsOf t) k .faults))
-    pub kept : left (panelsOf t) k .wall ≡ whole .wall
+    pub marks : Marks seen (take count places)
+    pub laying : Laying 0 first (textOf whole) lines next (textFrom (k + 1) (left (take count places) k .faults))
+    pub kept : left (take count places) k .wall ≡ whole .wall
 
   -- at last
-  pub record All (lines : List ℕ) (t : Table) (next : ℕ) : Type 0 where
-    pub kept : t ≡ tableOf (whole .wall)
+  pub record All (lines : List ℕ) (w : Wall) (next : ℕ) : Type 0 where
+    pub kept : w ≡ whole .wall
     pub told : next ≡ length (textOf whole)
     pub laid : lines ≡ laidOver (textOf whole) first
 
-  pub begins : Fits image → {t : Table} → t ≡ tableOf [] → Round first t (replicate 256 false) 0 0 0
-  begins f {t} e =
-      let none : panelsOf t ≡ [] = ap (λ (t : Table). panelsOf t) e ∙ panels-of-table [] in
+  pub begins : Fits image → {p : Panel} → p ≡ blank → Round first (replicate mostPanels p) 0 (replicate 256 false) 0 0 0
+  begins f e =
       record {
         few = omega arith;
         place = sym (first-edge f);
         room = omega arith;
-        good = subst WellFormed (sym e) empty-formed;
-        panels = rw none (omega arith);
+        held = ap (replicate mostPanels) e ∙ none-held;
+        panels = omega arith;
         full = refl;
-        marks = subst (Marks (replicate 256 false)) (sym none) (none-marked 256);
-        laying = rw none (begun 0 first (textOf whole) (omega arith));
-        kept = rw none;
+        marks = none-marked 256;
+        laying = begun 0 first (textOf whole) (omega arith);
+        kept = refl;
       }
 
-  module _ {lines : List ℕ} {t : Table} {seen : List Bool} {start next k : ℕ} (r : Round lines t seen start next k) where
+  module _ {lines : List ℕ} {places : Wall} {count : ℕ} {seen : List Bool} {start next k : ℕ} (r : Round lines places count seen start next k) where
+    -- the panels so far
+    abbrev wall : Wall
+    wall = take count places
+
     -- no records are left
-    pub ended : countOf image ≤ k → All lines t next
+    pub ended : countOf image ≤ k → All lines wall next
     unfolding salvagedFrom textFrom
     ended h =
         let all : k ≡ length (recordsIn image) = omega (arith, record-count image, r .few) in
         let none : drop k (recordsIn image) ≡ [] = rw all (drop-length (recordsIn image)) in
-        let rest : left (panelsOf t) k ≡ record { wall = panelsOf t; faults = [] } = rw none in
+        let rest : left wall k ≡ record { wall = wall; faults = [] } = rw none in
         let (n, l) = all-laid (subst (λ (s : Salvage). Laying 0 first (textOf whole) lines next (textFrom (k + 1) (s .faults))) rest (r .laying)) (omega arith) in
         record {
-          kept = r .good .held ∙ ap (λ (s : Salvage). tableOf (s .wall)) (sym rest) ∙ ap tableOf (r .kept);
+          kept = ap (λ (s : Salvage). s .wall) (sym rest) ∙ r .kept;
           told = n ∙ zero-add (length (textOf whole));
           laid = l ∙ laid-over (textOf whole) first;
         }
@@ -137,13 +137,13 @@ module _ (image first : List ℕ) where
       piece-room = omega (arith, r .room, r .laying .long, f .few)
 
       -- a record's lines are laid, and its faults were the next
-      told-on : (v : Wall) → left (panelsOf t) k .faults ≡ faultsBy form seen bytes ∷ left v (k + 1) .faults → {after : List ℕ} {place : ℕ}
+      told-on : (v : Wall) → left wall k .faults ≡ faultsBy form seen bytes ∷ left v (k + 1) .faults → {after : List ℕ} {place : ℕ}
           → after ≡ laidAt next piece lines → place ≡ read .next
           → Laying 0 first (textOf whole) after place (textFrom (k + 1 + 1) (left v (k + 1) .faults))
       unfolding textFrom recordBy
       told-on v e {after} {place} laid placed =
           let rest = textFrom (k + 1 + 1) (left v (k + 1) .faults) in
-          let text : textFrom (k + 1) (left (panelsOf t) k .faults) ≡ piece ++ rest = rw e (rw (← add-one (k + 1))) in
+          let text : textFrom (k + 1) (left wall k .faults) ≡ piece ++ rest = rw e (rw (← add-one (k + 1))) in
           let l = one-more piece (subst (Laying 0 first (textOf whole) lines next) text (r .laying)) (omega (arith, r .room, f .few, lines-few form (k + 1) next seen bytes)) in
           subst (λ (s : List ℕ). Laying 0 first (textOf whole) s place rest) (sym laid)
           (subst (λ (n : ℕ). Laying 0 first (textOf whole) (laidAt next piece lines) n rest) (sym placed) l)
@@ -152,26 +152,26 @@ module _ (image first : List ℕ) where
       unfolding recordBy
       place-on e = omega (arith, e, r .room, lines-few form (k + 1) next seen bytes)
 
-      here : left (panelsOf t) k ≡ salvagedFrom form (panelsOf t) (bytes ∷ drop (k + 1) (recordsIn image))
-      here = ap (salvagedFrom form (panelsOf t)) (record-next image k more)
+      here : left wall k ≡ salvagedFrom form wall (bytes ∷ drop (k + 1) (recordsIn image))
+      here = ap (salvagedFrom form wall) (record-next image k more)
 
       -- one record more, where what the code has is what it should have: dropped
       pub dropped-on : {after : List ℕ} {place : ℕ} {end : ℕ} → read .kept ≡ false → after ≡ laidAt next piece lines → place ≡ read .next → end ≡ edge image (k + 1)
-          → Round after t seen end place (k + 1)
+          → Round after places count seen end place (k + 1)
       unfolding faultsBy
       dropped-on e laid placed end =
           let unknown = dropped-by form (k + 1) next seen bytes e in
-          let is = here ∙ record-dropped form (panelsOf t) bytes _ (sym (head-alike (r .marks) form bytes) ∙ unknown) in
+          let is = here ∙ record-dropped form wall bytes _ (sym (head-alike (r .marks) form bytes) ∙ unknown) in
           let faults : faultsBy form seen bytes ≡ Dropped ∷ [] = rw unknown in
           record {
             few = more-suc;
             place = end;
             room = place-on placed;
-            good = r .good;
+            held = r .held;
             panels = omega (arith, r .panels);
             full = r .full;
             marks = r .marks;
-            laying = told-on (panelsOf t) (ap (λ (s : Salvage). s .faults) is ∙ ap (λ (fs : List Fault). fs ∷ left (panelsOf t) (k + 1) .faults) (sym faults)) laid placed;
+            laying = told-on wall (ap (λ (s : Salvage). s .faults) is ∙ ap (λ (fs : List Fault). fs ∷ left wall (k + 1) .faults) (sym faults)) laid placed;
             kept = ap (λ (s : Salvage). s .wall) (sym is) ∙ r .kept;
           }
         where
@@ -181,29 +181,25 @@ module _ (image first : List ℕ) where
       -- or kept
       pub kept-on : {after : List ℕ} {place end : ℕ} → read .kept ≡ true → after ≡ laidAt next piece lines → place ≡ read .next → end ≡ edge image (k + 1)
           → {panel : Panel} → panel ≡ read .panel → panel .id .0 < 256
-          → Round after (record { panels = set (t .panels) (t .count) panel; count = t .count + 1 }) (set seen (panel .id .0) true) end place (k + 1)
+          → Round after (set places count panel) (count + 1) (set seen (panel .id .0) true) end place (k + 1)
       unfolding faultsBy recordBy
       kept-on e laid placed end {panel} panel-is small =
           let (profile, known) = kept-by form (k + 1) next seen bytes e in
           let kept = keptOf form profile (drop (headSize form) bytes) in
           let fits = sym (head-alike (r .marks) form bytes) ∙ known in
           let same : panel ≡ headed bytes profile (kept .values) = panel-is ∙ rw known in
-          let v = panelsOf t ++ panel ∷ [] in
-          let wall : panelsOf t ++ headed bytes profile (kept .values) ∷ [] ≡ v = ap (λ (p : Panel). panelsOf t ++ p ∷ []) (sym same) in
-          let is : left (panelsOf t) k ≡ behindFaults (kept .faults) (left v (k + 1)) =
-          here ∙ record-kept form (panelsOf t) bytes _ profile fits ∙ ap (λ (v : Wall). behindFaults (kept .faults) (salvagedFrom form v (drop (k + 1) (recordsIn image)))) wall in
+          let v = wall ++ panel ∷ [] in
+          let with : wall ++ headed bytes profile (kept .values) ∷ [] ≡ v = ap (λ (p : Panel). wall ++ p ∷ []) (sym same) in
+          let is : left wall k ≡ behindFaults (kept .faults) (left v (k + 1)) =
+          here ∙ record-kept form wall bytes _ profile fits ∙ ap (λ (v : Wall). behindFaults (kept .faults) (salvagedFrom form v (drop (k + 1) (recordsIn image)))) with in
           let faults : faultsBy form seen bytes ≡ kept .faults = rw known in
-          let few : t .count < mostPanels = omega (arith, count-is (r .good), r .panels, f .few) in
-          let table = grown (r .good) few panel in
-          let on : panelsOf (record { panels = set (t .panels) (t .count) panel; count = t .count + 1 }) ≡ v = ap (λ (t : Table). panelsOf t) table ∙ panels-of-table v in
-          let good = subst (λ (v : Wall). WellFormed (tableOf v)) wall
-          (formed _ (simp length-append (omega (arith, count-is (r .good)))) (kept-good form (panelsOf t) bytes profile fits (r .good .good))) in
+          let (held, on) = one-held places count panel (omega (arith, r .panels, f .few)) (r .held) in
           record {
             few = omega arith;
             place = end;
             room = place-on placed;
-            good = subst WellFormed (sym table) good;
-            panels = rw on (simp length-append (omega (arith, r .panels)));
+            held = held;
+            panels = omega (arith, r .panels);
             full = length-set seen (panel .id .0) true ∙ r .full;
             marks = subst (Marks (set seen (panel .id .0) true)) (sym on) (one-marked panel (r .marks) (omega (arith, r .full)));
             laying = rw on (told-on v (ap (λ (s : Salvage). s .faults) is ∙ ap (λ (fs : List Fault). fs ∷ left v (k + 1) .faults) (sym faults)) laid placed);

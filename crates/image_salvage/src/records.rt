@@ -1,7 +1,6 @@
 // The records of an image that is sound as a whole, one after the other: dropped, or kept as a panel behind the last.
 ghost use mathlib.Core.Path.{_≡_};
 ghost use mathlib.Core.Bool.{true};
-ghost use mathlib.Core.List.{[]};
 ghost use Prim.Native.Nat.{_+_, _*_, _≤_, _<_};
 ghost use lib.ListN.{length};
 ghost use Rattle.lists.specs.Lists.{laidAt, laidOver};
@@ -20,6 +19,7 @@ use forms::Form;
 use image_record::ID_COUNT;
 use packet::GroupId;
 use packet::MonitorId;
+use panels::MOST_PANELS;
 use panels::Panel;
 use profiles::Numbered;
 use refusals::Refusal;
@@ -73,7 +73,9 @@ pub fn all(image: &[u8], lines: &mut [u8; LINES_CAP]) -> Salvaged
 {
     let form = image_whole::form_of(image);
     let n = image_whole::count_of(image);
-    let mut t = panels::empty_table();
+    let blank = panels::blank_panel();
+    let mut places = [blank; MOST_PANELS];
+    let mut count = 0;
     let mut seen = [false; ID_COUNT];
     let mut start = 0;
     let mut next = 0;
@@ -87,14 +89,14 @@ pub fn all(image: &[u8], lines: &mut [u8; LINES_CAP]) -> Salvaged
         if record.kept {
             let panel = record.panel;
             seen[panel.id.0 as usize] = true;
-            let count = t.count;
-            t.panels[count] = panel;
-            t.count = count + 1;
+            places[count] = panel;
+            count += 1;
         }
     }
+    let table = panels::table_of(places, count);
     Salvaged {
         refusal: Refusal::Nothing,
-        table: t,
+        table,
         told: next,
     }
 }

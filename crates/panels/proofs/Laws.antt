@@ -81,6 +81,20 @@ first-many {l} n h e =
     let m : length l ≡ mostPanels = ap length e ∙ places-many (take n l) (simp length-take (omega arith)) in
     length-take-le n l (omega arith)
 
+-- places that are filled one after the other: none yet, one more
+pub none-held : replicate mostPanels blank ≡ inPlaces []
+unfolding inPlaces
+none-held = refl
+
+pub one-held : (l : List Panel) (n : ℕ) (p : Panel) → n < mostPanels → l ≡ inPlaces (take n l)
+    → (set l n p ≡ inPlaces (take (n + 1) (set l n p))) × (take (n + 1) (set l n p) ≡ take n l ++ p ∷ [])
+one-held l n p h e =
+    let w = take n l in
+    let m : length w ≡ n = first-many n (omega arith) e in
+    let on : set l n p ≡ inPlaces (w ++ p ∷ []) = ap₂ (λ (l : Wall) (k : ℕ). set l k p) e (sym m) ∙ grown-places w p (omega arith) in
+    let first = held-first (n + 1) on (simp length-append (omega arith)) in
+    (on ∙ ap inPlaces (sym first), first)
+
 pub panels-of-table : (w : Wall) → panelsOf (tableOf w) ≡ w
 unfolding tableOf
 panels-of-table w = taken w

@@ -9,7 +9,7 @@ use lib.ListN.{length, take, drop}
 use Rattle.lists.specs.Lists.{laidAt}
 use Rattle.forms.specs.declared.Form.{Form}
 use Rattle.panels.specs.declared.Table.{Table}
-use Rattle.panels.proofs.Laws.{count-is}
+use Rattle.panels.specs.Wall.{tableOf, mostPanels}
 use Rattle.refusals.specs.declared.Refusal.the-variants.{Nothing}
 use Rattle.image_whole.specs.Whole.{formOf, countOf, edge, wholeRefusal, recordIn}
 use Rattle.image_whole.proofs.Edges.{Fits, fits, edge-less, edge-inside, sound-nothing}
@@ -22,10 +22,10 @@ use Rattle.image_salvage.proofs.records.all.Statement.{statement}
 use Rattle.image_salvage.proofs.records.all.Tie as tie
 
 abbrev Inv-loop : tie.InvT-loop
-Inv-loop image lines₀ form n t₀ seen₀ start₀ next₀ k₀ lines t seen start next k = Round image lines₀ lines t seen start next k
+Inv-loop image lines₀ form n places₀ count₀ seen₀ start₀ next₀ k₀ lines places count seen start next k = Round image lines₀ lines places count seen start next k
 
 abbrev μ-loop : tie.MeasureT-loop
-μ-loop image lines₀ form n t₀ seen₀ start₀ next₀ k₀ lines t seen start next k = n - k
+μ-loop image lines₀ form n places₀ count₀ seen₀ start₀ next₀ k₀ lines places count seen start next k = n - k
 
 abbrev start : tie.At-loop Inv-loop μ-loop → tie.Start Inv-loop μ-loop
 start c = c .before .before .before .before .before
@@ -82,13 +82,13 @@ form-of-requires c κs = image-fits (c .before) .two
 count-of-requires : tie.Need-count-of-requires Inv-loop μ-loop
 count-of-requires c κs = image-fits (c .before .before) .two
 
-empty-table-requires : tie.Need-empty-table-requires Inv-loop μ-loop
-empty-table-requires c κs = search needs
+blank-panel-requires : tie.Need-blank-panel-requires Inv-loop μ-loop
+blank-panel-requires c κs = search needs
 
 loop-holds : tie.Need-loop-holds Inv-loop μ-loop
 loop-holds c =
     let s = c .before .before .before .before in
-    begins (s .args .image .now) (s .args .lines .now) (image-fits s) (c .empty-table .ensures)
+    begins (s .args .image .now) (s .args .lines .now) (image-fits s) (c .blank-panel .ensures)
 
 add-edge-at : tie.Need-add-edge-at Inv-loop μ-loop
 add-edge-at c = omega (arith, more c)
@@ -123,23 +123,21 @@ cast-seen c = search needs
 array-write-seen : tie.Need-array-write-seen Inv-loop μ-loop
 array-write-seen c = search needs
 
-mul-panel : tie.Need-mul-panel Inv-loop μ-loop
-mul-panel c =
-    let loop = c .before .before .before .before .before .before .before .before .before in
+-- there is a place left for its panel
+room : (c : tie.After-struct-known Inv-loop μ-loop) → let loop = c .before .before .before .before .before .before .before .before .before in loop .loop .count < mostPanels
+room c =
     let in-loop = c .before .before .before .before .before .before .before .before in
-    omega (arith, count-is (loop .loop .inv .good), loop .loop .inv .panels, more in-loop, image-fits (start loop) .few)
+    let loop = in-loop .before in
+    omega (arith, loop .loop .inv .panels, more in-loop, image-fits (start loop) .few)
 
-element-set-from-panel : tie.Need-element-set-from-panel Inv-loop μ-loop
-element-set-from-panel c =
-    let loop = c .before .before .before .before .before .before .before .before .before in
-    let in-loop = c .before .before .before .before .before .before .before .before in
-    omega (arith, count-is (loop .loop .inv .good), loop .loop .inv .panels, more in-loop, image-fits (start loop) .few)
+mul-places : tie.Need-mul-places Inv-loop μ-loop
+mul-places c = omega (arith, room c)
 
-add-t : tie.Need-add-t Inv-loop μ-loop
-add-t c =
-    let loop = c .before .before .before .before .before .before .before .before .before in
-    let in-loop = c .before .before .before .before .before .before .before .before in
-    omega (arith, count-is (loop .loop .inv .good), loop .loop .inv .panels, more in-loop, image-fits (start loop) .few)
+array-set-from-places : tie.Need-array-set-from-places Inv-loop μ-loop
+array-set-from-places c = room c
+
+add-count : tie.Need-add-count Inv-loop μ-loop
+add-count c = omega (arith, room c)
 
 loop-less : tie.Need-loop-less Inv-loop μ-loop
 loop-less c = omega (arith, c .before .before .before .before .before .before .before .before .loop-test .taken)
@@ -168,15 +166,21 @@ loop-again-2 c =
     dropped-on _ _ (loop .loop .inv) (image-fits (start loop)) (enough (one .before)) (more in-loop) (ap (λ (r : KeptRecord). r .kept) (sym is) ∙ c .if1 .left) laid
     (ap (λ (r : KeptRecord). r .next) is) (at-edge .edge-at .ensures)
 
+table-of-requires : tie.Need-table-of-requires Inv-loop μ-loop
+table-of-requires c κs =
+    let loop = c .before in
+    (omega (arith, loop .loop .inv .panels, loop .loop .inv .few, image-fits (start loop) .few), loop .loop .inv .held)
+
 returns : tie.Need-returns Inv-loop μ-loop
 unfolding salvageOf
 returns c =
-    let loop = c .before in
+    let loop = c .before .before in
     let s = start loop in
     let image = s .args .image .now in
-    let all = ended _ _ (loop .loop .inv) (omega (arith, n-is loop, c .loop-test .left)) in
+    let all = ended _ _ (loop .loop .inv) (omega (arith, n-is loop, c .before .loop-test .left)) in
+    let table = c .table-of .ensures ∙ ap tableOf (all .kept) in
     rw (sound-nothing (wholeRefusal image) (s .pre))
-    (ap₂ {C = Salvaged} (λ (t : Table) (n : ℕ). record { refusal = Nothing; table = t; told = n }) (all .kept) (all .told), all .laid)
+    (ap₂ {C = Salvaged} (λ (t : Table) (n : ℕ). record { refusal = Nothing; table = t; told = n }) table (all .told), all .laid)
 
 pub all-spec : {M : Type 1} → statement M
 all-spec =
@@ -186,7 +190,7 @@ all-spec =
     μ-loop
     form-of-requires
     count-of-requires
-    empty-table-requires
+    blank-panel-requires
     loop-holds
     add-edge-at
     edge-at-requires
@@ -198,11 +202,12 @@ all-spec =
     record-requires
     cast-seen
     array-write-seen
-    mul-panel
-    element-set-from-panel
-    add-t
+    mul-places
+    array-set-from-places
+    add-count
     loop-less
     loop-again
     loop-less-2
     loop-again-2
+    table-of-requires
     returns)
