@@ -17,8 +17,8 @@ use Rattle.models.proofs.Filled.{filled-other}
 use Rattle.packet.specs.declared.MonitorId.{MonitorId}
 use Rattle.packet.specs.declared.GroupId.{GroupId}
 use Rattle.packet.specs.declared.Verdict.{Verdict}
-use Rattle.packet.specs.declared.Verdict.the-variants.{Empty, Damaged, Intact}
-use Rattle.packet.specs.Packet.{verdictOf, dataOf}
+use Rattle.packet.specs.declared.Addressee.{Addressee}
+use Rattle.packet.specs.Reading.{Reading}
 use Rattle.panels.specs.declared.Panel.{Panel}
 use Rattle.panels.specs.declared.Table.{Table}
 use Rattle.panels.specs.Wall.{Wall, modelOf, tableOf, panelsOf}
@@ -27,7 +27,7 @@ use Rattle.panels.specs.WellFormed.{GoodPanel, GoodWall, WellFormed}
 use Rattle.panels.proofs.Values.{with-own, set-row, other-row, with-in-range}
 use Rattle.panels.proofs.Formed.{formed, good-map}
 use Rattle.answers.specs.Judged.{Command, getOf, setOf, unavailable, command, notAvailable, taken, offAlready, heldThen, takes, judge, stored, panelAfter}
-use Rattle.answers.specs.Played.{turned, playedBy, played}
+use Rattle.answers.specs.Played.{turned, answeredBy, answered}
 use Rattle.answers.proofs.Orders.{OnLine, on-line, taken-allowed}
 
 -- storing what a row has changes nothing
@@ -112,19 +112,21 @@ turned-good i g c s p ok = go (reaches i g p)
     go true = judged-good c s p ok
     go false = ok
 
-by-verdict-good : (v : Verdict) (w : Wall) (b : List ℕ) → GoodWall w → (GoodWall (playedBy v w b .wall)) × (length (playedBy v w b .wall) ≡ length w)
-by-verdict-good Empty w b good = (good, refl)
-by-verdict-good (Damaged d) w b good = (good, refl)
-by-verdict-good (Intact i g n) w b good =
-    let c = command (dataOf b (Intact i g n)) in
-    (good-map (turned i g c) (turned-id i g c) (turned-good i g c (on-line (dataOf b (Intact i g n)))) w good, length-map w (turned i g c))
+by-verdict : (v : Verdict) (w : Wall) (d : List ℕ) (a : Addressee)
+    → let o = answeredBy v w d a in (GoodWall w → GoodWall (o .wall)) × (length (o .wall) ≡ length w)
+by-verdict Verdict.Empty w d a = (λ good. good, refl)
+by-verdict (Verdict.Damaged damage) w d a = (λ good. good, refl)
+by-verdict (Verdict.Intact i g n) w d a =
+    let c = command d in
+    (good-map (turned i g c) (turned-id i g c) (turned-good i g c (on-line d)) w, length-map w (turned i g c))
 
-pub played-good : (w : Wall) (b : List ℕ) → GoodWall w → GoodWall (played w b .wall)
-unfolding played
-played-good w b good = by-verdict-good (verdictOf b) w b good .0
+-- no panel comes or goes
+pub answered-count : (w : Wall) (r : Reading) → length (answered w r .wall) ≡ length w
+unfolding answered
+answered-count w r = by-verdict (r .verdict) w (r .part) (r .seems) .1
 
-pub played-formed : {t : Table} → WellFormed t → (b : List ℕ) → WellFormed (tableOf (played (panelsOf t) b .wall))
-unfolding played
-played-formed {t} f b =
-    let (good, n) = by-verdict-good (verdictOf b) (panelsOf t) b (f .good) in
-    formed _ (omega (arith, f .few)) good
+pub answered-formed : {t : Table} → WellFormed t → (r : Reading) → WellFormed (tableOf (answered (panelsOf t) r .wall))
+unfolding answered
+answered-formed {t} f r =
+    let (good, n) = by-verdict (r .verdict) (panelsOf t) (r .part) (r .seems) in
+    formed _ (omega (arith, f .few)) (good (f .good))

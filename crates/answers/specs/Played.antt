@@ -1,15 +1,16 @@
 -- The outcome of a burst. 01, "Answering a burst, in this order".
 use Prim.Native.Nat.{ℕ}
-use mathlib.Core.Bool.{cond, _&&_}
+use mathlib.Core.Bool.{cond}
 use mathlib.Core.List.{List, map}
-use lib.Dec.{leb, eqb}
-use lib.ListN.{length, getD}
+use lib.ListN.{getD}
 use Rattle.packet.specs.declared.MonitorId.{MonitorId}
 use Rattle.packet.specs.declared.GroupId.{GroupId}
 use Rattle.packet.specs.declared.Verdict.{Verdict}
 use Rattle.packet.specs.declared.Verdict.the-variants.{Empty, Damaged, Intact}
 use Rattle.packet.specs.declared.Control.the-variants.{Nack}
-use Rattle.packet.specs.Packet.{monitorId, damageOf, verdictOf, dataOf}
+use Rattle.packet.specs.declared.Addressee.{Addressee}
+use Rattle.packet.specs.Packet.{damageIn}
+use Rattle.packet.specs.Reading.{Reading, readingOf}
 use Rattle.panels.specs.declared.Panel.{Panel}
 use Rattle.panels.specs.declared.Place.{Place}
 use Rattle.panels.specs.declared.Place.the-variants.{At, Nowhere}
@@ -38,20 +39,26 @@ replyFrom w i c (At k) = replyBy i (judge c (getD w k blank))
 abbrev pub playedPacket : Wall → MonitorId → GroupId → Command → Outcome
 playedPacket w i g c = record { wall = map (turned i g c) w; reply = cond (isHeard i g) (replyFrom w i c (placeOf i w)) silence }
 
--- NACK if there are at least 3 bytes, the third is 0 and the second is a panel's ID
-unfoldable pub damagedReply : Wall → List ℕ → Reply
-damagedReply w burst =
-    let i = monitorId (getD burst 1 0) in
-    cond (leb 3 (length burst) && eqb (getD burst 2 0) 0) (ifThere (placeOf i w) (wordFrom i Nack) silence) silence
+-- NACK if the ID that a damaged burst seems to be for is a panel's
+abbrev pub nackFrom : Wall → Addressee → Reply
+nackFrom w Addressee.Nobody = silence
+nackFrom w (Addressee.One i) = ifThere (placeOf i w) (wordFrom i Nack) silence
 
-abbrev pub playedBy : Verdict → Wall → List ℕ → Outcome
-playedBy Empty w burst = record { wall = w; reply = silence }
-playedBy (Damaged damage) w burst = record { wall = w; reply = damagedReply w burst }
-playedBy (Intact i g n) w burst = playedPacket w i g (command (dataOf burst (Intact i g n)))
+abbrev pub answeredBy : Verdict → Wall → List ℕ → Addressee → Outcome
+answeredBy Empty w d seems = record { wall = w; reply = silence }
+answeredBy (Damaged damage) w d seems = record { wall = w; reply = nackFrom w seems }
+answeredBy (Intact i g n) w d seems = playedPacket w i g (command d)
 
-unfoldable pub played : Wall → List ℕ → Outcome
-played w burst = playedBy (verdictOf burst) w burst
+-- what was read of a burst is all that counts
+unfoldable pub answered : Wall → Reading → Outcome
+answered w r = answeredBy (r .verdict) w (r .part) (r .seems)
+
+abbrev pub played : Wall → List ℕ → Outcome
+played w burst = answered w (readingOf burst)
 
 -- the same of a table; and what is wrong with the burst, which is a fact about the burst alone (02, A3)
+abbrev pub answeredOn : Table → Reading → Played
+answeredOn t r = let o = answered (panelsOf t) r in record { table = tableOf (o .wall); reply = o .reply; damage = damageIn (r .verdict) }
+
 abbrev pub playedOn : Table → List ℕ → Played
-playedOn t burst = let o = played (panelsOf t) burst in record { table = tableOf (o .wall); reply = o .reply; damage = damageOf burst }
+playedOn t burst = answeredOn t (readingOf burst)

@@ -8,7 +8,7 @@ use packet::Control;
 use packet::Damage;
 use packet::MonitorId;
 use panels::Table;
-pub use playing::damaged_reply;
+pub use playing::answered_on;
 pub use playing::play;
 use settings::MOST_VALUES;
 

@@ -11,7 +11,7 @@ ghost use Rattle.packet.specs.Answered.{isHeard};
 ghost use Rattle.panels.specs.WellFormed.{WellFormed};
 ghost use Rattle.answers.specs.Judged.{setOf, command};
 ghost use Rattle.answers.specs.Private.Orders.{orderOf, allowedBy, inTable, asked};
-ghost use Rattle.answers.specs.Played.{turned, playedPacket, damagedReply, playedBy, playedOn};
+ghost use Rattle.answers.specs.Played.{turned, playedPacket, nackFrom, answeredBy, answeredOn, playedOn};
 use crate::Order;
 use crate::PROFILE_COUNT;
 use crate::Played;
@@ -19,6 +19,7 @@ use crate::Reply;
 use crate::Turned;
 use crate::answering;
 use crate::judging;
+use packet::Addressee;
 use packet::Control;
 use packet::GroupId;
 use packet::MonitorId;
@@ -128,17 +129,13 @@ fn play_unheard(t: Table, id: MonitorId, group: GroupId, d: &[u8]) -> Turned
 }
 
 // A damaged burst: NACK from the panel that it seems to be for.
-pub fn damaged_reply(t: Table, burst: &[u8]) -> Reply
+fn nack_from(t: Table, seems: Addressee) -> Reply
     requires { ⌜ WellFormed t ⌝ }
-    ensures { λ r. ⌜ r ≡ damagedReply (panelsOf t) (now (burst .entry)) ⌝ }
+    ensures { λ r. ⌜ r ≡ nackFrom (panelsOf t) seems ⌝ }
 {
-    if burst.len() < 3 {
+    let Addressee::One(id) = seems else {
         return answering::no_reply();
-    }
-    if burst[2] != 0 {
-        return answering::no_reply();
-    }
-    let id = MonitorId(burst[1]);
+    };
     let place = panels::find_panel(t, id);
     match place {
         Place::At(_) => answering::word_from(id, Control::Nack),
@@ -147,9 +144,9 @@ pub fn damaged_reply(t: Table, burst: &[u8]) -> Reply
 }
 
 // A burst with this verdict.
-fn play_by(t: Table, verdict: Verdict, burst: &[u8]) -> Turned
+fn play_by(t: Table, verdict: Verdict, d: &[u8], seems: Addressee) -> Turned
     requires { ⌜ WellFormed t ⌝ }
-    ensures { λ r. ⌜ r ≡ inTable (playedBy verdict (panelsOf t) (now (burst .entry))) ⌝ }
+    ensures { λ r. ⌜ r ≡ inTable (answeredBy verdict (panelsOf t) (now (d .entry)) seems) ⌝ }
 {
     match verdict {
         Verdict::Empty => {
@@ -157,7 +154,7 @@ fn play_by(t: Table, verdict: Verdict, burst: &[u8]) -> Turned
             Turned { table: t, reply }
         }
         Verdict::Damaged(_) => {
-            let reply = damaged_reply(t, burst);
+            let reply = nack_from(t, seems);
             Turned { table: t, reply }
         }
         Verdict::Intact {
@@ -165,12 +162,27 @@ fn play_by(t: Table, verdict: Verdict, burst: &[u8]) -> Turned
             group,
             count: _,
         } => {
-            let d = packet::data_part(burst, verdict);
             if packet::is_answered(id, group) {
                 return play_heard(t, id, d);
             }
             play_unheard(t, id, group, d)
         }
+    }
+}
+
+// The answer to what was read of a burst: its verdict, its data, and whom it seems to be for if it is damaged.
+pub fn answered_on(t: Table, verdict: Verdict, d: &[u8], seems: Addressee) -> Played
+    requires { ⌜ WellFormed t ⌝ }
+    ensures { λ r. ⌜ r ≡ answeredOn t (record { verdict = verdict; part = now (d .entry); seems = seems }) ⌝ }
+{
+    let turned = play_by(t, verdict, d, seems);
+    let table = turned.table;
+    let reply = turned.reply;
+    let damage = packet::damage_in(verdict);
+    Played {
+        table,
+        reply,
+        damage,
     }
 }
 
@@ -180,13 +192,7 @@ pub fn play(t: Table, burst: &[u8]) -> Played
     ensures { λ r. ⌜ r ≡ playedOn t (now (burst .entry)) ⌝ }
 {
     let verdict = packet::verdict_on(burst);
-    let damage = packet::damage_in(verdict);
-    let turned = play_by(t, verdict, burst);
-    let table = turned.table;
-    let reply = turned.reply;
-    Played {
-        table,
-        reply,
-        damage,
-    }
+    let d = packet::data_part(burst, verdict);
+    let seems = packet::seems_for(burst);
+    answered_on(t, verdict, d, seems)
 }

@@ -12,38 +12,44 @@ use Rattle.packet.specs.declared.MonitorId.{MonitorId}
 use Rattle.packet.specs.declared.GroupId.{GroupId}
 use Rattle.packet.specs.declared.Verdict.{Verdict}
 use Rattle.packet.specs.declared.Verdict.the-variants.{Empty, Damaged, Intact}
-use Rattle.packet.specs.Packet.{verdictOf, dataOf}
+use Rattle.packet.specs.Reading.{readingOf}
 use Rattle.panels.specs.declared.Panel.{Panel}
 use Rattle.panels.specs.Wall.{Wall, blank, panelsOf}
 use Rattle.panels.specs.Addressed.{reaches}
 use Rattle.panels.specs.WellFormed.{GoodPanel}
 use Rattle.panels.proofs.Formed.{good-at}
 use Rattle.answers.specs.Judged.{Command, getOf, setOf, unavailable, command, heldThen, takes, judge, stored}
-use Rattle.answers.specs.Played.{turned, playedBy, played}
+use Rattle.answers.specs.Played.{turned, answeredBy, answered, played}
 use Rattle.answers.proofs.Orders.{taken-allowed}
 use Rattle.answers.proofs.Formed.{stored-own, stored-twice, turned-keeps}
 use Rattle.answers.proofs.Turns.{stays}
-use Rattle.line.specs.Session.{byBurst, session}
+use Rattle.answers.specs.Session.{byBurst, session}
 use Rattle.demands.specs.Again.{addressedBy, Again, done, again, other, SentAgain}
 
--- what a burst makes of a panel, and bursts one after the other
+-- what a burst with this verdict and data makes of a panel, and bursts one after the other
 abbrev changedBy : Verdict → List ℕ → Panel → Panel
-changedBy Empty b p = p
-changedBy (Damaged d) b p = p
-changedBy (Intact i g n) b p = turned i g (command (dataOf b (Intact i g n))) p
+changedBy Empty d p = p
+changedBy (Damaged damage) d p = p
+changedBy (Intact i g n) d p = turned i g (command d) p
+
+abbrev verdict : List ℕ → Verdict
+verdict b = readingOf b .verdict
+
+abbrev part : List ℕ → List ℕ
+part b = readingOf b .part
 
 abbrev changed : List ℕ → Panel → Panel
-changed b = changedBy (verdictOf b) b
+changed b = changedBy (verdict b) (part b)
 
 abbrev changedByAll : List (List ℕ) → Panel → Panel
 changedByAll [] p = p
 changedByAll (b ∷ bs) p = changedByAll bs (changed b p)
 
 played-each : (w : Wall) (b : List ℕ) → played w b .wall ≡ map (changed b) w
-unfolding played
-played-each w b = go (verdictOf b)
+unfolding answered
+played-each w b = go (verdict b)
   where
-    go : (v : Verdict) → playedBy v w b .wall ≡ map (changedBy v b) w
+    go : (v : Verdict) → answeredBy v w (part b) (readingOf b .seems) .wall ≡ map (changedBy v (part b)) w
     go Empty = sym (map-id w)
     go (Damaged d) = sym (map-id w)
     go (Intact i g n) = refl
@@ -54,21 +60,21 @@ session-each w [] = sym (map-id w)
 session-each w (b ∷ bs) = session-each (played w b .wall) bs ∙ ap (map (changedByAll bs)) (played-each w b) ∙ map-map (changedByAll bs) (changed b) w
 
 -- a panel that is not addressed stays, and whom another burst addresses stays so too
-not-addressed : (v : Verdict) (b : List ℕ) (p : Panel) → addressedBy v p ≡ false → changedBy v b p ≡ p
-not-addressed Empty b p e = refl
-not-addressed (Damaged d) b p e = refl
-not-addressed (Intact i g n) b p e = stays i g _ p e
+not-addressed : (v : Verdict) (d : List ℕ) (p : Panel) → addressedBy v p ≡ false → changedBy v d p ≡ p
+not-addressed Empty d p e = refl
+not-addressed (Damaged damage) d p e = refl
+not-addressed (Intact i g n) d p e = stays i g _ p e
 
-same-reached : (i : MonitorId) (g : GroupId) (v : Verdict) (b : List ℕ) (p : Panel) → reaches i g (changedBy v b p) ≡ reaches i g p
+same-reached : (i : MonitorId) (g : GroupId) (v : Verdict) (d : List ℕ) (p : Panel) → reaches i g (changedBy v d p) ≡ reaches i g p
 unfolding stored reaches
-same-reached i g Empty b p = refl
-same-reached i g (Damaged d) b p = refl
-same-reached i g (Intact j h n) b p = turned-keeps (reaches i g) p (λ row vs. refl) j h _
+same-reached i g Empty d p = refl
+same-reached i g (Damaged damage) d p = refl
+same-reached i g (Intact j h n) d p = turned-keeps (reaches i g) p (λ row vs. refl) j h _
 
 same-addressed : (v : Verdict) (c : List ℕ) (p : Panel) → addressedBy v (changed c p) ≡ addressedBy v p
 same-addressed Empty c p = refl
 same-addressed (Damaged d) c p = refl
-same-addressed (Intact i g n) c p = same-reached i g (verdictOf c) c p
+same-addressed (Intact i g n) c p = same-reached i g (verdict c) (part c) p
 
 -- A panel that a packet turned is not turned further by it.
 module _ (i : MonitorId) (g : GroupId) (p : Panel) (good : GoodPanel p) where
@@ -119,21 +125,21 @@ module _ (i : MonitorId) (g : GroupId) (p : Panel) (good : GoodPanel p) where
       go true r = asked-again c r
       go false r = unmoved c (stays i g c p r)
 
-changed-again : (v : Verdict) (b : List ℕ) (p : Panel) → GoodPanel p → changedBy v b (changedBy v b p) ≡ changedBy v b p
-changed-again Empty b p good = refl
-changed-again (Damaged d) b p good = refl
-changed-again (Intact i g n) b p good = turned-again i g p good _
+changed-again : (v : Verdict) (d : List ℕ) (p : Panel) → GoodPanel p → changedBy v d (changedBy v d p) ≡ changedBy v d p
+changed-again Empty d p good = refl
+changed-again (Damaged damage) d p good = refl
+changed-again (Intact i g n) d p good = turned-again i g p good _
 
 -- Nor after a burst that does not address it as well.
-among-others : (b c : List ℕ) (q : Panel) → (addressedBy (verdictOf b) q && addressedBy (verdictOf c) q) ≡ false → changed b q ≡ q
+among-others : (b c : List ℕ) (q : Panel) → (addressedBy (verdict b) q && addressedBy (verdict c) q) ≡ false → changed b q ≡ q
     → changed b (changed c q) ≡ changed c q
-among-others b c q apart settled = go (addressedBy (verdictOf b) q) refl
+among-others b c q apart settled = go (addressedBy (verdict b) q) refl
   where
-    go : (t : Bool) → addressedBy (verdictOf b) q ≡ t → changed b (changed c q) ≡ changed c q
+    go : (t : Bool) → addressedBy (verdict b) q ≡ t → changed b (changed c q) ≡ changed c q
     go true e =
-        let still = not-addressed (verdictOf c) c q (rw e at apart) in
+        let still = not-addressed (verdict c) (part c) q (rw e at apart) in
         ap (changed b) still ∙ settled ∙ sym still
-    go false e = not-addressed (verdictOf b) b (changed c q) (same-addressed (verdictOf b) c q ∙ e)
+    go false e = not-addressed (verdict b) (part b) (changed c q) (same-addressed (verdict b) c q ∙ e)
 
 module _ (w : Wall) (b : List ℕ) (k : ℕ) (inside : k < length w) where
   abbrev p : Panel
@@ -145,7 +151,7 @@ module _ (w : Wall) (b : List ℕ) (k : ℕ) (inside : k < length w) where
   sent-among (again {bs} rest) q alike settled = ap (changedByAll bs) settled ∙ sent-among rest q alike settled
   sent-among (other c apart rest) q alike settled =
       sent-among rest (changed c q) (λ v. same-addressed v c q ∙ alike v)
-      (among-others b c q (rw (alike (verdictOf b), alike (verdictOf c)) (apart k inside)) settled)
+      (among-others b c q (rw (alike (verdict b), alike (verdict c)) (apart k inside)) settled)
 
 pub sent-again : SentAgain
 sent-again t f b bs others sent =
@@ -154,5 +160,5 @@ sent-again t f b bs others sent =
     ∙ map-alike _ _ blank w
     (λ k h.
     let p = getD w k blank in
-    sent-among w b k h sent (changed b p) (λ v. same-addressed v b p) (changed-again (verdictOf b) b p (good-at w (f .good) k h)))
+    sent-among w b k h sent (changed b p) (λ v. same-addressed v b p) (changed-again (verdict b) (part b) p (good-at w (f .good) k h)))
     ∙ sym (session-each w (b ∷ others))

@@ -5,17 +5,18 @@ use Rattle.settings.specs.Settings.{settings, allowedByRow, freshValues, within
 use Rattle.finding.specs.Found.{foundFrom}
 use Rattle.models.specs.Models.{filled}
 use Rattle.lists.specs.Lists.{laidAt}
-use Rattle.packet.specs.Xor.{_⊕_, xorAll}
+use Rattle.xor.specs.Xor.{_⊕_, xorAll}
 use Rattle.packet.specs.Packet.{isIntact, verdictOf, dataOf, packetOf}
+use Rattle.packet.specs.Reading.{seemsFor}
 use Rattle.panels.specs.Wall.{placeFrom}
 use Rattle.packet.specs.Answered.{isHeard}
 use Rattle.panels.specs.Addressed.{reaches}
 use Rattle.answers.specs.Reply.{sentBytes}
 use Rattle.answers.specs.Judged.{command, stored, offAlready, takes, judge}
-use Rattle.answers.specs.Played.{turned, damagedReply, played}
+use Rattle.answers.specs.Played.{turned, answered}
 use Rattle.answers.specs.Sample.{twoPanels}
 use Rattle.demands.specs.Cases.{Case, tried, cases}
 
 pub p-cases : map (λ (c : Case). tried (c .burst)) cases ≡ cases
-unfolding settings foundFrom allowedByRow freshValues within allAllowed filled flatten _⊕_ xorAll isIntact verdictOf dataOf packetOf placeFrom reaches isHeard sentBytes command stored laidAt offAlready takes judge turned damagedReply played twoPanels cases
+unfolding settings foundFrom allowedByRow freshValues within allAllowed filled flatten _⊕_ xorAll isIntact verdictOf dataOf packetOf placeFrom reaches isHeard sentBytes command stored laidAt offAlready takes judge turned seemsFor answered twoPanels cases
 p-cases = refl

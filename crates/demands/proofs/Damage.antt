@@ -8,12 +8,13 @@ use lib.Dec.{leb, ltb, eqb}
 use lib.ListN.{length, getD}
 use Rattle.packet.specs.declared.Damage.{Damage}
 use Rattle.packet.specs.declared.Damage.the-variants.{Nothing, TooShort, TooLong, Size, Checksum}
-use Rattle.packet.specs.Xor.{xorAll}
+use Rattle.xor.specs.Xor.{xorAll}
 use Rattle.packet.specs.Packet.{isIntact, damageOf, damageNumber, verdictOf, dataOf}
+use Rattle.packet.specs.Reading.{readingOf}
 use Rattle.packet.proofs.Packets.{sound, intact}
 use Rattle.packet.proofs.Spoiled.{spoiled-told as told}
-use Rattle.packet.proofs.Damages.{undamaged, passed}
-use Rattle.answers.specs.Played.{played}
+use Rattle.packet.proofs.Damages.{undamaged, passed, damage-said}
+use Rattle.answers.specs.Played.{answered}
 use Rattle.host.specs.Machine.{step}
 use Rattle.line.proofs.Streams.{marked}
 use Rattle.demands.specs.Damage.{Kinds, NoDamage, SpoiledTold, AnyLength, before, Unchanged, HostUnchanged}
@@ -27,7 +28,7 @@ short n = go (leb n 3) refl
 
 pub kinds : Kinds
 unfolding damageOf
-kinds b = rw (short (length b)) (go (eqb (length b) 0) (ltb (length b) 4) (ltb 40 (length b)) (eqb (getD b 0 0) (length b)) (eqb (xorAll b) 0))
+kinds b = rw (damage-said b, short (length b)) (go (eqb (length b) 0) (ltb (length b) 4) (ltb 40 (length b)) (eqb (getD b 0 0) (length b)) (eqb (xorAll b) 0))
   where
     go : (none short long size sum : Bool)
         → damageNumber (cond none Nothing (cond short TooShort (cond long TooLong (cond (not size) Size (cond (not sum) Checksum Nothing)))))
@@ -49,7 +50,7 @@ numbered Checksum h = refl
 
 pub no-damage : NoDamage
 unfolding damageOf
-no-damage b = go (eqb (length b) 0) refl (isIntact b) refl
+no-damage b = rw (damage-said b) (go (eqb (length b) 0) refl (isIntact b) refl)
   where
     go : (none : Bool) → eqb (length b) 0 ≡ none → (t : Bool) → isIntact b ≡ t → eqb (damageNumber (damageOf b)) 0 ≡ (none || t)
     go true z true e = rw (undamaged b (sound b e))
@@ -58,15 +59,15 @@ no-damage b = go (eqb (length b) 0) refl (isIntact b) refl
     go false z false e = numbered _ (λ n. false≢true (sym e ∙ intact b (passed b (eqb-false _ _ z) n)))
 
 pub spoiled-told : SpoiledTold
-spoiled-told p s = told s p
+spoiled-told p s intact spoils none = told s p intact spoils (sym (damage-said _) ∙ none)
 
 pub unchanged : Unchanged
-unfolding played verdictOf dataOf
+unfolding answered verdictOf dataOf
 unchanged w b = go (eqb (length b) 0) refl (isIntact b) refl
   where
-    go : (none : Bool) → eqb (length b) 0 ≡ none → (t : Bool) → isIntact b ≡ t → played w b ≡ before w b
+    go : (none : Bool) → eqb (length b) 0 ≡ none → (t : Bool) → isIntact b ≡ t → answered w (readingOf b) ≡ before w b
     go true z t e = rw z
-    go false z true e = let n = sound b e in rw (z, e, eq-eqb (length b) (length b - 4 + 4) (omega (arith, n)))
+    go false z true e = rw (z, e)
     go false z false e = rw (z, e)
 
 pub any-length : AnyLength
@@ -74,4 +75,4 @@ any-length = marked
 
 pub host-unchanged : HostUnchanged
 unfolding step
-host-unchanged s b = refl
+host-unchanged s b = rw (damage-said b)

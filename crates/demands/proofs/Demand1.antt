@@ -12,7 +12,7 @@ use Rattle.packet.specs.declared.MonitorId.{MonitorId}
 use Rattle.packet.specs.declared.GroupId.{GroupId}
 use Rattle.packet.specs.declared.Verdict.{Verdict}
 use Rattle.packet.specs.declared.Verdict.the-variants.{Empty, Damaged, Intact}
-use Rattle.packet.specs.Packet.{verdictOf, dataOf, longest}
+use Rattle.packet.specs.Packet.{longest}
 use Rattle.lists.specs.Lists.{laidOver}
 use Rattle.panels.specs.declared.Panel.{Panel}
 use Rattle.panels.specs.declared.Place.{Place}
@@ -25,7 +25,7 @@ use Rattle.table_calls.specs.Calls.{refusalOf as tableNumber, addRefusal, added
 use Rattle.answers.specs.declared.Sent.the-variants.{Bytes, NoRoom}
 use Rattle.answers.specs.Reply.{sentBytes, sentOf, bytesSent, outputOf as answerOutput}
 use Rattle.answers.specs.Judged.{command}
-use Rattle.answers.specs.Played.{turned, playedBy, played}
+use Rattle.answers.specs.Played.{turned, answeredBy, answered}
 use Rattle.lists.proofs.Mapped.{map-same}
 use Rattle.answers.proofs.Turns.{either-way, stays}
 use Rattle.forms.specs.declared.Form.{Form}
@@ -72,14 +72,14 @@ remove-refused w i refused = go (placeOf i w) refused
     go Nowhere n = refl
 
 pub bad-burst : BadBurst
-unfolding played turned
-bad-burst w b bad = go (verdictOf b) bad
+unfolding answered turned
+bad-burst w r bad = go (r .verdict) bad
   where
-    stay : (i : MonitorId) (g : GroupId) (n : ℕ) (p : Panel) → Bad (Intact i g n) b p → turned i g (command (dataOf b (Intact i g n))) p ≡ p
-    stay i g n p (inl r) = stays i g _ p r
+    stay : (i : MonitorId) (g : GroupId) (n : ℕ) (p : Panel) → Bad (Intact i g n) (r .part) p → turned i g (command (r .part)) p ≡ p
+    stay i g n p (inl past) = stays i g _ p past
     stay i g n p (inr e) = rw e (either-way (reaches i g p) refl)
 
-    go : (v : Verdict) → ((k : ℕ) → k < length w → Bad v b (getD w k blank)) → playedBy v w b .wall ≡ w
+    go : (v : Verdict) → ((k : ℕ) → k < length w → Bad v (r .part) (getD w k blank)) → answeredBy v w (r .part) (r .seems) .wall ≡ w
     go Empty h = refl
     go (Damaged d) h = refl
     go (Intact i g n) h = map-same _ blank w (λ k s. stay i g n (getD w k blank) (h k s))

@@ -1,10 +1,9 @@
 -- Demand 2. Assumes nothing.
 use Prim.Native.Nat.{ℕ, _<_}
-use mathlib.Core.Bool.{Bool, true, false, cond, _&&_}
+use mathlib.Core.Bool.{Bool, true, false, cond}
 use mathlib.Core.Logic.{_⊎_, inl, inr}
 use mathlib.Core.Path.{_≡_, refl, sym, ap, _∙_}
-use mathlib.Core.List.{List, [], map}
-use lib.Dec.{leb, eqb}
+use mathlib.Core.List.{List, [], _∷_, map}
 use lib.ListN.{length, getD, length-map, List·getD-map}
 use Rattle.finding.proofs.Laws.{get-found}
 use Rattle.packet.specs.declared.MonitorId.{MonitorId}
@@ -12,7 +11,9 @@ use Rattle.packet.specs.declared.GroupId.{GroupId}
 use Rattle.packet.specs.declared.Control.the-variants.{Ack, Nack, Nav}
 use Rattle.packet.specs.declared.Verdict.{Verdict}
 use Rattle.packet.specs.declared.Verdict.the-variants.{Empty, Damaged, Intact}
-use Rattle.packet.specs.Packet.{monitorId, verdictOf, dataOf}
+use Rattle.packet.specs.declared.Addressee.{Addressee}
+use Rattle.packet.specs.Reading.{Reading, readingOf}
+use Rattle.packet.proofs.Packets.{packet-verdict, packet-data}
 use Rattle.panels.specs.declared.Panel.{Panel}
 use Rattle.panels.specs.declared.Place.{Place}
 use Rattle.panels.specs.declared.Place.the-variants.{At, Nowhere}
@@ -26,28 +27,39 @@ use Rattle.panels.proofs.Formed.{empty-formed, good-at}
 use Rattle.table_calls.proofs.Formed.{added-formed, removed-formed}
 use Rattle.answers.specs.Reply.{silence, wordFrom}
 use Rattle.answers.specs.Judged.{Command, getOf, setOf, unavailable, command, heldThen, takes, judge, panelAfter, stored, taken, notAvailable, replyBy}
-use Rattle.answers.specs.Played.{turned, replyFrom, damagedReply, playedBy, played}
+use Rattle.answers.specs.Played.{turned, replyFrom, nackFrom, answeredBy, answered}
+use Rattle.answers.specs.Session.{Ended, byBurst, session}
 use Rattle.answers.proofs.Orders.{OnLine, on-line, taken-allowed}
-use Rattle.answers.proofs.Formed.{stored-own, stored-others, played-formed}
+use Rattle.answers.proofs.Formed.{stored-own, stored-others, answered-formed}
 use Rattle.demands.proofs.Cases.{p-cases}
-use Rattle.image_read.specs.Read.{Reading}
+use Rattle.image_read.specs.Read.{Reading as ImageReading}
 use Rattle.image_read.proofs.Sound.{read-formed}
 use Rattle.image_read.proofs.Order.{read-any-order, read-by-code, left-out}
 use Rattle.image.proofs.Back.{written-back}
 use Rattle.line.proofs.Streams.{stream-after}
-use Rattle.demands.specs.Demand2.{SetBy, OnlyAddressed, Answer·Is, Answers, Received, empty, add, remove, image, burst, InRange, ReadsBack, AnyOrder, ByCode, LeftOut, Cases}
+use Rattle.demands.specs.Demand2.{ByReadings, ReadAsWritten, SetBy, OnlyAddressed, Answer·Is, Answers, Received, empty, add, remove, image, burst, InRange, ReadsBack, AnyOrder, ByCode, LeftOut, Cases}
 
 pub in-range : InRange
 in-range t empty = empty-formed
 in-range t (add c i g n k) = added-formed (in-range _ c) i g n k
 in-range t (remove c i) = removed-formed (in-range _ c) i
 in-range t (image bytes) = read-formed bytes
-in-range t (burst c b) = played-formed (in-range _ c) b
+in-range t (burst c r) = answered-formed (in-range _ c) r
+
+pub by-readings : ByReadings
+unfolding byBurst
+by-readings w [] = refl
+by-readings w (b ∷ bs) =
+    let o = answered w (readingOf b) in
+    ap {B = Ended} (λ (e : Ended). record { wall = e .wall; replies = o .reply ∷ e .replies }) (by-readings (o .wall) bs)
+
+pub read-as-written : ReadAsWritten
+read-as-written i g d short = (packet-verdict i g d short, packet-data i g d short)
 
 -- one panel and a command: it stays, or values that are allowed are stored
-module _ (b : List ℕ) (i : MonitorId) (g : GroupId) (n : ℕ) (e : verdictOf b ≡ Intact i g n) (p : Panel) (ok : GoodPanel p) where
-  set-by : (c : Command) → command (dataOf b (Intact i g n)) ≡ c → reaches i g p ≡ true
-      → (panelAfter (judge c p) p ≡ p) ⊎ SetBy b p (panelAfter (judge c p) p)
+module _ (read : Reading) (i : MonitorId) (g : GroupId) (n : ℕ) (e : read .verdict ≡ Intact i g n) (p : Panel) (ok : GoodPanel p) where
+  set-by : (c : Command) → command (read .part) ≡ c → reaches i g p ≡ true
+      → (panelAfter (judge c p) p ≡ p) ⊎ SetBy read p (panelAfter (judge c p) p)
   unfolding judge
   set-by (getOf row) d r = inl refl
   set-by unavailable d r = inl refl
@@ -55,7 +67,7 @@ module _ (b : List ℕ) (i : MonitorId) (g : GroupId) (n : ℕ) (e : verdictOf b
     where
       go : (t : Bool) → takes row vs p ≡ t
           → (panelAfter (cond t (taken (stored row (heldThen row vs p) p)) notAvailable) p ≡ p)
-          ⊎ SetBy b p (panelAfter (cond t (taken (stored row (heldThen row vs p) p)) notAvailable) p)
+          ⊎ SetBy read p (panelAfter (cond t (taken (stored row (heldThen row vs p) p)) notAvailable) p)
       go false a = inl refl
       go true a =
           let held = heldThen row vs p in
@@ -76,27 +88,27 @@ module _ (b : List ℕ) (i : MonitorId) (g : GroupId) (n : ℕ) (e : verdictOf b
             others = stored-others row held p allowed (ok .full);
           })
 
-  turned-by : (turned i g (command (dataOf b (Intact i g n))) p ≡ p) ⊎ SetBy b p (turned i g (command (dataOf b (Intact i g n))) p)
+  turned-by : (turned i g (command (read .part)) p ≡ p) ⊎ SetBy read p (turned i g (command (read .part)) p)
   unfolding turned
   turned-by = go (reaches i g p) refl
     where
       go : (t : Bool) → reaches i g p ≡ t
-          → let q = cond t (panelAfter (judge (command (dataOf b (Intact i g n))) p) p) p in (q ≡ p) ⊎ SetBy b p q
+          → let q = cond t (panelAfter (judge (command (read .part)) p) p) p in (q ≡ p) ⊎ SetBy read p q
       go true r = set-by _ refl r
       go false r = inl refl
 
-by-verdict : (v : Verdict) (w : Wall) (b : List ℕ) (k : ℕ) → verdictOf b ≡ v → GoodWall w → k < length w
-    → let p = getD w k blank in let q = getD (playedBy v w b .wall) k blank in (q ≡ p) ⊎ SetBy b p q
-by-verdict Empty w b k e good h = inl refl
-by-verdict (Damaged d) w b k e good h = inl refl
-by-verdict (Intact i g n) w b k e good h =
-    let f = turned i g (command (dataOf b (Intact i g n))) in
+by-verdict : (v : Verdict) (w : Wall) (read : Reading) (k : ℕ) → read .verdict ≡ v → GoodWall w → k < length w
+    → let p = getD w k blank in let q = getD (answeredBy v w (read .part) (read .seems) .wall) k blank in (q ≡ p) ⊎ SetBy read p q
+by-verdict Empty w read k e good h = inl refl
+by-verdict (Damaged d) w read k e good h = inl refl
+by-verdict (Intact i g n) w read k e good h =
+    let f = turned i g (command (read .part)) in
     let at = getD-inside (map f w) k blank (f blank) (rw (length-map w f) h) ∙ List·getD-map f w k blank in
-    rw at (turned-by b i g n e (getD w k blank) (good-at w good k h))
+    rw at (turned-by read i g n e (getD w k blank) (good-at w good k h))
 
 pub only-addressed : OnlyAddressed
-unfolding played
-only-addressed t f b k h = by-verdict (verdictOf b) (panelsOf t) b k refl (f .good) h
+unfolding answered
+only-addressed t f read k h = by-verdict (read .verdict) (panelsOf t) read k refl (f .good) h
 
 -- Answers.
 judged-answer : (w : Wall) (i : MonitorId) (k : ℕ) (c : Command) → OnLine c → k < length w → getD w k blank .id .0 ≡ i .0
@@ -122,23 +134,18 @@ nack-answer : (w : Wall) (i : MonitorId) (q : Place) → Answer·Is w (ifThere q
 nack-answer w i Nowhere = inl refl
 nack-answer w i (At k) = inr (inl (i, Nack, refl))
 
-damaged-answer : (w : Wall) (i : MonitorId) (q : Place) (t : Bool) → Answer·Is w (cond t (ifThere q (wordFrom i Nack) silence) silence)
-damaged-answer w i q true = nack-answer w i q
-damaged-answer w i q false = inl refl
-
-damaged-burst : (w : Wall) (b : List ℕ) → Answer·Is w (damagedReply w b)
-unfolding damagedReply
-damaged-burst w b =
-    let i = monitorId (getD b 1 0) in damaged-answer w i (placeOf i w) (leb 3 (length b) && eqb (getD b 2 0) 0)
+damaged-answer : (w : Wall) (a : Addressee) → Answer·Is w (nackFrom w a)
+damaged-answer w Addressee.Nobody = inl refl
+damaged-answer w (Addressee.One i) = nack-answer w i (placeOf i w)
 
 pub answers : Answers
-unfolding played
-answers w b = go (verdictOf b)
+unfolding answered
+answers w read = go (read .verdict)
   where
-    go : (v : Verdict) → Answer·Is w (playedBy v w b .reply)
+    go : (v : Verdict) → Answer·Is w (answeredBy v w (read .part) (read .seems) .reply)
     go Empty = inl refl
-    go (Damaged d) = damaged-burst w b
-    go (Intact i g n) = packet-answer w i _ (on-line (dataOf b (Intact i g n))) (isHeard i g)
+    go (Damaged d) = damaged-answer w (read .seems)
+    go (Intact i g n) = packet-answer w i _ (on-line (read .part)) (isHeard i g)
 
 -- The line.
 pub received : Received
@@ -148,7 +155,7 @@ received w events = stream-after [] w events
 pub reads-back : ReadsBack
 reads-back form t f out n written =
     let back = written-back form (panelsOf t) (f .good) (f .few) out n written in
-    (ap (λ (r : Reading). r .refusal) back, ap (λ (r : Reading). tableOf (r .wall)) back ∙ sym (f .held))
+    (ap (λ (r : ImageReading). r .refusal) back, ap (λ (r : ImageReading). tableOf (r .wall)) back ∙ sym (f .held))
 
 pub any-order : AnyOrder
 any-order = read-any-order

@@ -1,15 +1,14 @@
 -- Demand 3: a spoiled intact packet is damaged, and a damaged burst changes no panel. Assumes nothing.
 use Prim.Native.Nat.{ℕ}
-use mathlib.Core.Bool.{Bool, true, false, cond, _&&_}
 use mathlib.Core.Logic.{inl, inr}
 use mathlib.Core.Path.{_≡_, refl, sym, ap, subst, _∙_}
 use mathlib.Core.List.{List, [], _∷_, _++_, map, append-assoc, append-nil}
-use lib.Dec.{leb, eqb}
-use lib.ListN.{length, getD}
 use Rattle.packet.specs.declared.Control.the-variants.{Nack}
+use Rattle.packet.specs.declared.Addressee.{Addressee}
+use Rattle.packet.specs.declared.Damage.{Damage}
 use Rattle.packet.specs.declared.MonitorId.{MonitorId}
-use Rattle.packet.specs.declared.Verdict.the-variants.{Damaged}
-use Rattle.packet.specs.Packet.{monitorId, damageOf, verdictOf}
+use Rattle.packet.specs.declared.Verdict.{Verdict}
+use Rattle.packet.specs.Reading.{Reading, readingOf}
 use Rattle.packet.specs.Spoiled.{spoiled}
 use Rattle.packet.proofs.Spoiled.{spoiled-damaged}
 use Rattle.panels.specs.declared.Place.{Place}
@@ -17,9 +16,10 @@ use Rattle.panels.specs.declared.Place.the-variants.{At, Nowhere}
 use Rattle.panels.specs.Wall.{Wall, placeOf, ifThere}
 use Rattle.answers.specs.declared.Reply.{Reply}
 use Rattle.answers.specs.Reply.{silence, wordFrom}
-use Rattle.answers.specs.Played.{Outcome, damagedReply, played}
-use Rattle.line.specs.Session.{byBurst, Ended, session, Event, byte, quiet, burstsAfter, receiverOf, streamed}
-use Rattle.answers.proofs.Bursts.{played-damaged}
+use Rattle.answers.specs.Played.{Outcome, nackFrom, answered, played}
+use Rattle.answers.specs.Session.{byBurst, Ended, session}
+use Rattle.line.specs.Receiver.{Event, byte, quiet, burstsAfter, receiverOf, streamed}
+use Rattle.answers.proofs.Readings.{answered-damaged}
 use Rattle.line.proofs.Streams.{stream-after}
 use Rattle.demands.specs.Demand3.{whole, spoilt, sent, kept, SilenceOrNack, AsIfNeverSent, Withstands, Demand3, onLine, Demand3·line}
 
@@ -27,18 +27,14 @@ nack-or-silent : (i : MonitorId) (q : Place) → SilenceOrNack (ifThere q (wordF
 nack-or-silent i Nowhere = inl refl
 nack-or-silent i (At k) = inr (i, refl)
 
-damaged-answer : (w : Wall) (b : List ℕ) → SilenceOrNack (damagedReply w b)
-unfolding damagedReply
-damaged-answer w b = go (leb 3 (length b) && eqb (getD b 2 0) 0)
-  where
-    go : (t : Bool) → SilenceOrNack (cond t (ifThere (placeOf (monitorId (getD b 1 0)) w) (wordFrom (monitorId (getD b 1 0)) Nack) silence) silence)
-    go true = nack-or-silent _ (placeOf _ w)
-    go false = inl refl
+damaged-answer : (w : Wall) (a : Addressee) → SilenceOrNack (nackFrom w a)
+damaged-answer w Addressee.Nobody = inl refl
+damaged-answer w (Addressee.One i) = nack-or-silent i (placeOf i w)
 
 -- A box that takes each burst by itself withstands spoiled packets if no damaged burst changes its wall, and each gets what it may.
 module _ (May : Reply → Type 0) (rule : Wall → List ℕ → Outcome)
-    (still : (w : Wall) (b : List ℕ) → verdictOf b ≡ Damaged (damageOf b) → rule w b .wall ≡ w)
-    (may : (w : Wall) (b : List ℕ) → verdictOf b ≡ Damaged (damageOf b) → May (rule w b .reply)) where
+    (still : (w : Wall) (b : List ℕ) (d : Damage) → readingOf b .verdict ≡ Verdict.Damaged d → rule w b .wall ≡ w)
+    (may : (w : Wall) (b : List ℕ) (d : Damage) → readingOf b .verdict ≡ Verdict.Damaged d → May (rule w b .reply)) where
   -- a session after its first reply
   abbrev then : Wall → Reply → List (List ℕ) → Ended
   then w r bs = record { wall = byBurst rule w bs .wall; replies = r ∷ byBurst rule w bs .replies }
@@ -51,17 +47,17 @@ module _ (May : Reply → Type 0) (rule : Wall → List ℕ → Outcome)
       let damaged = spoiled-damaged s p i h in
       let ih = withstands w items in
       subst (λ (v : Wall). AsIfNeverSent May (spoilt p s i h ∷ items) (then v (rule w (spoiled s p) .reply) (sent items)) (byBurst rule w (kept items)))
-      (sym (still w (spoiled s p) damaged))
-      (ih .0, (may w (spoiled s p) damaged, ih .1))
+      (sym (still w (spoiled s p) _ damaged))
+      (ih .0, (may w (spoiled s p) _ damaged, ih .1))
 
-pub damaged-still : (w : Wall) (b : List ℕ) → verdictOf b ≡ Damaged (damageOf b) → played w b .wall ≡ w
-damaged-still w b d = ap (λ (o : Outcome). o .wall) (played-damaged w b _ d)
+pub damaged-still : (w : Wall) (r : Reading) (d : Damage) → r .verdict ≡ Verdict.Damaged d → answered w r .wall ≡ w
+damaged-still w r d e = ap (λ (o : Outcome). o .wall) (answered-damaged w r d e)
 
-pub damaged-may : (w : Wall) (b : List ℕ) → verdictOf b ≡ Damaged (damageOf b) → SilenceOrNack (played w b .reply)
-damaged-may w b d = rw (played-damaged w b _ d) (damaged-answer w b)
+pub damaged-may : (w : Wall) (r : Reading) (d : Damage) → r .verdict ≡ Verdict.Damaged d → SilenceOrNack (answered w r .reply)
+damaged-may w r d e = rw (answered-damaged w r d e) (damaged-answer w (r .seems))
 
 pub demand3 : Demand3
-demand3 = withstands SilenceOrNack played damaged-still damaged-may
+demand3 = withstands SilenceOrNack played (λ w b. damaged-still w (readingOf b)) (λ w b. damaged-may w (readingOf b))
 
 -- what is put on the line burst by burst is heard burst by burst
 heard : (l b : List ℕ) (es : List Event) → burstsAfter l (map byte b ++ quiet ∷ es) ≡ (l ++ b) ∷ burstsAfter [] es

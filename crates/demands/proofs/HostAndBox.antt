@@ -23,8 +23,9 @@ use Rattle.tiling.specs.Kinds.{largest, inWall}
 use Rattle.lists.proofs.Each.{alike}
 use Rattle.packet.specs.declared.Control.the-variants.{Ack as AckWord, Nav as NavWord}
 use Rattle.packet.specs.declared.Damage.the-variants.{Nothing as NoDamage}
-use Rattle.packet.specs.Packet.{groupId, dataOf, packetOf, mostData}
+use Rattle.packet.specs.Packet.{groupId, packetOf, mostData}
 use Rattle.packet.specs.Control.{controlData}
+use Rattle.packet.specs.Reading.{readingOf}
 use Rattle.packet.specs.Answered.{isHeard}
 use Rattle.packet.proofs.Packets.{sound, packet-intact, packet-verdict, packet-data}
 use Rattle.packet.proofs.Damages.{undamaged}
@@ -37,6 +38,7 @@ use Rattle.panels.proofs.Formed.{good-at}
 use Rattle.answers.specs.Judged.{command, offAlready, heldThen, takes, judge, replyBy}
 use Rattle.answers.specs.Played.{played}
 use Rattle.answers.specs.Reply.{wordFrom, reportFrom, sentBytes}
+use Rattle.answers.proofs.Readings.{answered-intact}
 use Rattle.requests.specs.declared.Request.{Request}
 use Rattle.requests.specs.declared.Said.{Said}
 use Rattle.requests.specs.declared.Said.the-variants.{Ack, Nack, Nav, Report, Nothing as Other}
@@ -117,11 +119,9 @@ module _ (w : Wall) (r : Request) (k : ℕ) (asked : isRequest r ≡ true) (due 
   panel = getD w k blank
 
   box-answers : played w (requestPacket r) .reply ≡ replyBy (r .id) (judge (command (requestData r)) panel)
-  unfolding played
   box-answers =
       let (verdict, part) = packet-reads r asked in
-      let d = ap (dataOf (requestPacket r)) (sym verdict) ∙ part in
-      rw (verdict, d, due, there)
+      rw (answered-intact w (readingOf (requestPacket r)) _ _ _ verdict, part, due, there)
 
   -- and the host, which waits and has sent the packet so often, hears one from that panel
   starts : step idle (start r) .next ≡ waiting r 1

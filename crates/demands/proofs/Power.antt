@@ -67,8 +67,8 @@ module _ (p : Panel) (good : GoodPanel p) where
   answers-power i v = rw (takes-power v) (set-reply i (eqb v 2 || eqb v 1 && eqb (getD (p .values) 1 0) 2) _)
 
 pub power-set : PowerSet
-power-set t f i k v there =
-    asked-replies t f i k there (0x18 ∷ v ∷ []) (omega arith) ∙ answers-power (panel t f i k there) (asked-good t f i k there) i v
+power-set t f i k v n there r intact sets =
+    asked-replies t f i k there r n intact ∙ ap (λ (d : List ℕ). replyBy i (judge (command d) (panel t f i k there))) sets ∙ answers-power (panel t f i k there) (asked-good t f i k there) i v
 
 -- a panel whose power is 1 is off
 off-by-value : (p : Panel) → getD (p .values) 1 0 ≡ 1 → offAlready powerRow off p ≡ true
@@ -80,9 +80,9 @@ unfolding settings foundFrom command
 set-off = refl
 
 pub off-stays : OffStays
-off-stays w b i g n intact sets k h power =
+off-stays w r i g n intact sets k h power =
     let p = getD w k blank in
-    own-model w b i g n powerRow off intact (ap command sets ∙ set-off) k h
+    own-model w r i g n powerRow off intact (ap command sets ∙ set-off) k h
     ∙ either-way (reaches i g p && allowedFor (modelOf p) powerRow (heldThen powerRow off p)) (off-same powerRow off p (off-by-value p power))
 
 pub nav-ends : NavEnds

@@ -23,8 +23,9 @@ use Rattle.panels.specs.Wall.{modelOf, blank, videoOf}
 use Rattle.panels.specs.Addressed.{reaches}
 use Rattle.panels.proofs.Values.{set-row}
 use Rattle.answers.specs.Judged.{setOf, offAlready, heldThen, takes, judge, stored, taken, notAvailable, panelAfter}
-use Rattle.answers.specs.Played.{turned, played}
+use Rattle.answers.specs.Played.{turned, answered}
 use Rattle.answers.proofs.Formed.{off-same}
+use Rattle.answers.proofs.Readings.{answered-intact}
 use Rattle.demands.specs.Profiles.{OwnModel, TintBack, inPhoenixRange, VideoAllowed, SeenAsSet}
 
 -- one panel and a set
@@ -47,12 +48,12 @@ as-allowed true row vs p = go (allowedFor (modelOf p) row (heldThen row vs p)) (
     go true true e = sym (off-same row vs p e)
 
 pub own-model : OwnModel
-unfolding played turned judge
-own-model w b i g n row values intact named k h =
+unfolding turned judge
+own-model w r i g n row values intact named k h =
     let f = turned i g (setOf row values) in
     let p = getD w k blank in
     let at = getD-inside (map f w) k blank (f blank) (rw (length-map w f) h) ∙ List·getD-map f w k blank in
-    rw (intact, named) (at ∙ one-set (reaches i g p) (takes row values p) (stored row (heldThen row values p) p) p ∙ as-allowed (reaches i g p) row values p)
+    rw (answered-intact w r i g n intact, named) (at ∙ one-set (reaches i g p) (takes row values p) (stored row (heldThen row values p) p) p ∙ as-allowed (reaches i g p) row values p)
 
 fits : (t : ℤ) → mag t < 128 → SFits w8 t
 fits t h = record { sfits = h }

@@ -30,7 +30,7 @@ use Rattle.answers.proofs.Formed.{stored-own}
 use Rattle.requests.specs.Said.{isReport}
 use Rattle.demands.proofs.Demand2.{in-range}
 use Rattle.demands.proofs.Profiles.{up-to, own-model}
-use Rattle.demands.proofs.ToOne.{set-reply, panel, asked-good, asked-reached, asked-intact, asked-data, asked-replies}
+use Rattle.demands.proofs.ToOne.{set-reply, panel, asked-good, asked-reached, asked-replies}
 use Rattle.demands.specs.Tiling.{WallBack, ByteBack, ManualWrong, sits, TilingSet, AlwaysSits, HostTiling}
 
 -- The arithmetic.
@@ -144,13 +144,11 @@ tiling-then p ok enable frame position byte false e = refl
 
 pub tiling-set : TilingSet
 unfolding judge
-tiling-set t f i k enable frame position byte there =
-    let d : List ℕ = 0x22 ∷ enable ∷ frame ∷ position ∷ byte ∷ [] in
+tiling-set t f i k enable frame position byte n there r intact part =
     let p = panel t f i k there in
-    let sets = sets-tiling enable frame position byte in
-    let after = own-model (panelsOf t) (packetOf i (groupId 0) d) i (groupId 0) (length d) tilingRow (vs p enable frame position byte)
-    (asked-intact t f i k there d (omega arith)) (ap command (asked-data t f i k there d (omega arith)) ∙ sets) k (place-there i (panelsOf t) k there .0) in (
-      asked-replies t f i k there d (omega arith) ∙ ap (λ (c : Command). replyBy i (judge c p)) sets
+    let sets = ap command part ∙ sets-tiling enable frame position byte in
+    let after = own-model (panelsOf t) r i (groupId 0) n tilingRow (vs p enable frame position byte) intact sets k (place-there i (panelsOf t) k there .0) in (
+      asked-replies t f i k there r n intact ∙ ap (λ (c : Command). replyBy i (judge c p)) sets
           ∙ rw (takes-it p enable frame position byte) (set-reply i (good p enable frame position byte) _),
       ap (λ (q : Panel). take 4 (drop 2 (q .values))) after
           ∙ rw (asked-reached t f i k there, held-allowed p enable frame position byte)

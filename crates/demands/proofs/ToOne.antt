@@ -1,17 +1,16 @@
 -- A packet to one panel that is there: that panel is asked, and answers. Assumes nothing.
-use Prim.Native.Nat.{ℕ, _≤_}
+use Prim.Native.Nat.{ℕ}
 use mathlib.Core.Bool.{Bool, true, false, cond}
-use mathlib.Core.Path.{_≡_, refl, sym, ap, _∙_}
-use mathlib.Core.List.{List}
+use mathlib.Core.Path.{_≡_, refl, _∙_}
 use borrow.Author.Tests.{eq-eqb, ne-eqb}
 use lib.Dec.{eqb}
-use lib.ListN.{length, getD}
+use lib.ListN.{getD}
 use Rattle.packet.specs.declared.MonitorId.{MonitorId}
 use Rattle.packet.specs.declared.Control.the-variants.{Ack, Nav}
-use Rattle.packet.specs.declared.Verdict.the-variants.{Intact}
-use Rattle.packet.specs.Packet.{groupId, dataOf, packetOf, verdictOf, mostData}
+use Rattle.packet.specs.declared.Verdict.{Verdict}
+use Rattle.packet.specs.Packet.{groupId}
+use Rattle.packet.specs.Reading.{Reading}
 use Rattle.packet.specs.Answered.{isHeard}
-use Rattle.packet.proofs.Packets.{packet-verdict, packet-data}
 use Rattle.panels.specs.declared.Panel.{Panel}
 use Rattle.panels.specs.declared.Table.{Table}
 use Rattle.panels.specs.declared.Place.the-variants.{At}
@@ -22,7 +21,8 @@ use Rattle.panels.proofs.Laws.{place-there}
 use Rattle.panels.proofs.Formed.{good-at}
 use Rattle.answers.specs.Reply.{wordFrom}
 use Rattle.answers.specs.Judged.{command, judge, taken, notAvailable, replyBy}
-use Rattle.answers.specs.Played.{played}
+use Rattle.answers.specs.Played.{answered}
+use Rattle.answers.proofs.Readings.{answered-intact}
 
 -- to a set the word goes by whether it is taken
 pub set-reply : (i : MonitorId) (t : Bool) (q : Panel) → replyBy i (cond t (taken q) notAvailable) ≡ wordFrom i (cond t Ack Nav)
@@ -43,13 +43,7 @@ module _ (t : Table) (f : WellFormed t) (i : MonitorId) (k : ℕ) (there : place
   unfolding reaches
   asked-reached = rw (named, eq-eqb _ _ (place-there i (panelsOf t) k there .1))
 
-  module _ (d : List ℕ) (short : length d ≤ mostData) where
-    pub asked-intact : verdictOf (packetOf i (groupId 0) d) ≡ Intact i (groupId 0) (length d)
-    asked-intact = packet-verdict i (groupId 0) d short
-
-    pub asked-data : dataOf (packetOf i (groupId 0) d) (Intact i (groupId 0) (length d)) ≡ d
-    asked-data = ap (dataOf (packetOf i (groupId 0) d)) (sym asked-intact) ∙ packet-data i (groupId 0) d short
-
-    pub asked-replies : played (panelsOf t) (packetOf i (groupId 0) d) .reply ≡ replyBy i (judge (command d) panel)
-    unfolding played isHeard
-    asked-replies = rw (asked-intact, asked-data, named, there)
+  pub asked-replies : (r : Reading) (n : ℕ) → r .verdict ≡ Verdict.Intact i (groupId 0) n
+      → answered (panelsOf t) r .reply ≡ replyBy i (judge (command (r .part)) panel)
+  unfolding isHeard
+  asked-replies r n intact = rw (answered-intact (panelsOf t) r i (groupId 0) n intact, named, there)

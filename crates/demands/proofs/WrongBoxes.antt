@@ -10,9 +10,11 @@ use Rattle.settings.specs.Settings.{settings, allowedByRow, freshValues, within
 use Rattle.finding.specs.Found.{foundFrom}
 use Rattle.models.specs.Models.{filled}
 use Rattle.lists.specs.Lists.{laidAt, same}
-use Rattle.packet.specs.declared.Verdict.the-variants.{Damaged}
-use Rattle.packet.specs.Xor.{_⊕_, xorAll}
-use Rattle.packet.specs.Packet.{isIntact, damageOf, verdictOf, dataOf, packetOf}
+use Rattle.packet.specs.declared.Damage.{Damage}
+use Rattle.packet.specs.declared.Verdict.{Verdict}
+use Rattle.xor.specs.Xor.{_⊕_, xorAll}
+use Rattle.packet.specs.Packet.{isIntact, verdictOf, dataOf, packetOf}
+use Rattle.packet.specs.Reading.{seemsFor, readingOf}
 use Rattle.panels.specs.Wall.{Wall, placeFrom}
 use Rattle.packet.specs.Answered.{isHeard}
 use Rattle.panels.specs.Addressed.{reaches}
@@ -21,8 +23,8 @@ use Rattle.answers.specs.declared.Answer.the-variants.{Silence, Word, Report}
 use Rattle.answers.specs.declared.Reply.{Reply}
 use Rattle.answers.specs.Reply.{silence, sentBytes}
 use Rattle.answers.specs.Judged.{command, stored, offAlready, takes, judge}
-use Rattle.answers.specs.Played.{turned, damagedReply, played}
-use Rattle.line.specs.Session.{byBurst, Ended, session}
+use Rattle.answers.specs.Played.{turned, answered, played}
+use Rattle.answers.specs.Session.{byBurst, Ended, session}
 use Rattle.answers.specs.Sample.{twoPanels}
 use Rattle.demands.specs.Demand3.{Box, SilenceOrNack}
 use Rattle.demands.specs.WrongBoxes.{always, everyNav, neverStores, firstAlone, ifSilent, storesAnswered, oneLate, written, Differs, AllDiffer, SomeWithstand}
@@ -41,7 +43,7 @@ others = byBurst everyNav ∷ byBurst neverStores ∷ firstAlone ∷ byBurst sto
 
 -- one computed test
 tested : (sentBy session ≡ ours) × (map (λ (box : Box). same (sentBy box) ours) others ≡ false ∷ false ∷ false ∷ false ∷ false ∷ [])
-unfolding settings foundFrom allowedByRow freshValues within allAllowed filled flatten _⊕_ xorAll isIntact verdictOf dataOf packetOf placeFrom reaches isHeard sentBytes command stored laidAt offAlready takes judge turned damagedReply played twoPanels byBurst written same
+unfolding settings foundFrom allowedByRow freshValues within allAllowed filled flatten _⊕_ xorAll isIntact verdictOf dataOf packetOf placeFrom reaches isHeard sentBytes command stored laidAt offAlready takes judge turned seemsFor answered twoPanels byBurst written same
 tested = (refl, refl)
 
 same-bytes : (box : Box) → box twoPanels written ≡ session twoPanels written → sentBy box ≡ ours
@@ -68,19 +70,19 @@ pub all-differ : AllDiffer
 all-differ =
     (always-differs, differs _ (at 0), differs _ (at 1), differs _ (at 2), differs _ (at 3), differs _ (at 4))
 
-answered-still : (w : Wall) (b : List ℕ) → verdictOf b ≡ Damaged (damageOf b) → storesAnswered w b .wall ≡ w
-answered-still w b d = go (played w b .reply .answer)
+answered-still : (w : Wall) (b : List ℕ) (d : Damage) → readingOf b .verdict ≡ Verdict.Damaged d → storesAnswered w b .wall ≡ w
+answered-still w b d e = go (played w b .reply .answer)
   where
     go : (a : Answer) → ifSilent a w (played w b .wall) ≡ w
     go Silence = refl
-    go (Word c) = damaged-still w b d
-    go Report = damaged-still w b d
+    go (Word c) = damaged-still w (readingOf b) d e
+    go Report = damaged-still w (readingOf b) d e
 
 pub some-withstand : SomeWithstand
 some-withstand = (
-  withstands SilenceOrNack (always silence) (λ w b d. refl) (λ w b d. inl refl),
-  (λ r. withstands (λ s. Unit {0}) (always r) (λ w b d. refl) (λ w b d. tt)),
-  withstands (λ s. Unit {0}) everyNav (λ w b d. refl) (λ w b d. tt),
-  withstands SilenceOrNack neverStores (λ w b d. refl) damaged-may,
-  withstands SilenceOrNack storesAnswered answered-still damaged-may,
+  withstands SilenceOrNack (always silence) (λ w b d e. refl) (λ w b d e. inl refl),
+  (λ r. withstands (λ s. Unit {0}) (always r) (λ w b d e. refl) (λ w b d e. tt)),
+  withstands (λ s. Unit {0}) everyNav (λ w b d e. refl) (λ w b d e. tt),
+  withstands SilenceOrNack neverStores (λ w b d e. refl) (λ w b. damaged-may w (readingOf b)),
+  withstands SilenceOrNack storesAnswered answered-still (λ w b. damaged-may w (readingOf b)),
 )

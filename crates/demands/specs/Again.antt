@@ -6,13 +6,13 @@ use mathlib.Core.List.{List, [], _∷_}
 use lib.ListN.{length, getD}
 use Rattle.packet.specs.declared.Verdict.{Verdict}
 use Rattle.packet.specs.declared.Verdict.the-variants.{Empty, Damaged, Intact}
-use Rattle.packet.specs.Packet.{verdictOf}
+use Rattle.packet.specs.Reading.{readingOf}
 use Rattle.panels.specs.declared.Panel.{Panel}
 use Rattle.panels.specs.declared.Table.{Table}
 use Rattle.panels.specs.Wall.{Wall, blank, panelsOf}
 use Rattle.panels.specs.Addressed.{reaches}
 use Rattle.panels.specs.WellFormed.{WellFormed}
-use Rattle.line.specs.Session.{session}
+use Rattle.answers.specs.Session.{session}
 
 -- the panels that a burst addresses: none, where it is not intact
 abbrev pub addressedBy : Verdict → Panel → Bool
@@ -23,7 +23,7 @@ addressedBy (Intact i g n) p = reaches i g p
 -- no panel of the wall is addressed by both bursts
 abbrev pub Apart : Wall → List ℕ → List ℕ → Type 0
 Apart w b c =
-    (k : ℕ) → k < length w → let p = getD w k blank in (addressedBy (verdictOf b) p && addressedBy (verdictOf c) p) ≡ false
+    (k : ℕ) → k < length w → let p = getD w k blank in (addressedBy (readingOf b .verdict) p && addressedBy (readingOf c .verdict) p) ≡ false
 
 -- bursts among which b is sent again, the others to other panels; and these others alone
 pub data Again (w : Wall) (b : List ℕ) : List (List ℕ) → List (List ℕ) → Type 0 where

@@ -5,42 +5,48 @@ use mathlib.Core.Path.{_≡_}
 use mathlib.Core.List.{List, []}
 use lib.Dec.{leb, eqb}
 use lib.ListN.{length, getD, take, drop}
+use Rattle.packet.specs.declared.Damage.{Damage}
 use Rattle.packet.specs.declared.Damage.the-variants.{Nothing}
-use Rattle.packet.specs.Xor.{xorAll}
-use Rattle.packet.specs.Packet.{monitorId, groupId, isIntact, damageOf, damageNumber}
+use Rattle.xor.specs.Xor.{xorAll}
+use Rattle.packet.specs.Packet.{monitorId, groupId, isIntact, damageIn, damageNumber}
+use Rattle.packet.specs.Reading.{seemsFor, readingOf}
 use Rattle.packet.specs.Spoiled.{Spoiling, spoiled, Spoils}
 use Rattle.panels.specs.declared.Table.{Table}
 use Rattle.panels.specs.Wall.{Wall, panelsOf, tableOf}
 use Rattle.answers.specs.Reply.{silence}
 use Rattle.answers.specs.Judged.{command}
-use Rattle.answers.specs.Played.{Outcome, playedPacket, damagedReply, played}
-use Rattle.line.specs.Session.{receiverOf, atMark, fed}
+use Rattle.answers.specs.Played.{Outcome, playedPacket, nackFrom, answered}
+use Rattle.line.specs.Receiver.{receiverOf, atMark, fed}
 use Rattle.host.specs.declared.Outcome.the-variants.{Idle}
 use Rattle.host.specs.Machine.{burst, State, waits, quiet, heard, telling, step}
+
+-- what is told of a burst
+abbrev pub told : List ℕ → Damage
+told b = damageIn (readingOf b .verdict)
 
 -- 1 to 3 bytes are 1, over 40 are 2, a size that differs from the count is 3, a wrong checksum is 4: the first that holds. Else 0,
 abbrev pub Kinds : Type 0
 Kinds =
     (b : List ℕ)
-    → damageNumber (damageOf b)
+    → damageNumber (told b)
     ≡ cond (eqb (length b) 0) 0
     (cond (leb (length b) 3) 1 (cond (leb 41 (length b)) 2 (cond (not (eqb (getD b 0 0) (length b))) 3 (cond (eqb (xorAll b) 0) 0 4))))
 
 -- which is for an empty and for an intact burst alone,
 abbrev pub NoDamage : Type 0
-NoDamage = (b : List ℕ) → eqb (damageNumber (damageOf b)) 0 ≡ (eqb (length b) 0 || isIntact b)
+NoDamage = (b : List ℕ) → eqb (damageNumber (told b)) 0 ≡ (eqb (length b) 0 || isIntact b)
 
 -- and never for a packet that was spoiled by one byte.
 abbrev pub SpoiledTold : Type 0
-SpoiledTold = (packet : List ℕ) (s : Spoiling) → isIntact packet ≡ true → Spoils s packet → damageOf (spoiled s packet) ≡ Nothing → ⊥
+SpoiledTold = (packet : List ℕ) (s : Spoiling) → isIntact packet ≡ true → Spoils s packet → told (spoiled s packet) ≡ Nothing → ⊥
 
 -- The receiver, which keeps 40 bytes, leaves of a burst of any length, byte after byte and then the mark, what the whole burst does,
 -- and tells what is wrong with it.
 abbrev pub AnyLength : Type 0
 AnyLength =
     (t : Table) (b : List ℕ)
-    → let o = played (panelsOf t) b in
-    atMark (fed (receiverOf []) b) t ≡ record { receiver = receiverOf []; table = tableOf (o .wall); reply = o .reply; damage = damageOf b }
+    → let o = answered (panelsOf t) (readingOf b) in
+    atMark (fed (receiverOf []) b) t ≡ record { receiver = receiverOf []; table = tableOf (o .wall); reply = o .reply; damage = told b }
 
 -- The wall and the answer without this request, by 01: an empty burst does nothing, an intact one is a packet, and any other gets
 -- NACK or silence.
@@ -50,12 +56,12 @@ before w b =
     (record { wall = w; reply = silence })
     (cond (isIntact b)
     (playedPacket w (monitorId (getD b 1 0)) (groupId (getD b 2 0)) (command (take (length b - 4) (drop 3 b))))
-    (record { wall = w; reply = damagedReply w b }))
+    (record { wall = w; reply = nackFrom w (seemsFor b) }))
 
 -- What goes out on the line is unchanged,
 abbrev pub Unchanged : Type 0
-Unchanged = (w : Wall) (b : List ℕ) → played w b ≡ before w b
+Unchanged = (w : Wall) (b : List ℕ) → answered w (readingOf b) ≡ before w b
 
 -- and the host's move is what it was, with what is wrong with the burst beside it, whatever the host waits for.
 abbrev pub HostUnchanged : Type 0
-HostUnchanged = (s : State) (b : List ℕ) → step s (burst b) ≡ telling (damageOf b) (cond (waits s) (heard s b) (quiet s Idle))
+HostUnchanged = (s : State) (b : List ℕ) → step s (burst b) ≡ telling (told b) (cond (waits s) (heard s b) (quiet s Idle))

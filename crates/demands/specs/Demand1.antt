@@ -10,7 +10,7 @@ use Rattle.packet.specs.declared.MonitorId.{MonitorId}
 use Rattle.packet.specs.declared.GroupId.{GroupId}
 use Rattle.packet.specs.declared.Verdict.{Verdict}
 use Rattle.packet.specs.declared.Verdict.the-variants.{Empty, Damaged, Intact}
-use Rattle.packet.specs.Packet.{verdictOf, dataOf}
+use Rattle.packet.specs.Reading.{Reading}
 use Rattle.lists.specs.Lists.{laidOver}
 use Rattle.panels.specs.declared.Panel.{Panel}
 use Rattle.panels.specs.declared.Table.{Table}
@@ -22,7 +22,7 @@ use Rattle.panels.specs.WellFormed.{WellFormed}
 use Rattle.answers.specs.declared.Reply.{Reply}
 use Rattle.answers.specs.Reply.{sentOf, bytesSent, outputOf as answerOutput}
 use Rattle.answers.specs.Judged.{command, judge, notAvailable}
-use Rattle.answers.specs.Played.{played}
+use Rattle.answers.specs.Played.{answered}
 use Rattle.forms.specs.declared.Form.{Form}
 use Rattle.refusals.specs.declared.Refusal.the-variants.{Nothing as Sound}
 use Rattle.image_write.specs.Written.{writtenOf, bytesWritten, outputOf as imageOutput}
@@ -51,14 +51,15 @@ CallRefused =
     → let m = call out (stateOf host) h in
     m .outcome ≡ Refused r → (stepOf m .host ≡ host) × (laidOver (bytesOf m) out ≡ out)
 
--- a burst is bad for a panel: empty or damaged, not to this panel, or not available
+-- a burst with this verdict and data is bad for a panel: empty or damaged, not to this panel, or not available
 abbrev pub Bad : Verdict → List ℕ → Panel → Type 0
-Bad Empty b p = Unit {0}
-Bad (Damaged damage) b p = Unit {0}
-Bad (Intact i g n) b p = (reaches i g p ≡ false) ⊎ (judge (command (dataOf b (Intact i g n))) p ≡ notAvailable)
+Bad Empty d p = Unit {0}
+Bad (Damaged damage) d p = Unit {0}
+Bad (Intact i g n) d p = (reaches i g p ≡ false) ⊎ (judge (command d) p ≡ notAvailable)
 
+-- whatever was read of it
 abbrev pub BadBurst : Type 0
-BadBurst = (w : Wall) (b : List ℕ) → ((k : ℕ) → k < length w → Bad (verdictOf b) b (getD w k blank)) → played w b .wall ≡ w
+BadBurst = (w : Wall) (r : Reading) → ((k : ℕ) → k < length w → Bad (r .verdict) (r .part) (getD w k blank)) → answered w r .wall ≡ w
 
 -- behind the bytes that were written the output is as before
 abbrev pub AnswerAlone : Type 0

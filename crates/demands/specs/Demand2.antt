@@ -1,6 +1,6 @@
 -- Demand 2. Each burst gets exactly the answer that 01 gives: that is `played`, to which `answers::play` is proved
--- equal. What it never does is said here.
-use Prim.Native.Nat.{ℕ, _<_}
+-- equal. It goes by what is read of the burst, and what it never does is said here of every reading.
+use Prim.Native.Nat.{ℕ, _≤_, _<_}
 use mathlib.Core.Bool.{true}
 use mathlib.Core.Logic.{_⊎_}
 use mathlib.Core.Path.{_≡_}
@@ -15,7 +15,8 @@ use Rattle.packet.specs.declared.MonitorId.{MonitorId}
 use Rattle.packet.specs.declared.GroupId.{GroupId}
 use Rattle.packet.specs.declared.Control.{Control}
 use Rattle.packet.specs.declared.Verdict.the-variants.{Intact}
-use Rattle.packet.specs.Packet.{verdictOf, dataOf}
+use Rattle.packet.specs.Packet.{packetOf, mostData}
+use Rattle.packet.specs.Reading.{Reading, readingOf}
 use Rattle.panels.specs.declared.Panel.{Panel}
 use Rattle.panels.specs.declared.Table.{Table}
 use Rattle.panels.specs.Wall.{Wall, modelOf, blank, tableOf, panelsOf}
@@ -25,9 +26,10 @@ use Rattle.panels.specs.WellFormed.{WellFormed}
 use Rattle.answers.specs.Reply.{silence, wordFrom, reportFrom}
 use Rattle.answers.specs.declared.Reply.{Reply}
 use Rattle.answers.specs.Judged.{command, setOf}
-use Rattle.answers.specs.Played.{played}
+use Rattle.answers.specs.Played.{answered}
+use Rattle.answers.specs.Session.{byBurst, session}
 use Rattle.demands.specs.Cases.{Case, tried, cases}
-use Rattle.line.specs.Session.{Event, session, burstsAfter, receiverOf, streamed}
+use Rattle.line.specs.Receiver.{Event, burstsAfter, receiverOf, streamed}
 use Rattle.forms.specs.declared.Form.{Form}
 use Rattle.forms.specs.Forms.{hasField}
 use Rattle.refusals.specs.declared.Refusal.the-variants.{Nothing as Sound}
@@ -39,17 +41,27 @@ use Rattle.refusals.specs.Refusals.{isSound}
 use Rattle.image_read.specs.Read.{readOf, inTable}
 use Rattle.image_read.specs.Entries.{Entry, bytesOf, freshEntry, Without, Reordered, GiveAlike, SameHead}
 
+-- a session goes by what is read of its bursts, one after the other,
+abbrev pub ByReadings : Type 0
+ByReadings = (w : Wall) (bursts : List (List ℕ)) → session w bursts ≡ byBurst answered w (map readingOf bursts)
+
+-- and of a packet written out just its ID, its group and its data are read
+abbrev pub ReadAsWritten : Type 0
+ReadAsWritten =
+    (i : MonitorId) (g : GroupId) (d : List ℕ) → length d ≤ mostData
+    → let r = readingOf (packetOf i g d) in (r .verdict ≡ Intact i g (length d)) × (r .part ≡ d)
+
 -- a panel that a set changed: it was addressed, and only the row that the set code names is another, with the set's values, of
 -- which a tiling's byte 0 leaves the wall that the panel had (02, A6); its own profile and kind allow what it then holds
-pub record SetBy (b : List ℕ) (p q : Panel) : Type 0 where
+pub record SetBy (r : Reading) (p q : Panel) : Type 0 where
   pub id : MonitorId
   pub group : GroupId
   pub count : ℕ
   pub row : ℕ
   pub values : List ℕ
-  pub intact : verdictOf b ≡ Intact id group count
+  pub intact : r .verdict ≡ Intact id group count
   pub addressed : reaches id group p ≡ true
-  pub named : command (dataOf b (Intact id group count)) ≡ setOf row values
+  pub named : command (r .part) ≡ setOf row values
   pub inRange : allowedFor (modelOf p) row (valuesOf row (q .values)) ≡ true
   pub same : (q .id ≡ p .id) × (q .group ≡ p .group) × (q .profile ≡ p .profile)
   pub stored : valuesOf row (q .values) ≡ filled row (getD (valuesOf row (p .values)) 3 0) values
@@ -57,10 +69,10 @@ pub record SetBy (b : List ℕ) (p q : Panel) : Type 0 where
 
 -- every panel stays, or such a set changed it
 abbrev pub OnlyAddressed : Type 0
-OnlyAddressed = (t : Table) → WellFormed t → (b : List ℕ) (k : ℕ) → k < length (panelsOf t)
+OnlyAddressed = (t : Table) → WellFormed t → (r : Reading) (k : ℕ) → k < length (panelsOf t)
     → let p = getD (panelsOf t) k blank in
-    let q = getD (played (panelsOf t) b .wall) k blank in
-    (q ≡ p) ⊎ SetBy b p q
+    let q = getD (answered (panelsOf t) r .wall) k blank in
+    (q ≡ p) ⊎ SetBy r p q
 
 -- an answer is silence, one of the three control words, or a report of a setting, which carries the stored values of the panel that
 -- it is from
@@ -72,7 +84,7 @@ Answer·Is w r =
     × (r ≡ reportFrom i (getCode row ∷ valuesOf row (getD w k blank .values)))))
 
 abbrev pub Answers : Type 0
-Answers = (w : Wall) (b : List ℕ) → Answer·Is w (played w b .reply)
+Answers = (w : Wall) (r : Reading) → Answer·Is w (answered w r .reply)
 
 -- on the line: the receiver takes bytes and quiet marks one at a time, and each burst between two marks is played
 abbrev pub Received : Type 0
@@ -84,7 +96,7 @@ pub data Comes : Table → Type 0 where
   add : {t : Table} → Comes t → (i : MonitorId) (g : GroupId) (n k : ℕ) → Comes (tableOf (added (panelsOf t) i g n k))
   remove : {t : Table} → Comes t → (i : MonitorId) → Comes (tableOf (removed (panelsOf t) i))
   image : (bytes : List ℕ) → Comes (inTable (readOf bytes) .table)
-  burst : {t : Table} → Comes t → (b : List ℕ) → Comes (tableOf (played (panelsOf t) b .wall))
+  burst : {t : Table} → Comes t → (r : Reading) → Comes (tableOf (answered (panelsOf t) r .wall))
 
 abbrev pub InRange : Type 0
 InRange = (t : Table) → Comes t → WellFormed t

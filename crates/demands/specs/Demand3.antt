@@ -13,7 +13,8 @@ use Rattle.packet.specs.Spoiled.{Spoiling, spoiled, Spoils}
 use Rattle.panels.specs.Wall.{Wall}
 use Rattle.answers.specs.declared.Reply.{Reply}
 use Rattle.answers.specs.Reply.{silence, wordFrom}
-use Rattle.line.specs.Session.{Ended, session, Event, byte, quiet, receiverOf, streamed}
+use Rattle.answers.specs.Session.{Ended, session}
+use Rattle.line.specs.Receiver.{Event, byte, quiet, receiverOf, streamed}
 
 -- a burst that arrives as it was sent, or an intact packet that is spoiled on the way
 pub data Item : Type 0 where

@@ -10,13 +10,14 @@ use Rattle.packet.specs.declared.MonitorId.{MonitorId}
 use Rattle.packet.specs.declared.GroupId.{GroupId}
 use Rattle.packet.specs.declared.Control.the-variants.{Ack, Nav}
 use Rattle.packet.specs.declared.Verdict.the-variants.{Intact}
-use Rattle.packet.specs.Packet.{groupId, packetOf, verdictOf, dataOf}
+use Rattle.packet.specs.Packet.{groupId}
+use Rattle.packet.specs.Reading.{Reading}
 use Rattle.panels.specs.declared.Table.{Table}
 use Rattle.panels.specs.declared.Place.the-variants.{At}
 use Rattle.panels.specs.Wall.{Wall, blank, placeOf, panelsOf}
 use Rattle.panels.specs.WellFormed.{WellFormed}
 use Rattle.answers.specs.Reply.{wordFrom}
-use Rattle.answers.specs.Played.{played}
+use Rattle.answers.specs.Played.{answered}
 use Rattle.requests.specs.declared.Said.the-variants.{Nav as NavSaid}
 use Rattle.requests.specs.Request.{requestData}
 use Rattle.host.specs.declared.End.{End}
@@ -26,16 +27,16 @@ use Rattle.host.specs.Machine.{State, sendings, over, ending}
 -- is off, is NAV.
 abbrev pub PowerSet : Type 0
 PowerSet =
-    (t : Table) → WellFormed t → (i : MonitorId) (k v : ℕ) → placeOf i (panelsOf t) ≡ At k
+    (t : Table) → WellFormed t → (i : MonitorId) (k v n : ℕ) → placeOf i (panelsOf t) ≡ At k
+    → (r : Reading) → r .verdict ≡ Intact i (groupId 0) n → r .part ≡ 0x18 ∷ v ∷ []
     → let power = getD (getD (panelsOf t) k blank .values) 1 0 in
-    played (panelsOf t) (packetOf i (groupId 0) (0x18 ∷ v ∷ [])) .reply ≡ wordFrom i (cond (eqb v 2 || eqb v 1 && eqb power 2) Ack Nav)
+    answered (panelsOf t) r .reply ≡ wordFrom i (cond (eqb v 2 || eqb v 1 && eqb power 2) Ack Nav)
 
 -- Power off, to one panel, a group or all, leaves each panel that is off as it is.
 abbrev pub OffStays : Type 0
 OffStays =
-    (w : Wall) (b : List ℕ) (i : MonitorId) (g : GroupId) (n : ℕ)
-    → verdictOf b ≡ Intact i g n → dataOf b (Intact i g n) ≡ 0x18 ∷ 1 ∷ []
-    → (k : ℕ) → k < length w → getD (getD w k blank .values) 1 0 ≡ 1 → getD (played w b .wall) k blank ≡ getD w k blank
+    (w : Wall) (r : Reading) (i : MonitorId) (g : GroupId) (n : ℕ) → r .verdict ≡ Intact i g n → r .part ≡ 0x18 ∷ 1 ∷ []
+    → (k : ℕ) → k < length w → getD (getD w k blank .values) 1 0 ≡ 1 → getD (answered w r .wall) k blank ≡ getD w k blank
 
 -- NAV ends a request; "off or refused" is for a power off alone, and only where it was sent twice or three times.
 abbrev pub NavEnds : Type 0

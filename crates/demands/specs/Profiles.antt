@@ -16,25 +16,25 @@ use Rattle.profiles.specs.Video.{tintOf, tintByte, videoIn, bytesOf}
 use Rattle.packet.specs.declared.MonitorId.{MonitorId}
 use Rattle.packet.specs.declared.GroupId.{GroupId}
 use Rattle.packet.specs.declared.Verdict.the-variants.{Intact}
-use Rattle.packet.specs.Packet.{verdictOf, dataOf}
+use Rattle.packet.specs.Reading.{Reading}
 use Rattle.panels.specs.declared.Panel.{Panel}
 use Rattle.panels.specs.declared.Seen.the-variants.{Phoenix as PhoenixSeen}
 use Rattle.panels.specs.Wall.{Wall, modelOf, blank, videoOf}
 use Rattle.panels.specs.Addressed.{reaches}
 use Rattle.panels.specs.WellFormed.{GoodPanel}
 use Rattle.answers.specs.Judged.{command, setOf, stored, heldThen}
-use Rattle.answers.specs.Played.{played}
+use Rattle.answers.specs.Played.{answered}
 
 -- A set to a wall of both profiles and both kinds: exactly the panels that it addresses and whose own profile and kind allow what
 -- they would then hold hold it, and every other is as it was.
 abbrev pub OwnModel : Type 0
 OwnModel =
-    (w : Wall) (b : List ℕ) (i : MonitorId) (g : GroupId) (n row : ℕ) (values : List ℕ)
-    → verdictOf b ≡ Intact i g n → command (dataOf b (Intact i g n)) ≡ setOf row values
+    (w : Wall) (r : Reading) (i : MonitorId) (g : GroupId) (n row : ℕ) (values : List ℕ)
+    → r .verdict ≡ Intact i g n → command (r .part) ≡ setOf row values
     → (k : ℕ) → k < length w
     → let p = getD w k blank in
     let held = heldThen row values p in
-    getD (played w b .wall) k blank ≡ cond (reaches i g p && allowedFor (modelOf p) row held) (stored row held p) p
+    getD (answered w r .wall) k blank ≡ cond (reaches i g p && allowedFor (modelOf p) row held) (stored row held p) p
 
 -- A byte and a tint of 8 bits are each the other's way back; `mag` of t is t or -(t + 1).
 abbrev pub TintBack : Type 0

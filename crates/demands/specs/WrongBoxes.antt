@@ -12,7 +12,7 @@ use Rattle.answers.specs.declared.Answer.the-variants.{Silence, Word, Report}
 use Rattle.answers.specs.declared.Reply.{Reply}
 use Rattle.answers.specs.Reply.{silence, wordFrom}
 use Rattle.answers.specs.Played.{Outcome, played}
-use Rattle.line.specs.Session.{byBurst, session}
+use Rattle.answers.specs.Session.{byBurst, session}
 use Rattle.answers.specs.Sample.{twoPanels}
 use Rattle.demands.specs.Demand3.{Box, Withstands, SilenceOrNack}
 

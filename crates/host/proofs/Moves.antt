@@ -68,7 +68,7 @@ module _ (out : List ℕ) (host : Host) (room : longest ≤ length out) where
     busy r = rw (le-leb _ _ room, length-replicate, lt-ltb _ _ (some _ ne))
 
 -- what is heard goes by the burst's verdict and data
-pub heard-is : (s : State) (b d : List ℕ) (v : Verdict) → v ≡ verdictOf b → d ≡ dataOf b v → ending s d (saidBy (s .request) v d) ≡ heard s b
+pub heard-is : (s : State) (b d : List ℕ) (v : Verdict) → v ≡ verdictOf b → d ≡ dataOf b → ending s d (saidBy (s .request) v d) ≡ heard s b
 unfolding heard saidTo
 heard-is s b d v e f = rw (f, e)
 

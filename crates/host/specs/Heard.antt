@@ -19,7 +19,7 @@ saidBy r (Damaged damage) d = Nothing
 saidBy r (Intact id group n) d = cond (eqb (group .0) 0 && eqb (id .0) (r .id .0)) (wordIn (r .model) (r .code) d) Nothing
 
 abbrev pub dataIn : List ℕ → List ℕ
-dataIn burst = dataOf burst (verdictOf burst)
+dataIn burst = dataOf burst
 
 unfoldable pub saidTo : Request → List ℕ → Said
 saidTo r burst = saidBy r (verdictOf burst) (dataIn burst)

@@ -8,15 +8,15 @@ use borrow.Author.Tests.{lt-ltb, le-ltb, ltb-true, ltb-false}
 use lib.Dec.{ltb}
 use lib.ListN.{length, take, drop, length-append, length-take, take-append-drop}
 use lib.Seq.{take-all, take-at, take-append-le, set-at, append-snoc}
-use Rattle.packet.specs.Packet.{longest, damageOf}
-use Rattle.packet.proofs.Damages.{too-long}
+use Rattle.packet.specs.Packet.{headSize, longest}
+use Rattle.packet.specs.Reading.{Reading, seemsFor, readingOf}
+use Rattle.packet.proofs.Readings.{same-reading, long-reading, seems-alike}
 use Rattle.panels.specs.declared.Table.{Table}
-use Rattle.panels.specs.Wall.{Wall, panelsOf}
+use Rattle.panels.specs.Wall.{Wall}
 use Rattle.line.specs.declared.Receiver.{Receiver}
-use Rattle.answers.specs.declared.Reply.{Reply}
-use Rattle.answers.specs.Played.{Outcome, damagedReply, played, playedOn}
-use Rattle.line.specs.Session.{byBurst, session, Event, byte, quiet, burstsAfter, receiverOf, withByte, burstOf, heardAs, atMark, fed, streamed}
-use Rattle.answers.proofs.Bursts.{played-long, damaged-alike}
+use Rattle.answers.specs.Played.{answered, answeredOn, playedOn}
+use Rattle.answers.specs.Session.{byBurst, session}
+use Rattle.line.specs.Receiver.{Event, byte, quiet, burstsAfter, receiverOf, withByte, burstOf, readingIn, heardAs, atMark, fed, streamed}
 
 abbrev receiver : List ℕ → ℕ → Receiver
 receiver bs n = record { bytes = bs; count = n }
@@ -58,7 +58,6 @@ with-byte-long l b h =
 with-byte : (l : List ℕ) (b : ℕ) → withByte (receiverOf l) b ≡ receiverOf (l ++ b ∷ [])
 with-byte l b = by-size _ (length l) longest (with-byte-short l b) (with-byte-long l b)
 
--- the burst that a receiver has does what the bytes do that it was fed
 kept : (l : List ℕ) → length l < (longest + 1) → burstOf (receiverOf l) ≡ l
 unfolding burstOf receiverOf
 kept l h =
@@ -72,33 +71,26 @@ long-kept l h =
     let none : longest - length l ≡ 0 = omega arith in
     rw (count, none, append-nil (take longest l)) (take-all (longest + 1) (take longest l ++ 0 ∷ []) (simp (length-append, length-take) (omega arith)))
 
-long-alike : (w : Wall) (l : List ℕ) → (longest + 1) ≤ length l → played w (burstOf (receiverOf l)) ≡ played w l
-long-alike w l h =
-    let cut = long-kept l h in
-    let n : longest < length (take longest l ++ 0 ∷ []) = simp (length-append, length-take) (omega arith) in
-    let three : 3 ≤ length (take longest l) = simp length-take (omega arith) in
-    ap (played w) cut ∙ played-long w _ n
-    ∙ ap {B = Outcome} (λ (r : Reply). record { wall = w; reply = r })
-    (damaged-alike w (take longest l) (0 ∷ []) (drop longest l) three ∙ ap (damagedReply w) (take-append-drop longest l))
-    ∙ sym (played-long w l h)
+long-alike : (l : List ℕ) → (longest + 1) ≤ length l → readingIn (receiverOf l) ≡ readingOf l
+long-alike l h =
+    let cut = ap readingOf (long-kept l h) ∙ long-reading _ (simp (length-append, length-take) (omega arith)) in
+    let head : headSize ≤ length (take longest l) = simp length-take (omega arith) in
+    let seems = seems-alike (take longest l) (0 ∷ []) head ∙ sym (seems-alike (take longest l) (drop longest l) head) ∙ ap seemsFor (take-append-drop longest l) in
+    cut ∙ same-reading refl refl seems ∙ sym (long-reading l h)
 
-burst-alike : (w : Wall) (l : List ℕ) → played w (burstOf (receiverOf l)) ≡ played w l
-burst-alike w l = by-size _ (length l) (longest + 1) (λ h. ap (played w) (kept l h)) (long-alike w l)
-
--- and is as damaged
-damage-alike : (l : List ℕ) → damageOf (burstOf (receiverOf l)) ≡ damageOf l
-damage-alike l = by-size _ (length l) (longest + 1) (λ h. ap damageOf (kept l h)) (λ h.
-    ap damageOf (long-kept l h) ∙ too-long _ (simp (length-append, length-take) (omega arith)) ∙ sym (too-long l h))
+-- the burst that a receiver has reads as the bytes do that it was fed
+reading-alike : (l : List ℕ) → readingIn (receiverOf l) ≡ readingOf l
+reading-alike l = by-size _ (length l) (longest + 1) (λ h. ap readingOf (kept l h)) (long-alike l)
 
 fed-after : (l bs : List ℕ) → fed (receiverOf l) bs ≡ receiverOf (l ++ bs)
 unfolding fed
 fed-after l [] = ap receiverOf (sym (append-nil l))
 fed-after l (b ∷ bs) = ap (λ (r : Receiver). fed r bs) (with-byte l b) ∙ fed-after (l ++ b ∷ []) bs ∙ ap receiverOf (append-snoc l b bs)
 
--- a burst of any length, byte after byte and then the mark, is played, and its damage told
+-- a burst of any length, byte after byte and then the mark, is answered by what is read of it, and its damage told
 pub marked : (t : Table) (b : List ℕ) → atMark (fed (receiverOf []) b) t ≡ heardAs (playedOn t b)
 unfolding atMark
-marked t b = rw (fed-after [] b, burst-alike (panelsOf t) b, damage-alike b)
+marked t b = ap (λ (r : Reading). heardAs (answeredOn t r)) (ap readingIn (fed-after [] b) ∙ reading-alike b)
 
 -- from what was heard since the last mark on
 pub stream-after : (l : List ℕ) (w : Wall) (es : List Event) → streamed (receiverOf l) w es ≡ session w (burstsAfter l es)
@@ -106,6 +98,6 @@ unfolding streamed byBurst burstsAfter
 stream-after l w [] = refl
 stream-after l w (byte b ∷ es) = ap (λ (r : Receiver). streamed r w es) (with-byte l b) ∙ stream-after (l ++ b ∷ []) w es
 stream-after l w (quiet ∷ es) =
-    let same = burst-alike w l in
-    let rest = stream-after [] (played w l .wall) es in
+    let same = reading-alike l in
+    let rest = stream-after [] (answered w (readingOf l) .wall) es in
     rw (same, rest)

@@ -1,2 +1,2 @@
--- What is right of one line. `Session` is many bursts, and the line's bytes and quiet marks.
-pub mod Session
+-- What is right of one line. `Receiver` is what a receiver makes of the line's bytes and quiet marks.
+pub mod Receiver

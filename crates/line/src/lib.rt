@@ -2,10 +2,13 @@
 ghost use mathlib.Core.Path.{_≡_};
 ghost use mathlib.Core.List.{[]};
 ghost use Rattle.panels.specs.WellFormed.{WellFormed};
-ghost use Rattle.line.specs.Session.{receiverOf, withByte, atMark};
+ghost use Rattle.answers.specs.Played.{answeredOn};
+ghost use Rattle.line.specs.Receiver.{receiverOf, withByte, readingIn, atMark, fed};
+use answers::Played;
 use answers::Reply;
 use packet::Damage;
 use packet::LONGEST;
+use packet::Verdict;
 use panels::Table;
 
 // Counted where more bytes came than a packet may have.
@@ -49,29 +52,45 @@ impl Receiver {
         self
     }
 
-    pub fn quiet(mut self, t: Table) -> Heard
+    // The bytes of a burst, one after the other.
+    pub fn bytes(self, burst: &[u8]) -> Receiver
+        ensures { λ r. ⌜ r ≡ fed self (now (burst .entry)) ⌝ }
+    {
+        let mut receiver = self;
+        let mut i = 0;
+        while i < burst.len() {
+            receiver = receiver.byte(burst[i]);
+            i += 1;
+        }
+        receiver
+    }
+
+    // The answer to the burst that it has.
+    fn answered(self, t: Table) -> Played
         requires { ⌜ WellFormed t ⌝ }
-        ensures { λ r. ⌜ r ≡ atMark self t ⌝ }
+        ensures { λ r. ⌜ r ≡ answeredOn t (readingIn self) ⌝ }
     {
         let bytes = self.bytes;
         let n = self.count;
-        self.bytes = [0u8; LONGEST];
-        self.count = 0;
         if LONGEST < n {
-            let reply = answers::damaged_reply(t, &bytes);
-            return Heard {
-                receiver: self,
-                table: t,
-                reply,
-                damage: Damage::TooLong,
-            };
+            let verdict = Verdict::Damaged(Damage::TooLong);
+            let seems = packet::seems_for(&bytes);
+            return answers::answered_on(t, verdict, &bytes[..0], seems);
         }
-        let played = answers::play(t, &bytes[..n]);
+        answers::play(t, &bytes[..n])
+    }
+
+    pub fn quiet(self, t: Table) -> Heard
+        requires { ⌜ WellFormed t ⌝ }
+        ensures { λ r. ⌜ r ≡ atMark self t ⌝ }
+    {
+        let played = self.answered(t);
+        let receiver = Receiver::fresh();
         let table = played.table;
         let reply = played.reply;
         let damage = played.damage;
         Heard {
-            receiver: self,
+            receiver,
             table,
             reply,
             damage,

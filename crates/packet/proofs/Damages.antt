@@ -7,7 +7,7 @@ use native.Mathlib.Omega.{arith}
 use borrow.Author.Tests.{le-ltb, lt-ltb, ltb-false, eq-eqb, ne-eqb, eqb-true, eqb-false}
 use lib.Dec.{eqb}
 use lib.ListN.{length}
-use Rattle.packet.specs.Packet.{longest, isIntact, damageOf, damageNumber, verdictOf, damageIn}
+use Rattle.packet.specs.Packet.{shortest, longest, isIntact, damageOf, damageNumber, verdictOf, damageIn}
 use Rattle.packet.specs.declared.Damage.the-variants.{Nothing, TooShort, TooLong, Size, Checksum}
 use Rattle.packet.specs.declared.Verdict.the-variants.{Damaged}
 use Rattle.packet.proofs.Packets.{Sound, sound, intact-verdict}
@@ -48,7 +48,7 @@ module _ (b : List ℕ) (some : length b ≡ 0 → ⊥) where
 -- over 40 bytes
 pub too-long : (b : List ℕ) → longest < length b → damageOf b ≡ TooLong
 unfolding damageOf
-too-long b h = rw (ne-eqb (length b) 0 (λ z. omega arith), le-ltb (length b) 4 (omega arith), lt-ltb _ _ h)
+too-long b h = rw (ne-eqb (length b) 0 (λ z. omega arith), le-ltb (length b) shortest (omega arith), lt-ltb _ _ h)
 
 empty-said : (b : List ℕ) → length b ≡ 0 → damageIn (verdictOf b) ≡ damageOf b
 unfolding verdictOf damageOf

@@ -1,6 +1,6 @@
--- `Xor` has the laws of XOR; `Packets` that a packet written out reads back; `Damages` that just an intact
--- burst and an empty one have no damage; `Spoiled` that a spoiled intact burst is damaged.
-pub mod Xor
+-- `Packets` has that a packet written out reads back; `Damages` that just an intact burst and an empty one have no damage;
+-- `Readings` what is read of a burst too long; `Spoiled` that a spoiled intact burst is damaged.
 pub mod Packets
 pub mod Damages
+pub mod Readings
 pub mod Spoiled

@@ -1,23 +1,25 @@
 -- What an intact burst has, and that a packet written out is intact and reads back. Assumes nothing.
 use mathlib.Core.Path.{_≡_, refl, sym, ap, _∙_}
-use mathlib.Core.Bool.{Bool, true, false, false≢true, _&&_}
+use mathlib.Core.Bool.{Bool, true, false, false≢true, cond, _&&_}
 use mathlib.Core.List.{List, _∷_}
 use Prim.Native.Nat.{ℕ, _+_, _-_, _≤_}
 use native.Mathlib.Omega.{arith}
 use borrow.Author.Tests.{leb-true, le-leb, eqb-true, eq-eqb, ne-eqb}
+use lib.Dec.{eqb}
 use lib.ListN.{length, getD, length-append}
 use lib.Seq.{take-append-seam}
 use Rattle.packet.specs.declared.Written.the-variants.{Bytes}
 use Rattle.lists.specs.Lists.{laidOver}
-use Rattle.packet.specs.Xor.{xorAll}
-use Rattle.packet.specs.Packet.{monitorId, groupId, isIntact, verdictOf, dataOf, packetOf, mostData, longest, shortest, writtenOf, outputOf}
+use Rattle.xor.specs.Xor.{xorAll}
+use Rattle.packet.specs.Packet.{monitorId, groupId, isIntact, damageOf, verdictOf, dataOf, packetOf, mostData, longest, shortest, writtenOf, outputOf}
 use Rattle.packet.specs.declared.MonitorId.{MonitorId}
 use Rattle.packet.specs.declared.GroupId.{GroupId}
+use Rattle.packet.specs.declared.Verdict.{Verdict}
 use Rattle.packet.specs.declared.Verdict.the-variants.{Intact}
-use Rattle.packet.proofs.Xor.{⊕-self, ⊕-zero, xorAll-append}
+use Rattle.xor.proofs.Laws.{⊕-self, ⊕-zero, xorAll-append}
 
 pub record Sound (burst : List ℕ) : Type 0 where
-  pub least : 4 ≤ length burst
+  pub least : shortest ≤ length burst
   pub most : length burst ≤ longest
   pub size : getD burst 0 0 ≡ length burst
   pub sum : xorAll burst ≡ 0
@@ -40,13 +42,26 @@ unfolding isIntact
 intact burst s = rw (le-leb _ _ (s .least), le-leb _ _ (s .most), eq-eqb _ _ (s .size), eq-eqb _ _ (s .sum))
 
 pub intact-verdict : (burst : List ℕ) → isIntact burst ≡ true
-    → verdictOf burst ≡ Intact (monitorId (getD burst 1 0)) (groupId (getD burst 2 0)) (length burst - 4)
+    → verdictOf burst ≡ Intact (monitorId (getD burst 1 0)) (groupId (getD burst 2 0)) (length burst - shortest)
 unfolding verdictOf
 intact-verdict burst e = let s = sound burst e in rw (ne-eqb (length burst) 0 (λ z. omega arith), e)
 
+-- no other burst has such a verdict
+pub verdict-intact : (burst : List ℕ) (i : MonitorId) (g : GroupId) (n : ℕ) → verdictOf burst ≡ Intact i g n → isIntact burst ≡ true
+unfolding verdictOf
+verdict-intact burst i g n e = go (eqb (length burst) 0) (isIntact burst) refl e
+  where
+    packet : Verdict
+    packet = Intact (monitorId (getD burst 1 0)) (groupId (getD burst 2 0)) (length burst - shortest)
+
+    go : (z t : Bool) → isIntact burst ≡ t → cond z Verdict.Empty (cond t packet (Verdict.Damaged (damageOf burst))) ≡ Intact i g n → isIntact burst ≡ true
+    go z true is e = is
+    go true false is e = let never : _≡_ {A = ℕ} 0 1 = cc in absurd (omega arith)
+    go false false is e = let never : _≡_ {A = ℕ} 0 1 = cc in absurd (omega arith)
+
 -- A packet written out is intact, and reads back as its ID, group and data.
 module _ (id : MonitorId) (group : GroupId) (d : List ℕ) (short : length d ≤ mostData) where
-  pub packet-length : length (packetOf id group d) ≡ length d + 4
+  pub packet-length : length (packetOf id group d) ≡ length d + shortest
   unfolding packetOf
   packet-length = simp length-append (omega arith)
 
@@ -62,12 +77,14 @@ module _ (id : MonitorId) (group : GroupId) (d : List ℕ) (short : length d ≤
   pub packet-verdict : verdictOf (packetOf id group d) ≡ Intact id group (length d)
   unfolding packetOf
   packet-verdict =
-      let n : length (packetOf id group d) - 4 ≡ length d = rw packet-length (omega arith) in
+      let n : length (packetOf id group d) - shortest ≡ length d = rw packet-length (omega arith) in
       intact-verdict _ packet-intact ∙ ap (Intact id group) n
 
-  pub packet-data : dataOf (packetOf id group d) (verdictOf (packetOf id group d)) ≡ d
+  pub packet-data : dataOf (packetOf id group d) ≡ d
   unfolding packetOf dataOf
-  packet-data = rw (packet-verdict, eq-eqb _ _ packet-length) (take-append-seam d _)
+  packet-data =
+      let n : length d + shortest - shortest ≡ length d = omega arith in
+      rw (packet-intact, packet-length, n) (take-append-seam d _)
 
 -- An output with room for any packet gets it, where its data fits.
 module _ (out : List ℕ) (id : MonitorId) (group : GroupId) (d : List ℕ) (room : longest ≤ length out) (short : length d ≤ mostData) where

@@ -7,12 +7,12 @@ use Prim.Native.Nat.{ℕ, zero, suc, _≤_}
 use native.Mathlib.Omega.{arith}
 use lib.ListN.{length, getD, take, drop, length-append, length-take, length-drop, length-set}
 use lib.Seq.{set-split, split-at}
-use Rattle.packet.specs.Xor.{_⊕_, xorAll}
+use Rattle.xor.specs.Xor.{_⊕_, xorAll}
 use Rattle.packet.specs.Packet.{isIntact, damageOf, verdictOf}
 use Rattle.packet.specs.Spoiled.{Spoiling, changed, lost, added, spoiled, Spoils}
 use Rattle.packet.specs.declared.Damage.the-variants.{Nothing}
 use Rattle.packet.specs.declared.Verdict.the-variants.{Damaged}
-use Rattle.packet.proofs.Xor.{xor-assoc, ⊕-comm, ⊕-zero-eq, xorAll-append}
+use Rattle.xor.proofs.Laws.{xor-assoc, ⊕-comm, ⊕-zero-eq, xorAll-append}
 use Rattle.packet.proofs.Packets.{Sound, sound}
 use Rattle.packet.proofs.Damages.{passed, not-intact, damaged-verdict}
 

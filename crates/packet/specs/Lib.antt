@@ -1,7 +1,8 @@
--- What is right of one burst. `Xor` is the checksum's sum, `Packet` the packet's form, what is wrong with a burst, the verdict
--- on it and a packet written out, `Control` the three control words, `Answered` whether an answer is due, `Spoiled` what noise does to a burst.
-pub mod Xor
+-- What is right of one burst. `Packet` is the packet's form, what is wrong with a burst, the verdict on it and a packet written
+-- out, `Reading` what a burst says, `Control` the three control words, `Answered` whether an answer is due, `Spoiled` what noise
+-- does to a burst.
 pub mod Packet
+pub mod Reading
 pub mod Control
 pub mod Answered
 pub mod Spoiled

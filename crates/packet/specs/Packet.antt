@@ -7,7 +7,7 @@ use lib.ListN.{length, getD, take, drop}
 use lib.Dec.{leb, ltb, eqb}
 use Rattle.lists.specs.Lists.{laidOver}
 use Rattle.refusals.specs.Refusals.{noRoom}
-use Rattle.packet.specs.Xor.{xorAll}
+use Rattle.xor.specs.Xor.{xorAll}
 use Rattle.packet.specs.declared.MonitorId.{MonitorId}
 use Rattle.packet.specs.declared.GroupId.{GroupId}
 use Rattle.packet.specs.declared.Damage.{Damage}
@@ -23,9 +23,13 @@ monitorId i = record { 0 = i }
 abbrev pub groupId : ℕ → GroupId
 groupId g = record { 0 = g }
 
--- a packet without data, and the longest; so much data has room in it
+-- the bytes before the data: size, monitor ID, group
+abbrev pub headSize : ℕ
+headSize = 3
+
+-- a packet without data, which has the checksum behind them, and the longest; so much data has room in it
 abbrev pub shortest : ℕ
-shortest = 4
+shortest = headSize + 1
 
 abbrev pub longest : ℕ
 longest = 40
@@ -68,11 +72,9 @@ damageIn Empty = Nothing
 damageIn (Damaged damage) = damage
 damageIn (Intact id group n) = Nothing
 
--- the bytes from byte 3 to the one before the checksum, of a burst with that verdict; otherwise none
-unfoldable pub dataOf : List ℕ → Verdict → List ℕ
-dataOf burst Empty = []
-dataOf burst (Damaged damage) = []
-dataOf burst (Intact id group n) = cond (eqb (length burst) (n + shortest)) (take n (drop 3 burst)) []
+-- the bytes from behind the head to the one before the checksum, of an intact burst; otherwise none
+unfoldable pub dataOf : List ℕ → List ℕ
+dataOf burst = cond (isIntact burst) (take (length burst - shortest) (drop headSize burst)) []
 
 -- a packet written out: size and checksum are computed
 unfoldable pub packetOf : MonitorId → GroupId → List ℕ → List ℕ

@@ -1,12 +1,15 @@
 // One burst of the line: the verdict on it and what is wrong with it, its data bytes, and a packet written out.
 ghost use mathlib.Core.Path.{_≡_};
-ghost use Rattle.packet.specs.Xor.{xorAll};
 ghost use Rattle.packet.specs.Control.{controlByte};
 ghost use Rattle.packet.specs.Answered.{isHeard};
 ghost use Rattle.packet.specs.Packet.{damageOf, damageNumber, verdictOf, damageIn, dataOf, writtenOf, outputOf};
+ghost use Rattle.packet.specs.Reading.{seemsFor};
 
-// The bytes of a packet without data.
-pub const SHORTEST: usize = 4;
+// The bytes before the data: size, ID, group.
+pub const HEAD: usize = 3;
+
+// The bytes of a packet without data: the checksum stands behind the head.
+pub const SHORTEST: usize = HEAD + 1;
 
 // The bytes of the longest packet.
 pub const LONGEST: usize = 40;
@@ -36,6 +39,12 @@ pub enum Verdict {
         group: GroupId,
         count: usize,
     },
+}
+
+// Whom a damaged burst seems to be for.
+pub enum Addressee {
+    Nobody,
+    One(MonitorId),
 }
 
 // A packet's size, once it is written; or the data fits no packet; or the output has no room for any packet.
@@ -70,18 +79,6 @@ pub fn control_byte(word: Control) -> u8
     }
 }
 
-fn xor_of(bytes: &[u8]) -> u8
-    ensures { λ r. ⌜ r ≡ xorAll (now (bytes .entry)) ⌝ }
-{
-    let mut sum = 0u8;
-    let mut i = 0;
-    while i < bytes.len() {
-        sum = sum ^ bytes[i];
-        i += 1;
-    }
-    sum
-}
-
 // The first damage that holds.
 fn damage_of(burst: &[u8]) -> Damage
     ensures { λ r. ⌜ r ≡ damageOf (now (burst .entry)) ⌝ }
@@ -99,7 +96,7 @@ fn damage_of(burst: &[u8]) -> Damage
     if burst[0] as usize != n {
         return Damage::Size;
     }
-    if xor_of(burst) != 0 {
+    if xor::xor_all(burst) != 0 {
         return Damage::Checksum;
     }
     Damage::Nothing
@@ -151,26 +148,34 @@ pub fn damage_in(verdict: Verdict) -> Damage
     }
 }
 
-// The data bytes of a burst with this verdict, from byte 3 to the one before the checksum; none unless it is intact.
+// The data bytes of a burst whose verdict this is, from behind the head to the one before the checksum; none unless it is
+// intact.
 pub fn data_part(burst: &[u8], verdict: Verdict) -> &[u8]
-    ensures { λ r. ⌜ now r ≡ dataOf (now (burst .entry)) verdict ⌝ }
+    requires { ⌜ verdict ≡ verdictOf (now burst) ⌝ }
+    ensures { λ r. ⌜ now r ≡ dataOf (now (burst .entry)) ⌝ }
 {
     let Verdict::Intact {
         id: _,
         group: _,
-        count,
+        count: _,
     } = verdict
     else {
         return &burst[..0];
     };
-    let n = burst.len();
-    if n < SHORTEST {
-        return &burst[..0];
+    &burst[HEAD..burst.len() - 1]
+}
+
+// Whom a burst seems to be for, if it is damaged.
+pub fn seems_for(burst: &[u8]) -> Addressee
+    ensures { λ r. ⌜ r ≡ seemsFor (now (burst .entry)) ⌝ }
+{
+    if burst.len() < HEAD {
+        return Addressee::Nobody;
     }
-    if n - SHORTEST != count {
-        return &burst[..0];
+    if burst[2] != 0 {
+        return Addressee::Nobody;
     }
-    &burst[3..n - 1]
+    Addressee::One(MonitorId(burst[1]))
 }
 
 // A packet at the front of out, of which the rest stays as it was.
@@ -189,7 +194,7 @@ pub fn write_packet(out: &mut [u8], id: MonitorId, group: GroupId, d: &[u8]) -> 
     out[0] = size;
     out[1] = id.0;
     out[2] = group.0;
-    bytes::copy(d, &mut out[3..]);
-    out[n + 3] = size ^ id.0 ^ group.0 ^ xor_of(d);
+    bytes::copy(d, &mut out[HEAD..]);
+    out[n + HEAD] = size ^ id.0 ^ group.0 ^ xor::xor_all(d);
     Written::Bytes(n + SHORTEST)
 }

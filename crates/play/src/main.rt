@@ -4,6 +4,7 @@ ghost use mathlib.Core.Path.{_≡_};
 ghost use Rattle.panels.specs.Wall.{tableOf, panelsOf};
 ghost use Rattle.panels.specs.WellFormed.{WellFormed};
 ghost use Rattle.answers.specs.Played.{played};
+use line::Receiver;
 use packet::LONGEST;
 use panels::Table;
 use text::LONGEST_STEP;
@@ -16,20 +17,20 @@ fn print_last(word: &[u8], number: u64) {
     io::write_all(1, b"\n");
 }
 
-// One burst: its number, a space, and the answer.
+// One burst: its bytes and a quiet mark go to the receiver. Prints its number, a space, and the answer.
 fn answer(t: Table, number: u64, burst: &[u8]) -> Table
     requires { ⌜ WellFormed t ⌝ }
     ensures { λ r. ⌜ (r ≡ tableOf (played (panelsOf t) (now (burst .entry)) .wall)) × WellFormed r ⌝ }
 {
-    let played = answers::play(t, burst);
+    let heard = Receiver::fresh().bytes(burst).quiet(t);
     io::print_decimal(1, number);
     io::write_all(1, b" ");
-    let reply = played.reply;
+    let reply = heard.reply;
     let mut digits = [0u8; 2 * LONGEST];
     let n = sample::shown_answer(reply, &mut digits);
     io::write_all(1, text::front(&digits, n));
     io::write_all(1, b"\n");
-    played.table
+    heard.table
 }
 
 fn main() {

@@ -6,19 +6,17 @@ use Prim.Native.Nat.{ℕ, _+_, _*_, _≤_}
 use native.Mathlib.Omega.{arith}
 use borrow.Author.Tests.{eq-eqb, ne-eqb, eqb-false, leb-true}
 use lib.Dec.{leb}
-use lib.ListN.{length, length-map}
+use lib.ListN.{length}
 use Rattle.lists.proofs.Both.{both}
-use Rattle.packet.specs.declared.Verdict.{Verdict}
-use Rattle.packet.specs.declared.Verdict.the-variants.{Empty, Damaged, Intact}
-use Rattle.packet.specs.Packet.{damageOf, verdictOf, dataOf, longest}
+use Rattle.packet.specs.Packet.{verdictOf, damageIn, longest}
+use Rattle.packet.specs.Reading.{Reading, readingOf}
 use Rattle.panels.specs.Wall.{Wall, panelsOf, tableOf}
 use Rattle.panels.specs.WellFormed.{WellFormed}
 use Rattle.panels.proofs.Laws.{panels-of-table}
 use Rattle.answers.specs.declared.Played.{Played}
 use Rattle.answers.specs.Reply.{sentBytes, silence}
-use Rattle.answers.specs.Judged.{command}
-use Rattle.answers.specs.Played.{turned, playedBy, played, playedOn}
-use Rattle.answers.proofs.Formed.{played-formed}
+use Rattle.answers.specs.Played.{answered, answeredOn}
+use Rattle.answers.proofs.Formed.{answered-count, answered-formed}
 use Rattle.forms.specs.declared.Form.{Form}
 use Rattle.refusals.specs.declared.Refusal.{Refusal}
 use Rattle.image_read.specs.declared.Read.{Read}
@@ -26,7 +24,7 @@ use Rattle.image_write.specs.Written.{setupOf, sizeOf, losesNothing, panelSize}
 use Rattle.refusals.specs.Refusals.{isSound, refusalNumber, noRoom, wouldLose}
 use Rattle.image_read.specs.Read.{readOf, inTable}
 use Rattle.image_read.proofs.Sound.{read-formed}
-use Rattle.undivarro.specs.Calls.{refused, given, refusalFor, afterBurst}
+use Rattle.undivarro.specs.Calls.{refused, given, refusalFor, afterReading}
 
 -- where nothing is refused nothing would be lost, and there is room
 pub all-there : (read : Refusal) (held room : Bool) → refusalFor read held room ≡ 0 → (held ≡ true) × (room ≡ true)
@@ -60,56 +58,47 @@ module _ (image : List ℕ) (read : Read) (is-read : read ≡ inTable (readOf im
         let (a, b) = both _ _ room in
         (held, (leb-true _ _ a, leb-true _ _ b))
 
--- a burst leaves as many panels as there were
-by-verdict-count : (v : Verdict) (w : Wall) (b : List ℕ) → length (playedBy v w b .wall) ≡ length w
-by-verdict-count Empty w b = refl
-by-verdict-count (Damaged d) w b = refl
-by-verdict-count (Intact i g n) w b = length-map w (turned i g (command (dataOf b (Intact i g n))))
-
-played-count : (w : Wall) (b : List ℕ) → length (played w b .wall) ≡ length w
-unfolding played
-played-count w b = by-verdict-count (verdictOf b) w b
-
--- What was played on it.
-module _ (image burst : List ℕ) (read : Read) (is-read : read ≡ inTable (readOf image)) (p : Played)
-    (is-played : p ≡ playedOn (read .table) burst) where
+-- What was answered to a burst on it.
+module _ (image : List ℕ) (burst : Reading) (read : Read) (is-read : read ≡ inTable (readOf image)) (p : Played)
+    (is-played : p ≡ answeredOn (read .table) burst) where
   pub formed-played : WellFormed (p .table)
-  formed-played = subst WellFormed (sym (ap (λ (q : Played). q .table) is-played)) (played-formed (formed-read image read is-read) burst)
+  formed-played = subst WellFormed (sym (ap (λ (q : Played). q .table) is-played)) (answered-formed (formed-read image read is-read) burst)
 
-  same-played : let o = played (readOf image .wall) burst in p ≡ record { table = tableOf (o .wall); reply = o .reply; damage = damageOf burst }
+  same-played : let o = answered (readOf image .wall) burst in p ≡ record { table = tableOf (o .wall); reply = o .reply; damage = damageIn (burst .verdict) }
   same-played =
       is-played
-      ∙ ap {B = Played} (λ (w : Wall). record { table = tableOf (played w burst .wall); reply = played w burst .reply; damage = damageOf burst }) (wall-read image read is-read)
+      ∙ ap {B = Played} (λ (w : Wall). record { table = tableOf (answered w burst .wall); reply = answered w burst .reply; damage = damageIn (burst .verdict) })
+      (wall-read image read is-read)
 
-  wall-played : panelsOf (p .table) ≡ played (readOf image .wall) burst .wall
+  wall-played : panelsOf (p .table) ≡ answered (readOf image .wall) burst .wall
   wall-played = ap (λ (q : Played). panelsOf (q .table)) same-played ∙ panels-of-table _
 
   pub size-played : (form : Form) → sizeOf form (panelsOf (p .table)) ≡ sizeOf form (readOf image .wall)
-  size-played form = ap (λ (k : ℕ). panelSize form * k + 2) (ap length wall-played ∙ played-count (readOf image .wall) burst)
+  size-played form = ap (λ (k : ℕ). panelSize form * k + 2) (ap length wall-played ∙ answered-count (readOf image .wall) burst)
 
   pub given-played : (form : Form) (answer out : List ℕ)
-      → let o = played (readOf image .wall) burst in
+      → let o = answered (readOf image .wall) burst in
       given (sentBytes (p .reply)) (setupOf form (panelsOf (p .table))) (p .damage) answer out
-      ≡ given (sentBytes (o .reply)) (setupOf form (o .wall)) (damageOf burst) answer out
+      ≡ given (sentBytes (o .reply)) (setupOf form (o .wall)) (damageIn (burst .verdict)) answer out
   given-played form answer out =
       ap (λ (w : Wall). given (sentBytes (p .reply)) (setupOf form w) (p .damage) answer out) wall-played
-      ∙ ap (λ (q : Played). given (sentBytes (q .reply)) (setupOf form (played (readOf image .wall) burst .wall)) (q .damage) answer out) same-played
+      ∙ ap (λ (q : Played). given (sentBytes (q .reply)) (setupOf form (answered (readOf image .wall) burst .wall)) (q .damage) answer out) same-played
 
 -- Both ends of each call.
-module _ (form : Form) (image burst answer out : List ℕ) (n : ℕ)
+module _ (form : Form) (image : List ℕ) (burst : Reading) (answer out : List ℕ) (n : ℕ)
     (is : n ≡ refusalFor (readOf image .refusal) (losesNothing form (readOf image .wall)) (leb longest (length answer) && leb (sizeOf form (readOf image .wall)) (length out))) where
-  pub play-refused : (n ≡ 0 → ⊥) → refused n answer out ≡ afterBurst form image burst answer out
-  unfolding afterBurst
+  pub play-refused : (n ≡ 0 → ⊥) → refused n answer out ≡ afterReading form image burst answer out
+  unfolding afterReading
   play-refused h = sym (rw (sym is, ne-eqb n 0 h))
 
   pub play-given : n ≡ 0
-      → let o = played (readOf image .wall) burst in
-      given (sentBytes (o .reply)) (setupOf form (o .wall)) (damageOf burst) answer out
-      ≡ afterBurst form image burst answer out
-  unfolding afterBurst
+      → let o = answered (readOf image .wall) burst in
+      given (sentBytes (o .reply)) (setupOf form (o .wall)) (damageIn (burst .verdict)) answer out
+      ≡ afterReading form image burst answer out
+  unfolding afterReading
   play-given z = sym (rw (sym is, eq-eqb n 0 z))
 
 -- no bytes are played
-pub played-none : (w : Wall) → played w [] ≡ record { wall = w; reply = silence }
-unfolding played verdictOf
+pub played-none : (w : Wall) → answered w (readingOf []) ≡ record { wall = w; reply = silence }
+unfolding answered verdictOf
 played-none w = refl

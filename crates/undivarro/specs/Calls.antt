@@ -7,10 +7,11 @@ use lib.Dec.{leb, eqb}
 use lib.ListN.{length, replicate}
 use Rattle.packet.specs.declared.Damage.{Damage}
 use Rattle.packet.specs.declared.Damage.the-variants.{Nothing}
-use Rattle.packet.specs.Packet.{longest, damageOf, damageNumber}
+use Rattle.packet.specs.Packet.{longest, damageIn, damageNumber}
+use Rattle.packet.specs.Reading.{Reading, readingOf}
 use Rattle.lists.specs.Lists.{laidOver}
 use Rattle.answers.specs.Reply.{sentBytes}
-use Rattle.answers.specs.Played.{played}
+use Rattle.answers.specs.Played.{answered}
 use Rattle.refusals.specs.declared.Refusal.{Refusal}
 use Rattle.forms.specs.declared.Form.{Form}
 use Rattle.forms.specs.declared.Form.the-variants.{One, Two}
@@ -45,22 +46,22 @@ given sent setup damage answer out = record {
 unfoldable pub refusalFor : Refusal → Bool → Bool → ℕ
 refusalFor read held room = cond (isSound read) (cond held (cond room 0 noRoom) wouldLose) (refusalNumber read)
 
--- A burst played, and the setup then written in a form. There is room where the answer buffer has it for any packet, and the
--- output for the image.
-unfoldable pub afterBurst : Form → List ℕ → List ℕ → List ℕ → List ℕ → After
-afterBurst form image burst answer out =
+-- A burst answered by what was read of it, and the setup then written in a form. There is room where the answer buffer has it for
+-- any packet, and the output for the image.
+unfoldable pub afterReading : Form → List ℕ → Reading → List ℕ → List ℕ → After
+afterReading form image burst answer out =
     let r = readOf image in
-    let o = played (r .wall) burst in
+    let o = answered (r .wall) burst in
     let room = leb longest (length answer) && leb (sizeOf form (r .wall)) (length out) in
     let n = refusalFor (r .refusal) (losesNothing form (r .wall)) room in
-    cond (eqb n 0) (given (sentBytes (o .reply)) (setupOf form (o .wall)) (damageOf burst) answer out) (refused n answer out)
+    cond (eqb n 0) (given (sentBytes (o .reply)) (setupOf form (o .wall)) (damageIn (burst .verdict)) answer out) (refused n answer out)
 
 -- writing a setup again in a form is playing no bytes, where there is room for an answer
 unfoldable pub afterMove : Form → List ℕ → List ℕ → After
-afterMove form image out = afterBurst form image [] (replicate longest 0) out
+afterMove form image out = afterReading form image (readingOf []) (replicate longest 0) out
 
 abbrev pub afterPlay : List ℕ → List ℕ → List ℕ → List ℕ → After
-afterPlay = afterBurst Two
+afterPlay image burst = afterReading Two image (readingOf burst)
 
 abbrev pub afterRead : List ℕ → List ℕ → After
 afterRead = afterMove Two

@@ -2,7 +2,7 @@
 use mathlib.Core.Path.{sym, ap, subst}
 use Rattle.panels.specs.WellFormed.{WellFormed}
 use Rattle.answers.specs.declared.Played.{Played}
-use Rattle.answers.proofs.Formed.{played-formed}
+use Rattle.answers.proofs.Formed.{answered-formed}
 use borrow.Author.Needs.{needs}
 use Rattle.mixed_wall.proofs.send.Statement.{statement}
 use Rattle.mixed_wall.proofs.send.Tie as tie
@@ -56,7 +56,7 @@ returns : tie.Need-returns
 returns c =
     let call = c .before .before .before .before .before .before .before .before .before .before .before .before .before .before .before .before .before .before in
     let table = ap (λ (p : Played). p .table) (call .play .ensures) in
-    (table, subst WellFormed (sym table) (played-formed (call .before .before .pre) _))
+    (table, subst WellFormed (sym table) (answered-formed (call .before .before .pre) _))
 
 pub send-spec : {M : Type 1} → statement M
 send-spec =

@@ -6,7 +6,7 @@ use borrow.Author.Needs.{needs}
 use borrow.Author.Tests.{lt-ltb, le-ltb, eq-eqb, ne-eqb}
 use lib.Dec.{eqb}
 use lib.ListN.{length, getD}
-use Rattle.packet.specs.Xor.{xorAll}
+use Rattle.xor.specs.Xor.{xorAll}
 use Rattle.packet.specs.Packet.{damageOf}
 use Rattle.packet.specs.declared.Damage.the-variants.{Nothing, Size, Checksum}
 use Rattle.packet.proofs.damage_of.Statement.{statement}
@@ -39,18 +39,18 @@ cast-if4 c = omega (arith, c .shared-slice-known2 .given 0)
 returns-4 : tie.Need-returns-4
 returns-4 c = rw (fits (c .before .before), ne-eqb _ _ (c .if4 .taken))
 
-xor-of-requires : tie.Need-xor-of-requires
-xor-of-requires c κs = search needs
+xor-all-requires : tie.Need-xor-all-requires
+xor-all-requires c κs = search needs
 
 returns-5 : tie.Need-returns-5
 returns-5 c =
     let size = c .before .before in
-    rw (fits (size .before .before), eq-eqb _ _ (size .if4 .left), ← c .before .xor-of .ensures, ne-eqb _ _ (c .if5 .taken))
+    rw (fits (size .before .before), eq-eqb _ _ (size .if4 .left), ← c .before .xor-all .ensures, ne-eqb _ _ (c .if5 .taken))
 
 returns-6 : tie.Need-returns-6
 returns-6 c =
     let size = c .before .before in
-    rw (fits (size .before .before), eq-eqb _ _ (size .if4 .left), ← c .before .xor-of .ensures, eq-eqb _ _ (c .if5 .left))
+    rw (fits (size .before .before), eq-eqb _ _ (size .if4 .left), ← c .before .xor-all .ensures, eq-eqb _ _ (c .if5 .left))
 
 pub damage-of-spec : {M : Type 1} → statement M
 damage-of-spec =
@@ -62,6 +62,6 @@ damage-of-spec =
     shared-slice-read-if4
     cast-if4
     returns-4
-    xor-of-requires
+    xor-all-requires
     returns-5
     returns-6)

@@ -9,11 +9,11 @@ use borrow.Author.Tests.{le-leb, lt-leb}
 use lib.ListN.{length, take, drop, set, length-set, length-append, length-take, length-drop}
 use lib.Seq.{take-length, drop-length, drop-cons, set-at, append-snoc}
 use lib.Bits.{bitXor}
-use Rattle.packet.specs.Xor.{_⊕_, xorAll}
+use Rattle.xor.specs.Xor.{_⊕_, xorAll}
 use Rattle.packet.specs.Packet.{writtenOf, outputOf, packetOf, mostData, longest}
 use Rattle.lists.specs.Lists.{laidOver}
 use borrow.Author.Needs.{needs}
-use Rattle.packet.proofs.Xor.{xor-assoc}
+use Rattle.xor.proofs.Laws.{xor-assoc}
 use Rattle.packet.proofs.write_packet.Statement.{statement}
 use Rattle.packet.proofs.write_packet.Tie as tie
 
@@ -84,22 +84,22 @@ part-copy-end c = search needs
 copy-requires : tie.Need-copy-requires
 copy-requires c κs = simp (length-take, length-drop, length-set) (omega arith)
 
-xor-of-requires : tie.Need-xor-of-requires
-xor-of-requires c κs = search needs
+xor-all-requires : tie.Need-xor-all-requires
+xor-all-requires c κs = search needs
 
 add-out : tie.Need-add-out
 add-out c = search needs
 
-abbrev start : tie.After-xor-of → tie.Start
+abbrev start : tie.After-xor-all → tie.Start
 start c = c .before .before .before .before .before .before .before .before .before .before .before
 
 -- what the output holds before the checksum
-abbrev before-sum : tie.After-xor-of → List ℕ
+abbrev before-sum : tie.After-xor-all → List ℕ
 before-sum c =
     let a = start c .args in
     (length (a .d .now) + 4) ∷ a .id .0 ∷ a .group .0 ∷ (a .d .now ++ drop (length (a .d .now) + 3) (a .out .now))
 
-held : (c : tie.After-xor-of)
+held : (c : tie.After-xor-all)
     → let a = start c .args in
     let h = headed (a .out .now) (length (a .d .now) + 4) (a .id .0) (a .group .0) in
     putMid 3 (length h - 3) h (c .before .before .before .before .before .copy .last .1 .0) ≡ before-sum c
@@ -123,7 +123,7 @@ returns-3 c =
     let room = le-leb longest (length (a .out .now)) (omega arith) in
     let short = le-leb (length (a .d .now)) mostData (omega arith) in (
       simp (room, short),
-      rw (held c, c .xor-of .ensures, sum-of, room, short) (summed (a .out .now) (a .d .now) _ _ _ _ (omega arith)),
+      rw (held c, c .xor-all .ensures, sum-of, room, short) (summed (a .out .now) (a .d .now) _ _ _ _ (omega arith)),
     )
 
 pub write-packet-spec : {M : Type 1} → statement M
@@ -141,7 +141,7 @@ write-packet-spec =
     part-copy-start
     part-copy-end
     copy-requires
-    xor-of-requires
+    xor-all-requires
     add-out
     slice-write-out-4
     add-t13

@@ -1,14 +1,24 @@
--- A burst keeps the table well-formed. Assumes nothing.
-use mathlib.Core.Path.{sym, ap, subst}
+-- The receiver plays the burst, which keeps the table well-formed. Assumes nothing.
+use mathlib.Core.Path.{_≡_, sym, ap, subst, _∙_}
 use Rattle.panels.specs.WellFormed.{WellFormed}
-use Rattle.answers.specs.declared.Played.{Played}
-use Rattle.answers.proofs.Formed.{played-formed}
+use Rattle.answers.specs.Played.{playedOn}
+use Rattle.answers.proofs.Formed.{answered-formed}
+use Rattle.line.specs.declared.Heard.{Heard}
+use Rattle.line.specs.declared.Receiver.{Receiver}
+use Rattle.line.specs.Receiver.{heardAs, atMark, fed}
+use Rattle.line.proofs.Streams.{marked}
 use borrow.Author.Needs.{needs}
 use Rattle.play.proofs.answer.Statement.{statement}
 use Rattle.play.proofs.answer.Tie as tie
 
-play-requires : tie.Need-play-requires
-play-requires c κs = search needs
+fresh-requires : tie.Need-fresh-requires
+fresh-requires c κs = search needs
+
+bytes-requires : tie.Need-bytes-requires
+bytes-requires c κs = search needs
+
+quiet-requires : tie.Need-quiet-requires
+quiet-requires c κs = search needs
 
 print-decimal-requires : tie.Need-print-decimal-requires
 print-decimal-requires c κs = search needs
@@ -40,17 +50,27 @@ slice-aggregate-write-all-2 c = search needs
 write-all-requires-3 : tie.Need-write-all-requires-3
 write-all-requires-3 c κs = search needs
 
+-- the receiver, fed the bytes and a mark, gives what playing the burst gives
+heard : (c : tie.After-quiet) → let a = c .before .before .before .before .args in c .quiet .result ≡ heardAs (playedOn (a .t) (a .burst .now))
+heard c =
+    let fed-all = c .before in
+    let a = fed-all .before .before .before .args in
+    let fresh = fed-all .bytes .ensures ∙ ap (λ (r : Receiver). fed r (a .burst .now)) (fed-all .before .fresh .ensures) in
+    c .quiet .ensures ∙ ap (λ (r : Receiver). atMark r (a .t)) fresh ∙ marked (a .t) (a .burst .now)
+
 returns : tie.Need-returns
 returns c =
     let call = c .before .before .before .before .before .before .before .before .before .before .before .before .before in
-    let table = ap (λ (p : Played). p .table) (call .play .ensures) in
-    (table, subst WellFormed (sym table) (played-formed (call .before .before .pre) _))
+    let table = ap (λ (h : Heard). h .table) (heard call) in
+    (table, subst WellFormed (sym table) (answered-formed (call .before .before .before .before .pre) _))
 
 pub answer-spec : {M : Type 1} → statement M
 answer-spec =
     tie.close
     (tie.spec
-    play-requires
+    fresh-requires
+    bytes-requires
+    quiet-requires
     print-decimal-requires
     slice-aggregate-write-all
     write-all-requires

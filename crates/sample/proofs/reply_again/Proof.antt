@@ -1,13 +1,14 @@
 -- The wall that the burst left is the second time's. Assumes nothing.
 use mathlib.Core.Path.{_≡_, sym, ap, subst, _∙_}
 use borrow.Author.Needs.{needs}
+use Rattle.packet.specs.Reading.{readingOf}
 use Rattle.panels.specs.Wall.{tableOf, panelsOf}
 use Rattle.panels.specs.WellFormed.{WellFormed}
 use Rattle.panels.proofs.Laws.{panels-of-table}
 use Rattle.answers.specs.declared.Played.{Played}
 use Rattle.answers.specs.Played.{played}
 use Rattle.answers.specs.Sample.{twoPanels}
-use Rattle.answers.proofs.Formed.{played-formed}
+use Rattle.answers.proofs.Formed.{answered-formed}
 use Rattle.sample.proofs.reply_again.Statement.{statement}
 use Rattle.sample.proofs.reply_again.Tie as tie
 
@@ -23,7 +24,7 @@ left c = ap (λ (p : Played). p .table) (c .play .ensures)
 
 play-requires-2 : tie.Need-play-requires-2
 play-requires-2 c κs =
-    subst WellFormed (sym (left c)) (played-formed (c .before .two-panels .ensures .1) (c .before .before .before .args .burst .now))
+    subst WellFormed (sym (left c)) (answered-formed (c .before .two-panels .ensures .1) (readingOf (c .before .before .before .args .burst .now)))
 
 returns : tie.Need-returns
 returns c =

@@ -5,7 +5,8 @@ use mathlib.Core.List.{List, []}
 use Prim.Native.Nat.{ℕ, _≤_}
 use lib.Dec.{leb}
 use lib.ListN.{length, replicate}
-use Rattle.packet.specs.Packet.{longest, damageOf}
+use Rattle.packet.specs.Packet.{longest, verdictOf}
+use Rattle.packet.specs.Reading.{readingOf}
 use Rattle.packet.specs.declared.Damage.the-variants.{Nothing}
 use Rattle.panels.specs.Wall.{Wall}
 use Rattle.undivarro.specs.declared.Outcome.{Outcome}
@@ -67,7 +68,7 @@ unfolding afterMove
 returns c =
     let refusal = c .before .before in
     let a = start (read-of refusal) .args in
-    let e = play-refused (a .form) (a .image .now) [] room-for (a .out .now) _ (number refusal) (c .before .if1 .taken) in
+    let e = play-refused (a .form) (a .image .now) (readingOf []) room-for (a .out .now) _ (number refusal) (c .before .if1 .taken) in
     (c .refused .ensures ∙ ap (λ (r : After). r .outcome) e, ap (λ (r : After). r .out) e)
 
 put-setup-requires : tie.Need-put-setup-requires
@@ -81,7 +82,7 @@ same-length : tie.Need-same-length
 same-length c = search needs
 
 returns-2 : tie.Need-returns-2
-unfolding afterMove sentBytes damageOf
+unfolding afterMove sentBytes verdictOf
 returns-2 c =
     let put = c .before .before in
     let past = put .before .before in
@@ -91,7 +92,7 @@ returns-2 c =
     let all =
     ap (λ (w : Wall). given [] (setupOf (a .form) w) Nothing room-for (a .out .now)) (wall-read (a .image .now) _ e)
     ∙ ap (λ (o : BurstOutcome). given (sentBytes (o .reply)) (setupOf (a .form) (o .wall)) Nothing room-for (a .out .now)) (sym (played-none _))
-    ∙ play-given (a .form) (a .image .now) [] room-for (a .out .now) _ (number refusal) (past .if1 .left)
+    ∙ play-given (a .form) (a .image .now) (readingOf []) room-for (a .out .now) _ (number refusal) (past .if1 .left)
     in (
       ap {B = Outcome} (λ (m : ℕ). record { refusal = 0; answered = 0; written = m; damage = 0 }) (put .put-setup .ensures .0) ∙ ap (λ (r : After). r .outcome) all,
       put .put-setup .ensures .1 ∙ ap (λ (r : After). r .out) all,

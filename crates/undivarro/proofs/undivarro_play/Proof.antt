@@ -5,6 +5,7 @@ use Prim.Native.Nat.{ℕ, _≤_}
 use lib.Dec.{leb}
 use lib.ListN.{length}
 use Rattle.packet.specs.Packet.{longest, damageNumber}
+use Rattle.packet.specs.Reading.{readingOf}
 use Rattle.forms.specs.declared.Form.the-variants.{Two}
 use Rattle.image_write.specs.Written.{sizeOf, losesNothing}
 use Rattle.image_write.proofs.Losing.{two-holds}
@@ -57,7 +58,7 @@ returns : tie.Need-returns
 returns c =
     let refusal = c .before .before in
     let a = start (read-of refusal) .args in
-    let e = play-refused Two (a .image .now) (a .burst .now) (a .answer .now) (a .out .now) _ (number refusal) (c .before .if1 .taken) in
+    let e = play-refused Two (a .image .now) (readingOf (a .burst .now)) (a .answer .now) (a .out .now) _ (number refusal) (c .before .if1 .taken) in
     (c .refused .ensures ∙ ap (λ (r : After). r .outcome) e, (ap (λ (r : After). r .answer) e, ap (λ (r : After). r .out) e))
 
 play-requires : tie.Need-play-requires
@@ -94,8 +95,8 @@ returns-2 c =
     let read = read-of (past .before) in
     let a = start read .args in
     let all =
-    given-played (a .image .now) (a .burst .now) _ (read .read-image .ensures) _ (play .play .ensures) Two (a .answer .now) (a .out .now)
-    ∙ play-given Two (a .image .now) (a .burst .now) (a .answer .now) (a .out .now) _ (number (past .before)) (past .if1 .left)
+    given-played (a .image .now) (readingOf (a .burst .now)) _ (read .read-image .ensures) _ (play .play .ensures) Two (a .answer .now) (a .out .now)
+    ∙ play-given Two (a .image .now) (readingOf (a .burst .now)) (a .answer .now) (a .out .now) _ (number (past .before)) (past .if1 .left)
     in (
       ap (numbers (sent .put-answer .result) (put .put-setup .result)) (c .damage-number .ensures)
           ∙ ap₂ (λ (n m : ℕ). numbers n m (damageNumber (play .play .result .damage))) (sent .put-answer .ensures .0) (put .put-setup .ensures .0)

@@ -49,7 +49,7 @@ returns-2 c =
     (tells (quiet (stateOf (a .self)) Idle) _ _ (stays _ _ _ refl (c .before .plain2 .ensures)) (c .telling .ensures ∙ told damage (c .before .plain2 .result)))
 
 data-part-requires : tie.Need-data-part-requires
-data-part-requires c κs = search needs
+data-part-requires c κs = c .before .before .before .verdict-on .ensures
 
 heeded-requires : tie.Need-heeded-requires
 heeded-requires c κs = search needs

@@ -1,6 +1,6 @@
 -- Assumes nothing.
 use borrow.Author.Tests.{lt-ltb, le-ltb}
-use Rattle.line.specs.Session.{withByte}
+use Rattle.line.specs.Receiver.{withByte}
 use borrow.Author.Needs.{needs}
 use Rattle.line.proofs.Receiver.byte.Statement.{statement}
 use Rattle.line.proofs.Receiver.byte.Tie as tie

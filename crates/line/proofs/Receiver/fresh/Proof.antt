@@ -1,6 +1,6 @@
 -- Assumes nothing.
 use mathlib.Core.Path.{refl}
-use Rattle.line.specs.Session.{receiverOf}
+use Rattle.line.specs.Receiver.{receiverOf}
 use Rattle.line.proofs.Receiver.fresh.Statement.{statement}
 use Rattle.line.proofs.Receiver.fresh.Tie as tie
 

@@ -5,7 +5,7 @@ use Prim.Native.Nat.{ℕ, zero, suc, _+_, _*_, _/_, _%_, _<_}
 use native.Mathlib.Omega.{arith}
 use lib.Arith.{bin-ind}
 use lib.Bits.{bitXor, differ, xor-step, xor-comm, xor-self, xor-zero-r}
-use Rattle.packet.specs.Xor.{_⊕_, xorAll}
+use Rattle.xor.specs.Xor.{_⊕_, xorAll}
 
 -- one digit
 

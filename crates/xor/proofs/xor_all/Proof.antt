@@ -7,10 +7,10 @@ use native.Mathlib.Omega.{arith}
 use lib.Bits.{bitXor}
 use lib.ListN.{length, getD, drop}
 use lib.Seq.{drop-cons, drop-length}
-use Rattle.packet.specs.Xor.{_⊕_, xorAll}
-use Rattle.packet.proofs.Xor.{xor-assoc, zero-⊕, ⊕-zero}
-use Rattle.packet.proofs.xor_of.Statement.{statement}
-use Rattle.packet.proofs.xor_of.Tie as tie
+use Rattle.xor.specs.Xor.{_⊕_, xorAll}
+use Rattle.xor.proofs.Laws.{xor-assoc, zero-⊕, ⊕-zero}
+use Rattle.xor.proofs.xor_all.Statement.{statement}
+use Rattle.xor.proofs.xor_all.Tie as tie
 
 take-out : (bytes : List ℕ) (i sum : ℕ) → i < length bytes
     → sum ⊕ xorAll (drop i bytes) ≡ bitXor sum (getD bytes i 0) ⊕ xorAll (drop (i + 1) bytes)
@@ -49,7 +49,7 @@ returns c =
     let all : loop .loop .i ≡ length bytes = omega arith in
     sym (loop .loop .inv .1 ∙ rw (all, drop-length bytes) (⊕-zero _))
 
-pub xor-of-spec : {M : Type 1} → statement M
-xor-of-spec =
+pub xor-all-spec : {M : Type 1} → statement M
+xor-all-spec =
     tie.close
     (tie.spec Inv-loop μ-loop loop-holds shared-slice-read-sum add-i loop-less loop-again returns)

@@ -1,33 +1,18 @@
--- Many bursts, and the line's bytes and quiet marks. 01, "Packet and burst".
+-- The receiver: the line's bytes and quiet marks, and the bursts between them. 01, "Packet and burst".
 use Prim.Native.Nat.{ℕ, _+_, _-_, min}
 use mathlib.Core.Bool.{cond}
 use mathlib.Core.List.{List, [], _∷_, _++_}
 use lib.Dec.{ltb}
 use lib.ListN.{length, take, set, replicate}
 use Rattle.packet.specs.Packet.{longest}
+use Rattle.packet.specs.Reading.{Reading, readingOf}
 use Rattle.panels.specs.declared.Table.{Table}
 use Rattle.panels.specs.Wall.{Wall}
-use Rattle.answers.specs.declared.Reply.{Reply}
 use Rattle.answers.specs.declared.Played.{Played}
 use Rattle.line.specs.declared.Receiver.{Receiver}
 use Rattle.line.specs.declared.Heard.{Heard}
-use Rattle.answers.specs.Played.{Outcome, played, playedOn}
-
-pub record Ended : Type 0 where
-  pub wall : Wall
-  pub replies : List Reply
-
--- bursts taken one after the other, each by the same rule
-unfoldable pub byBurst : (Wall → List ℕ → Outcome) → Wall → List (List ℕ) → Ended
-byBurst rule w [] = record { wall = w; replies = [] }
-byBurst rule w (b ∷ bs) =
-    let o = rule w b in
-    let e = byBurst rule (o .wall) bs in
-    record { wall = e .wall; replies = o .reply ∷ e .replies }
-
--- and played
-abbrev pub session : Wall → List (List ℕ) → Ended
-session = byBurst played
+use Rattle.answers.specs.Played.{answered, answeredOn}
+use Rattle.answers.specs.Session.{Ended}
 
 -- what the line driver reports
 pub data Event : Type 0 where
@@ -54,12 +39,16 @@ withByte r b =
 unfoldable pub burstOf : Receiver → List ℕ
 burstOf r = take (r .count) (r .bytes ++ 0 ∷ [])
 
--- a quiet mark: the burst is played, and the receiver is fresh
+-- and what it says
+abbrev pub readingIn : Receiver → Reading
+readingIn r = readingOf (burstOf r)
+
+-- a quiet mark: the burst is answered, and the receiver is fresh
 abbrev pub heardAs : Played → Heard
 heardAs p = record { receiver = receiverOf []; table = p .table; reply = p .reply; damage = p .damage }
 
 unfoldable pub atMark : Receiver → Table → Heard
-atMark r t = heardAs (playedOn t (burstOf r))
+atMark r t = heardAs (answeredOn t (readingIn r))
 
 -- the bytes of a burst, one at a time
 unfoldable pub fed : Receiver → List ℕ → Receiver
@@ -71,6 +60,6 @@ unfoldable pub streamed : Receiver → Wall → List Event → Ended
 streamed r w [] = record { wall = w; replies = [] }
 streamed r w (byte b ∷ events) = streamed (withByte r b) w events
 streamed r w (quiet ∷ events) =
-    let o = played w (burstOf r) in
+    let o = answered w (readingIn r) in
     let e = streamed (receiverOf []) (o .wall) events in
     record { wall = e .wall; replies = o .reply ∷ e .replies }

@@ -1,4 +1,4 @@
--- XOR, of two numbers and of a list. 000, 2.2.1: the checksum.
+-- XOR, of two numbers and of a list: the checksum. 000, 2.2.1; 01, "Packet and burst".
 use Prim.Native.Nat.{ℕ}
 use mathlib.Core.List.{List, [], _∷_}
 use lib.Bits.{bitXor}

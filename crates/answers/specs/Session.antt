@@ -1,0 +1,22 @@
+-- Many bursts. 01, "Packet and burst".
+use Prim.Native.Nat.{ℕ}
+use mathlib.Core.List.{List, [], _∷_}
+use Rattle.panels.specs.Wall.{Wall}
+use Rattle.answers.specs.declared.Reply.{Reply}
+use Rattle.answers.specs.Played.{Outcome, played}
+
+pub record Ended : Type 0 where
+  pub wall : Wall
+  pub replies : List Reply
+
+-- bursts, or what was read of them, taken one after the other, each by the same rule
+unfoldable pub byBurst : {B : Type 0} → (Wall → B → Outcome) → Wall → List B → Ended
+byBurst rule w [] = record { wall = w; replies = [] }
+byBurst rule w (b ∷ bs) =
+    let o = rule w b in
+    let e = byBurst rule (o .wall) bs in
+    record { wall = e .wall; replies = o .reply ∷ e .replies }
+
+-- and played
+abbrev pub session : Wall → List (List ℕ) → Ended
+session = byBurst played

@@ -1,0 +1,2 @@
+-- What XOR is.
+pub mod Xor
