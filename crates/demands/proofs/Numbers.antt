@@ -7,7 +7,9 @@ use mathlib.Core.Option.{none, some}
 use lib.Dec.{leb, eqb}
 use lib.ListN.{length}
 use Rattle.settings.specs.declared.Profile.the-variants.{General, Phoenix}
-use Rattle.tiling.specs.Kinds.{isKind}
+use Rattle.tiling.specs.declared.Kind.{Kind}
+use Rattle.tiling.specs.declared.Numbered.{Numbered as KindNumbered}
+use Rattle.tiling.specs.Kinds.{kindWith, ifKnown as ifKind}
 use Rattle.settings.specs.Settings.{settings, freshValues, allowedByRow}
 use Rattle.profiles.specs.declared.Numbered.the-variants.{Known, Unknown}
 use Rattle.profiles.specs.Numbers.{profileWith, ifKnown}
@@ -29,12 +31,13 @@ use Rattle.image_write.proofs.Losing.{two-holds}
 use Rattle.demands.specs.Numbers.{Add, Remove, isPlain, allPlain, ImageOne, ImageTwo, Answer, Packet}
 
 pub add-number : Add
-unfolding addRefusal profileWith isKind
+unfolding addRefusal profileWith kindWith
 add-number w i g n k = go (leb 32 (length w)) (eqb (i .0) 0) (placeOf i w) (eqb (g .0) 0) (eqb n 0) (eqb n 1)
   where
-    kinds : (t : Bool) → tableNumber (cond t Nothing UnknownKind) ≡ cond t 0 7
-    kinds true = refl
-    kinds false = refl
+    kinds : (d e : Bool) → tableNumber (ifKind (cond d (KindNumbered.Known Kind.FiveByFive) (cond e (KindNumbered.Known Kind.FifteenByTen) KindNumbered.Unknown)) (λ kind. Nothing) UnknownKind) ≡ cond (d || e) 0 7
+    kinds true e = refl
+    kinds false true = refl
+    kinds false false = refl
 
     go : (a b : Bool) (q : Place) (c d e : Bool)
         → tableNumber
@@ -42,14 +45,14 @@ add-number w i g n k = go (leb 32 (length w)) (eqb (i .0) 0) (placeOf i w) (eqb 
         (cond b IdZero
         (ifThere q IdTaken
         (cond c GroupZero
-        (ifKnown (cond d (Known General) (cond e (Known Phoenix) Unknown)) (λ profile. cond (isKind k) Nothing UnknownKind) UnknownProfile)))))
-        ≡ cond a 1 (cond b 2 (ifThere q 3 (cond c 4 (cond (d || e) (cond (isKind k) 0 7) 5))))
+        (ifKnown (cond d (Known General) (cond e (Known Phoenix) Unknown)) (λ profile. ifKind (kindWith k) (λ kind. Nothing) UnknownKind) UnknownProfile)))))
+        ≡ cond a 1 (cond b 2 (ifThere q 3 (cond c 4 (cond (d || e) (cond (eqb k 0 || eqb k 1) 0 7) 5))))
     go true b q c d e = refl
     go false true q c d e = refl
     go false false (At k) c d e = refl
     go false false Nowhere true d e = refl
-    go false false Nowhere false true e = kinds (isKind k)
-    go false false Nowhere false false true = kinds (isKind k)
+    go false false Nowhere false true e = kinds (eqb k 0) (eqb k 1)
+    go false false Nowhere false false true = kinds (eqb k 0) (eqb k 1)
     go false false Nowhere false false false = refl
 
 pub remove-number : Remove

@@ -10,14 +10,16 @@ use lib.ListN.{length, getD, take, drop, set}
 use Rattle.lists.proofs.Both.{both}
 use Rattle.tiling.specs.declared.Kind.{Kind}
 use Rattle.tiling.specs.declared.Kind.the-variants.{FiveByFive, FifteenByTen}
+use Rattle.tiling.specs.declared.Numbered.{Numbered}
 use Rattle.tiling.specs.Walls.{upTo}
-use Rattle.tiling.specs.Kinds.{kindNumber, kindWith, largest, inWall}
+use Rattle.tiling.specs.Kinds.{kindNumber, kindWith, ifKnown, largest, inWall}
 use Rattle.tiling.proofs.Walls.{in-bounds, height-back, width-back, byte-fits, byte-back, height-fits, width-fits}
 use Rattle.tiling.proofs.Sizes.{largest-few, panels-few}
+use Rattle.tiling.proofs.Numbers.{number-back}
 use Rattle.models.specs.declared.Model.{Model}
 use Rattle.settings.specs.Settings.{settings, allowedByRow, within, _to_, allAllowed, inRanges, valuesOf, kindRow, tilingRow}
 use Rattle.finding.specs.Found.{foundFrom}
-use Rattle.models.specs.Models.{allowedFor, kindIn, filled}
+use Rattle.models.specs.Models.{allowedFor, kindFor, kindIn, filled}
 use Rattle.settings.proofs.Laws.{value-of}
 use Rattle.packet.specs.Packet.{groupId, packetOf}
 use Rattle.panels.specs.declared.Panel.{Panel}
@@ -47,21 +49,17 @@ pub manual-wrong : ManualWrong
 manual-wrong = (refl, refl, refl, refl)
 
 -- The two kinds in the paper's numbers.
-sits-in-wall : (n position byte : ℕ) → sits n position byte ≡ inWall (kindWith n) position byte
+sits-in-wall : (n position byte : ℕ) → sits n position byte ≡ inWall (kindFor n) position byte
 unfolding sits inWall kindWith
-sits-in-wall n position byte = go (eqb n 0)
+sits-in-wall n position byte = go (eqb n 0) (eqb n 1)
   where
-    go : (t : Bool)
+    go : (t s : Bool)
         → let widest : ℕ = cond t 5 15 in
         (upTo (cond t 25 150) byte && upTo (((byte - 1) / widest + 1) * ((byte - 1) % widest + 1)) position)
-        ≡ inWall (cond t FiveByFive FifteenByTen) position byte
-    go true = refl
-    go false = refl
-
-number-back : (kind : Kind) → kindWith (kindNumber kind) ≡ kind
-unfolding kindWith
-number-back FiveByFive = refl
-number-back FifteenByTen = refl
+        ≡ inWall (ifKnown (cond t (Numbered.Known FiveByFive) (cond s (Numbered.Known FifteenByTen) Numbered.Unknown)) (λ kind. kind) FifteenByTen) position byte
+    go true s = refl
+    go false true = refl
+    go false false = refl
 
 -- a position and a wall are bytes
 wall-few : (kind : Kind) (position byte : ℕ) → inWall kind position byte ≡ true → (leb position 255 ≡ true) × (leb byte 255 ≡ true)
@@ -93,7 +91,7 @@ module _ (values : List ℕ) where
   kind-is = sym (value-of kindRow 0 values (omega arith))
 
   pub in-own-wall : (position byte : ℕ) → sits (getD values 0 0) position byte ≡ inWall (kindIn values) position byte
-  in-own-wall position byte = sits-in-wall (getD values 0 0) position byte ∙ ap (λ (n : ℕ). inWall (kindWith n) position byte) kind-is
+  in-own-wall position byte = sits-in-wall (getD values 0 0) position byte ∙ ap (λ (n : ℕ). inWall (kindFor n) position byte) kind-is
 
   pub value-at : (k : ℕ) → k < 4 → getD (valuesOf tilingRow values) k 0 ≡ getD values (2 + k) 0
   unfolding settings allowedByRow flatten
@@ -181,7 +179,7 @@ in-largest FifteenByTen position = refl
 
 sits-by : (kind : Kind) (position byte : ℕ) → inWall kind position byte ≡ sits (kindNumber kind) position byte
 sits-by kind position byte =
-    ap (λ (k : Kind). inWall k position byte) (sym (number-back kind)) ∙ sym (sits-in-wall (kindNumber kind) position byte)
+    ap (λ (n : Numbered). inWall (ifKnown n (λ k. k) FifteenByTen) position byte) (sym (number-back kind)) ∙ sym (sits-in-wall (kindNumber kind) position byte)
 
 pub host-tiling : HostTiling
 unfolding settings isReport filled

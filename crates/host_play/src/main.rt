@@ -144,14 +144,14 @@ fn play_modelled(host: Host, step: &[u8]) -> Host {
         return unknown(host);
     }
     let number = step[0];
-    if !tiling::is_kind(number / 2) {
+    let kinded = tiling::with_number(number / 2);
+    let tiling::Numbered::Known(kind) = kinded else {
         return unknown(host);
-    }
+    };
     let numbered = profiles::with_number(number % 2);
     let Numbered::Known(profile) = numbered else {
         return unknown(host);
     };
-    let kind = tiling::with_number(number / 2);
     play_start(host, Model { profile, kind }, &step[1..])
 }
 

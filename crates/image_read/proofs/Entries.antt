@@ -8,14 +8,13 @@ use borrow.Author.Tests.{ne-eqb, eqb-true, eqb-false}
 use lib.Dec.{eqb}
 use lib.ListN.{length, getD, length-append, length-set}
 use lib.Seq.{take-at, drop-at, getD-set-other}
-use Rattle.tiling.specs.Kinds.{kindWith}
 use Rattle.settings.specs.declared.Profile.{Profile}
 use Rattle.models.specs.declared.Model.{Model}
 use Rattle.finding.specs.declared.Found.{Found}
 use Rattle.finding.specs.declared.Found.the-variants.{Set, Get, Nothing}
 use Rattle.settings.specs.Settings.{setCode, byteCount, valuesOf, valuesWith, rowCount, valueCount, kindRow, tilingRow}
 use Rattle.finding.specs.Found.{fieldBy}
-use Rattle.models.specs.Models.{allowedFor, modelIn}
+use Rattle.models.specs.Models.{kindFor, allowedFor, modelIn}
 use Rattle.finding.proofs.Laws.{field-found}
 use Rattle.models.proofs.Laws.{allowed-many, kind-free}
 use Rattle.forms.specs.declared.Form.{Form}
@@ -122,7 +121,7 @@ module _ (model : Model) where
           let tiling = eqb-true (rowOf e) tilingRow same in
           let kept = kept-by kindRow es with-e good (k (sym code ∙ ap setCode tiling)) (length-with (rowOf e) (e .values) values n full) in
           let before = other-row (rowOf e) (e .values) values n full kindRow (λ s. omega arith) in
-          ap (λ (l : List ℕ). allowedFor (record { profile = profile; kind = kindWith (getD l 0 0) }) (rowOf e) (e .values)) (sym (kept ∙ before))
+          ap (λ (l : List ℕ). allowedFor (record { profile = profile; kind = kindFor (getD l 0 0) }) (rowOf e) (e .values)) (sym (kept ∙ before))
 
 -- Good entries are all taken in a record of a form that has them, where no kind is behind a tiling.
 module _ (form : Form) (profile : Profile) where

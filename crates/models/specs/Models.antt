@@ -5,14 +5,18 @@ use mathlib.Core.List.{List}
 use lib.Dec.{eqb}
 use lib.ListN.{getD, set}
 use Rattle.tiling.specs.declared.Kind.{Kind}
-use Rattle.tiling.specs.Kinds.{kindWith, inWall}
+use Rattle.tiling.specs.Kinds.{kindWith, ifKnown, inWall}
 use Rattle.settings.specs.declared.Profile.{Profile}
 use Rattle.settings.specs.Settings.{inRanges, valuesOf, kindRow, tilingRow}
 use Rattle.models.specs.declared.Model.{Model}
 
+-- the kind that a panel's value says; none holds a number that is no kind's, which would be the larger kind's
+abbrev pub kindFor : ℕ → Kind
+kindFor n = ifKnown (kindWith n) (λ kind. kind) Kind.FifteenByTen
+
 -- the kind is among a panel's values
 abbrev pub kindIn : List ℕ → Kind
-kindIn values = kindWith (getD (valuesOf kindRow values) 0 0)
+kindIn values = kindFor (getD (valuesOf kindRow values) 0 0)
 
 abbrev pub modelIn : Profile → List ℕ → Model
 modelIn profile values = record { profile = profile; kind = kindIn values }

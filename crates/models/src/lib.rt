@@ -3,11 +3,12 @@ ghost use mathlib.Core.Path.{_≡_};
 ghost use Prim.Native.Nat.{_<_};
 ghost use lib.ListN.{length};
 ghost use Rattle.settings.specs.Settings.{rowCount, valueCount};
-ghost use Rattle.models.specs.Models.{modelIn, allowedFor, filled};
+ghost use Rattle.models.specs.Models.{kindFor, modelIn, allowedFor, filled};
 use settings::KIND_ROW;
 use settings::Profile;
 use settings::TILING_ROW;
 use tiling::Kind;
+use tiling::Numbered;
 
 // What a panel's ranges go by.
 pub struct Model {
@@ -15,12 +16,23 @@ pub struct Model {
     pub kind: Kind,
 }
 
+// The kind that a panel's value says.
+fn kind_for(number: u8) -> Kind
+    ensures { λ r. ⌜ r ≡ kindFor number ⌝ }
+{
+    let numbered = tiling::with_number(number);
+    match numbered {
+        Numbered::Known(kind) => kind,
+        Numbered::Unknown => Kind::FifteenByTen,
+    }
+}
+
 // The model of a panel of this profile that has these values.
 pub fn model_in(profile: Profile, values: &[u8]) -> Model
     requires { ⌜ length (now values) ≡ valueCount ⌝ }
     ensures { λ r. ⌜ r ≡ modelIn profile (now (values .entry)) ⌝ }
 {
-    let kind = tiling::with_number(values[settings::place_of(KIND_ROW)]);
+    let kind = kind_for(values[settings::place_of(KIND_ROW)]);
     Model { profile, kind }
 }
 

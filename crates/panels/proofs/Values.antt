@@ -11,10 +11,9 @@ use lib.Dec.{ltb, eqb}
 use lib.ListN.{length, getD, take, length-take, length-drop}
 use lib.Seq.{take-add, take-all}
 use Rattle.settings.specs.declared.Profile.{Profile}
-use Rattle.tiling.specs.Kinds.{kindWith}
 use Rattle.models.specs.declared.Model.{Model}
 use Rattle.settings.specs.Settings.{settings, allowedByRow, byteCount, place, freshValues, valuesOf, valuesWith, valueCount, rowCount, kindRow, tilingRow}
-use Rattle.models.specs.Models.{allowedFor, kindIn, modelIn}
+use Rattle.models.specs.Models.{kindFor, allowedFor, kindIn, modelIn}
 use Rattle.settings.proofs.Laws.{place-fits, places-apart, fresh-count}
 use Rattle.models.proofs.Laws.{allowed-many, fresh-allowed, kind-free}
 use Rattle.lists.proofs.Each.{alike}
@@ -95,7 +94,7 @@ with-in-range {profile} {values} i row vs a fresh = record { full = length-with 
     after = modelIn profile (valuesWith row vs values)
 
     same-kind : (row ≡ kindRow → ⊥) → kindIn (valuesWith row vs values) ≡ kindIn values
-    same-kind ne = ap (λ (l : List ℕ). kindWith (getD l 0 0)) (other-row row vs values n (i .full) kindRow (λ e. ne (sym e)))
+    same-kind ne = ap (λ (l : List ℕ). kindFor (getD l 0 0)) (other-row row vs values n (i .full) kindRow (λ e. ne (sym e)))
 
     kept : (r : ℕ) → r < rowCount → row ≡ kindRow → (t : Bool) → eqb r tilingRow ≡ t → allowedFor after r (valuesOf r values) ≡ true
     kept r h e true s = let same = eqb-true r tilingRow s in rw (same, fresh e) (fresh-allowed after (unfold settings in omega arith))

@@ -10,7 +10,7 @@ use lib.ListN.{length, length-append, length-take, length-drop}
 use Rattle.profiles.specs.declared.Numbered.{Numbered}
 use Rattle.profiles.specs.declared.Numbered.the-variants.{Known, Unknown}
 use Rattle.profiles.specs.Numbers.{profileWith}
-use Rattle.tiling.specs.declared.Kind.{Kind}
+use Rattle.tiling.specs.declared.Numbered.{Numbered as KindNumbered}
 use Rattle.tiling.specs.Kinds.{kindWith}
 use Rattle.packet.specs.declared.MonitorId.{MonitorId}
 use Rattle.packet.specs.declared.GroupId.{GroupId}
@@ -57,11 +57,12 @@ may-add w i g n k e = go (leb mostPanels (length w)) (eqb (i .0) 0) (placeOf i w
         record { room = leb-false _ _ ea; named = eqb-false _ _ eb; new = eq; grouped = eqb-false _ _ ec }
 
 -- a panel more, or none
-good-more : (w : Wall) (i : MonitorId) (g : GroupId) (numbered : Numbered) (kind : Kind) → length w ≤ mostPanels → GoodWall w → MayAdd w i g
-    → WellFormed (tableOf (w ++ freshOf numbered kind i g))
-good-more w i g (Known profile) kind few good m =
+good-more : (w : Wall) (i : MonitorId) (g : GroupId) (numbered : Numbered) (kinded : KindNumbered) → length w ≤ mostPanels → GoodWall w → MayAdd w i g
+    → WellFormed (tableOf (w ++ freshOf numbered kinded i g))
+good-more w i g (Known profile) (KindNumbered.Known kind) few good m =
     formed _ (simp length-append (omega arith)) (good-snoc w _ good (fresh-good i g profile kind (m .named) (m .grouped)) (nowhere-absent i 0 w (m .new)))
-good-more w i g Unknown kind few good m = rw append-nil (formed w few good)
+good-more w i g (Known profile) KindNumbered.Unknown few good m = rw append-nil (formed w few good)
+good-more w i g Unknown kinded few good m = rw append-nil (formed w few good)
 
 good-added : (w : Wall) (i : MonitorId) (g : GroupId) (n k : ℕ) (r : Refusal) → length w ≤ mostPanels → GoodWall w → addRefusal w i g n k ≡ r
     → WellFormed (tableOf (cond (eqb (refusalOf r) 0) (w ++ freshOf (profileWith n) (kindWith k) i g) w))

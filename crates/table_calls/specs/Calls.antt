@@ -5,8 +5,8 @@ use mathlib.Core.Bool.{cond}
 use mathlib.Core.List.{[], _∷_, _++_}
 use lib.Dec.{eqb, leb}
 use lib.ListN.{length, take, drop}
-use Rattle.tiling.specs.declared.Kind.{Kind}
-use Rattle.tiling.specs.Kinds.{isKind, kindWith}
+use Rattle.tiling.specs.declared.Numbered.{Numbered as KindNumbered}
+use Rattle.tiling.specs.Kinds.{kindWith, ifKnown as ifKind}
 use Rattle.profiles.specs.declared.Numbered.{Numbered}
 use Rattle.profiles.specs.Numbers.{profileWith, ifKnown}
 use Rattle.packet.specs.declared.MonitorId.{MonitorId}
@@ -34,11 +34,11 @@ addRefusal w i g n k =
     cond (leb mostPanels (length w)) Full
     (cond (eqb (i .0) 0) IdZero
     (ifThere (placeOf i w) IdTaken
-    (cond (eqb (g .0) 0) GroupZero (ifKnown (profileWith n) (λ profile. cond (isKind k) Nothing UnknownKind) UnknownProfile))))
+    (cond (eqb (g .0) 0) GroupZero (ifKnown (profileWith n) (λ profile. ifKind (kindWith k) (λ kind. Nothing) UnknownKind) UnknownProfile))))
 
--- the fresh panel of a profile and a kind, if there is such a profile
-abbrev pub freshOf : Numbered → Kind → MonitorId → GroupId → Wall
-freshOf numbered kind i g = ifKnown numbered (λ profile. freshPanel i g profile kind ∷ []) []
+-- the fresh panel of a profile and a kind, if there are such
+abbrev pub freshOf : Numbered → KindNumbered → MonitorId → GroupId → Wall
+freshOf numbered kinded i g = ifKnown numbered (λ profile. ifKind kinded (λ kind. freshPanel i g profile kind ∷ []) []) []
 
 -- that panel at the end, unless it is refused
 unfoldable pub added : Wall → MonitorId → GroupId → ℕ → ℕ → Wall

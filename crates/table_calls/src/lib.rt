@@ -77,10 +77,11 @@ pub fn add(t: Table, id: MonitorId, group: GroupId, number: u8, kind: u8) -> Cha
     let Numbered::Known(profile) = numbered else {
         return refused(t, Refusal::UnknownProfile);
     };
-    if !tiling::is_kind(kind) {
+    let kinded = tiling::with_number(kind);
+    let tiling::Numbered::Known(kind) = kinded else {
         return refused(t, Refusal::UnknownKind);
-    }
-    let p = fresh_panel(id, group, profile, tiling::with_number(kind));
+    };
+    let p = fresh_panel(id, group, profile, kind);
     let mut places = panels::places_of(t);
     places[n] = p;
     let table = panels::table_of(places, n + 1);

@@ -1,9 +1,10 @@
 -- The kinds of panel, by the walls that they can stand in. 02, A6: 5 by 5, or 15 wide by 10 high; numbers 0 and 1.
 use Prim.Native.Nat.{ℕ, _*_}
-use mathlib.Core.Bool.{Bool, cond, _&&_, _||_}
+use mathlib.Core.Bool.{Bool, cond, _&&_}
 use lib.Dec.{eqb}
 use Rattle.tiling.specs.declared.Kind.{Kind}
 use Rattle.tiling.specs.declared.Kind.the-variants.{FiveByFive, FifteenByTen}
+use Rattle.tiling.specs.declared.Numbered.{Numbered}
 use Rattle.tiling.specs.declared.Coded.{Coded}
 use Rattle.tiling.specs.declared.Coded.the-variants.{Byte, NoWall}
 use Rattle.tiling.specs.declared.Size.{Size}
@@ -14,12 +15,13 @@ abbrev pub kindNumber : Kind → ℕ
 kindNumber FiveByFive = 0
 kindNumber FifteenByTen = 1
 
--- a number that is a kind's, and which kind's it then is
-unfoldable pub isKind : ℕ → Bool
-isKind n = eqb n (kindNumber FiveByFive) || eqb n (kindNumber FifteenByTen)
+unfoldable pub kindWith : ℕ → Numbered
+kindWith n = cond (eqb n 0) (Numbered.Known Kind.FiveByFive) (cond (eqb n 1) (Numbered.Known Kind.FifteenByTen) Numbered.Unknown)
 
-unfoldable pub kindWith : ℕ → Kind
-kindWith n = cond (eqb n (kindNumber FiveByFive)) FiveByFive FifteenByTen
+-- what comes of the kind that a number has, and what comes where it has none
+abbrev pub ifKnown : {A : Type 0} → Numbered → (Kind → A) → A → A
+ifKnown (Numbered.Known kind) some none = some kind
+ifKnown Numbered.Unknown some none = none
 
 abbrev pub widest : Kind → ℕ
 widest FiveByFive = 5

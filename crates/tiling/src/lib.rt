@@ -1,12 +1,18 @@
 // Where a panel sits in a wall: a wall's height and width in one byte, by the kind of panel.
 ghost use mathlib.Core.Path.{_≡_};
 ghost use Rattle.tiling.specs.Walls.{upTo};
-ghost use Rattle.tiling.specs.Kinds.{kindNumber, isKind, kindWith, widest, highest, largest, codedAs, sizeIn, inWall};
+ghost use Rattle.tiling.specs.Kinds.{kindNumber, kindWith, widest, highest, largest, codedAs, sizeIn, inWall};
 
 // The walls that a panel can stand in: up to 5 wide and 5 high, or up to 15 wide and 10 high.
 pub enum Kind {
     FiveByFive,
     FifteenByTen,
+}
+
+// The kind that has a number, if one does.
+pub enum Numbered {
+    Known(Kind),
+    Unknown,
 }
 
 // The byte of a height and a width, if the kind has such a wall.
@@ -31,24 +37,17 @@ pub fn number_of(kind: Kind) -> u8
     }
 }
 
-// Whether a kind has this number.
-pub fn is_kind(number: u8) -> bool
-    ensures { λ r. ⌜ r ≡ isKind number ⌝ }
-{
-    if number == 0 {
-        return true;
-    }
-    number == 1
-}
-
-// The kind that has this number.
-pub fn with_number(number: u8) -> Kind
+// The kind that has this number, if one does.
+pub fn with_number(number: u8) -> Numbered
     ensures { λ r. ⌜ r ≡ kindWith number ⌝ }
 {
     if number == 0 {
-        return Kind::FiveByFive;
+        return Numbered::Known(Kind::FiveByFive);
     }
-    Kind::FifteenByTen
+    if number == 1 {
+        return Numbered::Known(Kind::FifteenByTen);
+    }
+    Numbered::Unknown
 }
 
 // The width H of a kind's widest wall.

@@ -6,8 +6,8 @@ use native.Mathlib.Omega.{arith}
 use borrow.Author.Needs.{needs}
 use lib.ListN.{getD}
 use Rattle.tiling.specs.declared.Kind.{Kind}
-use Rattle.tiling.specs.Kinds.{kindWith}
 use Rattle.models.specs.declared.Model.{Model}
+use Rattle.models.specs.Models.{kindFor}
 use Rattle.settings.specs.Settings.{settings, allowedByRow, kindRow}
 use Rattle.settings.proofs.Laws.{value-of}
 use Rattle.models.proofs.model_in.Statement.{statement}
@@ -16,12 +16,12 @@ use Rattle.models.proofs.model_in.Tie as tie
 place-of-requires : tie.Need-place-of-requires
 place-of-requires c κs = search needs
 
-shared-slice-read-with-number : tie.Need-shared-slice-read-with-number
+shared-slice-read-kind-for : tie.Need-shared-slice-read-kind-for
 unfolding settings allowedByRow flatten
-shared-slice-read-with-number c = omega (arith, c .before .place-of .ensures)
+shared-slice-read-kind-for c = omega (arith, c .before .place-of .ensures)
 
-with-number-requires : tie.Need-with-number-requires
-with-number-requires c κs = search needs
+kind-for-requires : tie.Need-kind-for-requires
+kind-for-requires c κs = search needs
 
 returns : tie.Need-returns
 unfolding settings allowedByRow flatten
@@ -29,9 +29,9 @@ returns c =
     let a = c .before .before .before .before .args in
     let place = ap (λ (p : ℕ). getD (a .values .now) p 0) (c .before .before .place-of .ensures) in
     let number = place ∙ sym (value-of kindRow 0 (a .values .now) (omega arith)) in
-    ap {B = Model} (λ (kind : Kind). record { profile = a .profile; kind = kind }) (c .with-number .ensures ∙ ap kindWith number)
+    ap {B = Model} (λ (kind : Kind). record { profile = a .profile; kind = kind }) (c .kind-for .ensures ∙ ap kindFor number)
 
 pub model-in-spec : {M : Type 1} → statement M
 model-in-spec =
     tie.close
-    (tie.spec place-of-requires shared-slice-read-with-number with-number-requires returns)
+    (tie.spec place-of-requires shared-slice-read-kind-for kind-for-requires returns)

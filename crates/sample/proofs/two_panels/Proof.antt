@@ -3,7 +3,7 @@ use mathlib.Core.Path.{_≡_, refl, sym, ap, subst, _∙_}
 use mathlib.Core.List.{[], _∷_}
 use Rattle.settings.specs.declared.Profile.the-variants.{General}
 use Rattle.tiling.specs.declared.Kind.the-variants.{FiveByFive}
-use Rattle.tiling.specs.Kinds.{isKind, kindWith}
+use Rattle.tiling.specs.Kinds.{kindWith}
 use Rattle.profiles.specs.Numbers.{profileWith}
 use Rattle.packet.specs.Packet.{monitorId, groupId}
 use Rattle.table_calls.specs.declared.Changed.{Changed}
@@ -19,11 +19,11 @@ use Rattle.sample.proofs.two_panels.Statement.{statement}
 use Rattle.sample.proofs.two_panels.Tie as tie
 
 one-panel : added [] (monitorId 1) (groupId 9) 0 0 ≡ freshPanel (monitorId 1) (groupId 9) General FiveByFive ∷ []
-unfolding added addRefusal placeFrom profileWith isKind kindWith
+unfolding added addRefusal placeFrom profileWith kindWith
 one-panel = refl
 
 both-panels : added (freshPanel (monitorId 1) (groupId 9) General FiveByFive ∷ []) (monitorId 2) (groupId 9) 0 0 ≡ twoPanels
-unfolding added addRefusal placeFrom profileWith isKind kindWith twoPanels
+unfolding added addRefusal placeFrom profileWith kindWith twoPanels
 both-panels = refl
 
 empty-table-requires : tie.Need-empty-table-requires

@@ -5,10 +5,11 @@ use mathlib.Core.Bool.{false, cond}
 use Prim.Native.Nat.{ℕ, _+_}
 use native.Mathlib.Omega.{arith}
 use borrow.Author.Needs.{needs}
-use borrow.Author.Tests.{le-leb, lt-leb, eq-eqb, ne-eqb, not-true, not-false}
+use borrow.Author.Tests.{le-leb, lt-leb, eq-eqb, ne-eqb}
 use lib.Dec.{leb, eqb}
 use lib.ListN.{length, set, length-append}
-use Rattle.tiling.specs.Kinds.{isKind, kindWith}
+use Rattle.tiling.specs.declared.Numbered.{Numbered as KindNumbered}
+use Rattle.tiling.specs.Kinds.{kindWith, ifKnown as ifKind}
 use Rattle.profiles.specs.declared.Numbered.{Numbered}
 use Rattle.profiles.specs.declared.Numbered.the-variants.{Known}
 use Rattle.profiles.specs.Numbers.{profileWith}
@@ -19,7 +20,7 @@ use Rattle.panels.specs.declared.Table.{Table}
 use Rattle.table_calls.specs.declared.Changed.{Changed}
 use Rattle.table_calls.specs.declared.Refusal.{Refusal}
 use Rattle.table_calls.specs.declared.Refusal.the-variants.{Nothing, UnknownKind}
-use Rattle.panels.specs.Wall.{Wall, freshPanel, inPlaces, panelsOf, tableOf, mostPanels}
+use Rattle.panels.specs.Wall.{Wall, inPlaces, panelsOf, tableOf, mostPanels}
 use Rattle.table_calls.specs.Calls.{refusalOf, freshOf, addRefusal, added, addedTo}
 use Rattle.panels.proofs.Laws.{grown-places, held-first, may-hold}
 use Rattle.table_calls.proofs.add.Statement.{statement}
@@ -117,8 +118,14 @@ returns-5 c =
     (simp (room else1, ne-eqb _ _ (found .before .if2 .left), nowhere, ne-eqb _ _ (c .before .before .before .before .if3 .left), unknown))
     (else1 .before .before .pre .held)
 
-is-kind-requires : tie.Need-is-kind-requires
-is-kind-requires c κs = search needs
+with-number-requires-2 : tie.Need-with-number-requires-2
+with-number-requires-2 c κs = search needs
+
+enum-known-kinded : tie.Need-enum-known-kinded
+enum-known-kinded c = search needs
+
+enum-told-4 : tie.Need-enum-told-4
+enum-told-4 c = search needs
 
 refused-requires-6 : tie.Need-refused-requires-6
 refused-requires-6 c κs = search needs
@@ -131,7 +138,7 @@ known : (k : tie.After-known-told) → profileWith (first k .before .before .arg
 known k = sym (k .before .before .before .with-number .ensures) ∙ k .before .numbered .given .1
 
 by-kind : (k : tie.After-known-told)
-    → let a = first k .before .before .args in addRefusal (panelsOf (a .t)) (a .id) (a .group) (a .number) (a .kind) ≡ cond (isKind (a .kind)) Nothing UnknownKind
+    → let a = first k .before .before .args in addRefusal (panelsOf (a .t)) (a .id) (a .group) (a .number) (a .kind) ≡ ifKind (kindWith (a .kind)) (λ kind. Nothing) UnknownKind
 unfolding addRefusal
 by-kind k =
     let told = k .before .before .before .before .before .before in
@@ -141,12 +148,9 @@ by-kind k =
 
 returns-6 : tie.Need-returns-6
 returns-6 c =
-    let k = c .before .before .before in
-    let unknown = sym (c .before .before .is-kind .ensures) ∙ not-true _ (c .before .if4 .taken) in
+    let k = c .before .before .before .before in
+    let unknown = sym (c .before .before .before .with-number2 .ensures) ∙ c .before .enum-told4 .given .1 in
     c .refused6 .ensures ∙ answered (first k .before .before .args .t) _ _ _ _ _ (by-kind k ∙ rw unknown) (first k .before .before .pre .held)
-
-with-number-requires-2 : tie.Need-with-number-requires-2
-with-number-requires-2 c κs = search needs
 
 fresh-panel-requires : tie.Need-fresh-panel-requires
 fresh-panel-requires c κs = search needs
@@ -164,8 +168,11 @@ add-table-of : tie.Need-add-table-of
 add-table-of c = search needs
 
 -- the places hold the wall and the fresh panel
+abbrev kinded : tie.After-places-of → tie.After-known-told2
+kinded c = c .before .before
+
 abbrev counted : tie.After-places-of → tie.After-count-of
-counted c = first (c .before .before .before .before .before) .before
+counted c = first (kinded c .before .before .before .before) .before
 
 grown : (c : tie.After-places-of)
     → let n = counted c .count-of .result in
@@ -183,16 +190,15 @@ table-of-requires c κs = let e = grown c in may-hold _ _ (e .0) (e .1) (omega (
 
 returns-7 : tie.Need-returns-7
 returns-7 c =
-    let k = c .before .before .before .before .before .before in
+    let k2 = kinded (c .before) in
+    let k = k2 .before .before .before .before in
     let a = first k .before .before .args in
     let w = panelsOf (a .t) in
     let e = grown (c .before) in
-    let kind = sym (c .before .before .before .before .before .is-kind .ensures) ∙ not-false _ (c .before .before .before .before .if4 .left) in
-    let fresh = c .before .before .fresh-panel .ensures
-    ∙ ap (freshPanel (a .id) (a .group) (k .before .numbered .given .0 .0)) (c .before .before .before .with-number2 .ensures) in
+    let kind : kindWith (a .kind) ≡ KindNumbered.Known (k2 .before .kinded .given .0 .0) = sym (k2 .before .before .before .with-number2 .ensures) ∙ k2 .before .kinded .given .1 in
     answered (a .t) _ _ _ _ _ (by-kind k ∙ rw kind)
-    (c .table-of .ensures ∙ ap tableOf (held-first _ (e .0) (e .1)) ∙ ap (λ (p : Panel). tableOf (w ++ p ∷ [])) fresh
-    ∙ ap (λ (n : Numbered). tableOf (w ++ freshOf n (kindWith (a .kind)) (a .id) (a .group))) (sym (known k)))
+    (c .table-of .ensures ∙ ap tableOf (held-first _ (e .0) (e .1)) ∙ ap (λ (p : Panel). tableOf (w ++ p ∷ [])) (c .before .before .fresh-panel .ensures)
+    ∙ ap₂ (λ (n : Numbered) (k : KindNumbered). tableOf (w ++ freshOf n k (a .id) (a .group))) (sym (known k)) (sym kind))
 
 pub add-spec : {M : Type 1} → statement M
 add-spec =
@@ -215,10 +221,11 @@ add-spec =
     enum-told-3
     refused-requires-5
     returns-5
-    is-kind-requires
+    with-number-requires-2
+    enum-known-kinded
+    enum-told-4
     refused-requires-6
     returns-6
-    with-number-requires-2
     fresh-panel-requires
     places-of-requires
     mul-places

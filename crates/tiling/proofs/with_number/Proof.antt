@@ -1,4 +1,4 @@
--- The first kind's number is tried. Assumes nothing.
+-- The numbers are tried one after the other. Assumes nothing.
 use borrow.Author.Tests.{eq-eqb, ne-eqb}
 use Rattle.tiling.specs.Kinds.{kindWith}
 use Rattle.tiling.proofs.with_number.Statement.{statement}
@@ -10,7 +10,11 @@ returns c = simp (eq-eqb _ _ (c .if1 .taken))
 
 returns-2 : tie.Need-returns-2
 unfolding kindWith
-returns-2 c = simp (ne-eqb _ _ (c .if1 .left))
+returns-2 c = simp (ne-eqb _ _ (c .before .if1 .left), eq-eqb _ _ (c .if2 .taken))
+
+returns-3 : tie.Need-returns-3
+unfolding kindWith
+returns-3 c = simp (ne-eqb _ _ (c .before .if1 .left), ne-eqb _ _ (c .if2 .left))
 
 pub with-number-spec : {M : Type 1} → statement M
-with-number-spec = tie.close (tie.spec returns returns-2)
+with-number-spec = tie.close (tie.spec returns returns-2 returns-3)
