@@ -9,7 +9,7 @@ use Rattle.tiling.specs.Walls.{upTo}
 use Rattle.panels.specs.Wall.{placeFrom}
 use Rattle.profiles.specs.Numbers.{profileWith}
 use Rattle.answers.specs.Judged.{stored}
-use Rattle.forms.specs.Forms.{isForm, formWith}
+use Rattle.forms.specs.Forms.{formWith}
 use Rattle.faults.specs.Lines.{lineOf}
 use Rattle.image_write.specs.Written.{startsOf, imageOf}
 use Rattle.image_whole.specs.Whole.{edge, rises, startsFit, wholeRefusal, recordsIn}
@@ -21,5 +21,5 @@ use Rattle.image_salvage.specs.Salvaged.{salvagedFrom, salvageOf, linesOf, text
 use Rattle.demands.specs.SalvageCases.{cases, CasesSalvaged}
 
 pub cases-salvaged : CasesSalvaged
-unfolding settings foundFrom fieldBy allowedByRow freshValues within allAllowed flatten laidAt placeFrom profileWith stored isForm formWith lineOf startsOf imageOf edge rises startsFit wholeRefusal recordsIn headFits headIn stepAt ranFor runFrom keptFrom salvagedFrom salvageOf linesOf textFrom kindWith inWall upTo cases
+unfolding settings foundFrom fieldBy allowedByRow freshValues within allAllowed flatten laidAt placeFrom profileWith stored formWith lineOf startsOf imageOf edge rises startsFit wholeRefusal recordsIn headFits headIn stepAt ranFor runFrom keptFrom salvagedFrom salvageOf linesOf textFrom kindWith inWall upTo cases
 cases-salvaged = refl

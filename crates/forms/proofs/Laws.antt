@@ -18,17 +18,13 @@ use Rattle.profiles.specs.declared.Numbered.the-variants.{Known}
 use Rattle.profiles.proofs.Numbers.{number-back}
 use Rattle.forms.specs.declared.Form.{Form}
 use Rattle.forms.specs.declared.Form.the-variants.{One, Two}
-use Rattle.forms.specs.Forms.{formByte, isForm, formWith, headSize, headOf, profileIn, holds, hasField, keeps}
+use Rattle.forms.specs.declared.Numbered.{Numbered}
+use Rattle.forms.specs.Forms.{formByte, formWith, headSize, headOf, profileIn, holds, hasField, keeps}
 
-pub byte-back : (form : Form) → formWith (formByte form) ≡ form
+pub byte-back : (form : Form) → formWith (formByte form) ≡ Numbered.Known form
 unfolding formWith
 byte-back One = refl
 byte-back Two = refl
-
-pub byte-known : (form : Form) → isForm (formByte form) ≡ true
-unfolding isForm
-byte-known One = refl
-byte-known Two = refl
 
 -- a head has two bytes or three
 pub head-some : (form : Form) → (2 ≤ headSize form) × (headSize form ≤ 3)

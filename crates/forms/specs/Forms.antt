@@ -9,23 +9,24 @@ use Rattle.lists.specs.Lists.{same}
 use Rattle.settings.specs.declared.Profile.{Profile}
 use Rattle.settings.specs.declared.Profile.the-variants.{General}
 use Rattle.settings.specs.Settings.{freshValues, valuesOf, kindRow, tilingRow}
-use Rattle.profiles.specs.declared.Numbered.{Numbered}
-use Rattle.profiles.specs.declared.Numbered.the-variants.{Known}
+use Rattle.profiles.specs.declared.Numbered.{Numbered as ProfileNumbered}
 use Rattle.profiles.specs.Numbers.{profileNumber, profileWith}
 use Rattle.forms.specs.declared.Form.{Form}
 use Rattle.forms.specs.declared.Form.the-variants.{One, Two}
+use Rattle.forms.specs.declared.Numbered.{Numbered}
 
 -- the form byte
 abbrev pub formByte : Form → ℕ
 formByte One = 1
 formByte Two = 2
 
--- a byte that is a form's, and which form's it then is
-unfoldable pub isForm : ℕ → Bool
-isForm byte = eqb byte (formByte One) || eqb byte (formByte Two)
+unfoldable pub formWith : ℕ → Numbered
+formWith byte = cond (eqb byte 1) (Numbered.Known Form.One) (cond (eqb byte 2) (Numbered.Known Form.Two) Numbered.Unknown)
 
-unfoldable pub formWith : ℕ → Form
-formWith byte = cond (eqb byte (formByte One)) One Two
+-- what comes of the form that a byte says, and what comes where it says none
+abbrev pub ifKnown : {A : Type 0} → Numbered → (Form → A) → A → A
+ifKnown (Numbered.Known form) some none = some form
+ifKnown Numbered.Unknown some none = none
 
 -- a record's head: ID, group, and in form 2 the profile's number
 abbrev pub headSize : Form → ℕ
@@ -40,8 +41,8 @@ abbrev pub headOf : Form → ℕ → ℕ → Profile → List ℕ
 headOf form id group profile = id ∷ group ∷ profileBytes form profile
 
 -- the profile that a record says: form 1 has no room for one, and its records are general
-abbrev pub profileIn : Form → List ℕ → Numbered
-profileIn One bytes = Known General
+abbrev pub profileIn : Form → List ℕ → ProfileNumbered
+profileIn One bytes = ProfileNumbered.Known General
 profileIn Two bytes = profileWith (getD bytes 2 0)
 
 -- so that it has room for no other

@@ -3,7 +3,7 @@ ghost use mathlib.Core.Path.{_≡_};
 ghost use Prim.Native.Nat.{_<_};
 ghost use lib.ListN.{length};
 ghost use Rattle.settings.specs.Settings.{rowCount, valueCount};
-ghost use Rattle.forms.specs.Forms.{formByte, isForm, formWith, headSize, holds, hasField, isFresh, keeps};
+ghost use Rattle.forms.specs.Forms.{formByte, formWith, headSize, holds, hasField, isFresh, keeps};
 use settings::KIND_ROW;
 use settings::Profile;
 use settings::TILING_ROW;
@@ -11,6 +11,12 @@ use settings::TILING_ROW;
 pub enum Form {
     One,
     Two,
+}
+
+// The form that has a form byte, if one does.
+pub enum Numbered {
+    Known(Form),
+    Unknown,
 }
 
 // The byte that an image of a form ends with.
@@ -23,24 +29,17 @@ pub fn byte_of(form: Form) -> u8
     }
 }
 
-// Whether an image may end with this byte.
-pub fn is_form(byte: u8) -> bool
-    ensures { λ r. ⌜ r ≡ isForm byte ⌝ }
-{
-    if byte == 1 {
-        return true;
-    }
-    byte == 2
-}
-
-// The form of an image that ends with this byte.
-pub fn with_byte(byte: u8) -> Form
+// The form of an image that ends with this byte, if one does.
+pub fn with_byte(byte: u8) -> Numbered
     ensures { λ r. ⌜ r ≡ formWith byte ⌝ }
 {
     if byte == 1 {
-        return Form::One;
+        return Numbered::Known(Form::One);
     }
-    Form::Two
+    if byte == 2 {
+        return Numbered::Known(Form::Two);
+    }
+    Numbered::Unknown
 }
 
 // The bytes before a record's fields: ID, group, and in form 2 the profile.

@@ -14,8 +14,9 @@ use Rattle.lists.specs.Lists.{startOf, each}
 use Rattle.lists.proofs.Flat.{in-flat, flat-more, flat-at}
 use Rattle.lists.proofs.Each.{in-each, each-alike, each-getD}
 use Rattle.forms.specs.declared.Form.{Form}
-use Rattle.forms.specs.Forms.{formByte, isForm, formWith}
-use Rattle.forms.proofs.Laws.{byte-back, byte-known}
+use Rattle.forms.specs.declared.Numbered.{Numbered}
+use Rattle.forms.specs.Forms.{formByte, formWith}
+use Rattle.forms.proofs.Laws.{byte-back}
 use Rattle.image_write.specs.Written.{highLow, startsOf, imageOf}
 use Rattle.image_whole.specs.Whole.{lastByte, formOf, countOf, startsAt, startAt, edge, rises, startsFit, wholeRefusal, recordIn, recordsIn}
 use Rattle.refusals.specs.Refusals.{isSound}
@@ -35,8 +36,11 @@ module _ (form : Form) (records : List (List ℕ)) where
       let e : length (imageOf form records) - 1 ≡ length (flatten records) + 2 * length records + 1 = omega (arith, image-length form records) in
       rw e (in-trailer 1)
 
+  form-known : formWith (lastByte (imageOf form records)) ≡ Numbered.Known form
+  form-known = ap formWith form-is ∙ byte-back form
+
   pub form-back : formOf (imageOf form records) ≡ form
-  form-back = ap formWith form-is ∙ byte-back form
+  form-back = rw form-known
 
   count-is : countOf (imageOf form records) ≡ length records
   count-is =
@@ -107,7 +111,7 @@ module _ (form : Form) (records : List (List ℕ)) where
         let image = imageOf form records in
         rw (
           le-ltb (length image) 2 (omega (arith, image-length form records)),
-          ap isForm form-is ∙ byte-known form,
+          form-known,
           le-ltb mostPanels (countOf image) (omega (arith, count-is)),
           le-ltb (length image) (2 * countOf image + 2) (omega (arith, image-length form records, count-is)),
           starts-fit,

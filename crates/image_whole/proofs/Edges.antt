@@ -15,7 +15,8 @@ use Rattle.panels.specs.Wall.{mostPanels}
 use Rattle.lists.specs.Lists.{each}
 use Rattle.lists.proofs.Both.{both}
 use Rattle.lists.proofs.Each.{in-each, length-each}
-use Rattle.forms.specs.Forms.{isForm}
+use Rattle.forms.specs.declared.Numbered.{Numbered}
+use Rattle.forms.specs.Forms.{formWith, ifKnown}
 use Rattle.refusals.specs.declared.Refusal.{Refusal}
 use Rattle.refusals.specs.declared.Refusal.the-variants.{Nothing, TooShort, OtherForm, TooMany, NoStarts, Starts, Record, Field, Value}
 use Rattle.image_whole.specs.Whole.{lastByte, countOf, startsAt, edge, rises, startsFit, wholeRefusal, recordIn, recordsIn}
@@ -42,15 +43,15 @@ pub fits : (image : List ℕ) → isSound (wholeRefusal image) ≡ true → Fits
 unfolding wholeRefusal
 fits image e = go _ _ _ _ _ refl refl refl refl refl e
   where
-    go : (a b c d f : Bool) → ltb (length image) 2 ≡ a → isForm (lastByte image) ≡ b → ltb mostPanels (countOf image) ≡ c
+    go : (a : Bool) (b : Numbered) (c d f : Bool) → ltb (length image) 2 ≡ a → formWith (lastByte image) ≡ b → ltb mostPanels (countOf image) ≡ c
         → ltb (length image) (2 * countOf image + 2) ≡ d → startsFit image ≡ f
-        → isSound (cond a TooShort (cond b (cond c TooMany (cond d NoStarts (cond f Nothing Starts))) OtherForm)) ≡ true → Fits image
+        → isSound (cond a TooShort (ifKnown b (λ form. cond c TooMany (cond d NoStarts (cond f Nothing Starts))) OtherForm)) ≡ true → Fits image
     go true b c d f ea eb ec ed ef e = absurd (false≢true e)
-    go false false c d f ea eb ec ed ef e = absurd (false≢true e)
-    go false true true d f ea eb ec ed ef e = absurd (false≢true e)
-    go false true false true f ea eb ec ed ef e = absurd (false≢true e)
-    go false true false false false ea eb ec ed ef e = absurd (false≢true e)
-    go false true false false true ea eb ec ed ef e =
+    go false Numbered.Unknown c d f ea eb ec ed ef e = absurd (false≢true e)
+    go false (Numbered.Known form) true d f ea eb ec ed ef e = absurd (false≢true e)
+    go false (Numbered.Known form) false true f ea eb ec ed ef e = absurd (false≢true e)
+    go false (Numbered.Known form) false false false ea eb ec ed ef e = absurd (false≢true e)
+    go false (Numbered.Known form) false false true ea eb ec ed ef e =
         record { two = ltb-false _ _ ea; few = ltb-false _ _ ec; room = ltb-false _ _ ed; starts = ef }
 
 rising : (image : List ℕ) (k m : ℕ) → rises image k m ≡ true → (j : ℕ) → k ≤ j → j < k + m → edge image j < edge image (suc j)

@@ -8,7 +8,7 @@ use lib.ListN.{length, getD, take, drop}
 use Rattle.panels.specs.Wall.{mostPanels}
 use Rattle.lists.specs.Lists.{each}
 use Rattle.forms.specs.declared.Form.{Form}
-use Rattle.forms.specs.Forms.{isForm, formWith}
+use Rattle.forms.specs.Forms.{formWith, ifKnown}
 use Rattle.refusals.specs.declared.Refusal.{Refusal}
 use Rattle.refusals.specs.declared.Refusal.the-variants.{Nothing, TooShort, OtherForm, TooMany, NoStarts, Starts}
 
@@ -16,8 +16,9 @@ use Rattle.refusals.specs.declared.Refusal.the-variants.{Nothing, TooShort, Oth
 abbrev pub lastByte : List ℕ → ℕ
 lastByte image = getD image (length image - 1) 0
 
+-- an image that is read ends with a form's byte; any other would stand for form 2
 abbrev pub formOf : List ℕ → Form
-formOf image = formWith (lastByte image)
+formOf image = ifKnown (formWith (lastByte image)) (λ form. form) Form.Two
 
 abbrev pub countOf : List ℕ → ℕ
 countOf image = getD image (length image - 2) 0
@@ -48,8 +49,8 @@ startsFit image = eqb (edge image 0) 0 && rises image 0 (countOf image)
 unfoldable pub wholeRefusal : List ℕ → Refusal
 wholeRefusal image =
     cond (ltb (length image) 2) TooShort
-    (cond (isForm (lastByte image))
-    (cond (ltb mostPanels (countOf image)) TooMany
+    (ifKnown (formWith (lastByte image))
+    (λ form. cond (ltb mostPanels (countOf image)) TooMany
     (cond (ltb (length image) (2 * countOf image + 2)) NoStarts
     (cond (startsFit image) Nothing Starts)))
     OtherForm)

@@ -4,6 +4,7 @@ ghost use Prim.Native.Nat.{_+_, _*_, _≤_, _<_};
 ghost use lib.ListN.{length};
 ghost use Rattle.image_whole.specs.Whole.{formOf, countOf, edge, startsFit, wholeRefusal};
 use forms::Form;
+use forms::Numbered;
 use panels::MOST_PANELS;
 use refusals::Refusal;
 
@@ -19,7 +20,11 @@ pub fn form_of(image: &[u8]) -> Form
     ensures { λ r. ⌜ r ≡ formOf (now (image .entry)) ⌝ }
 {
     let n = image.len();
-    forms::with_byte(image[n - 1])
+    let numbered = forms::with_byte(image[n - 1]);
+    match numbered {
+        Numbered::Known(form) => form,
+        Numbered::Unknown => Form::Two,
+    }
 }
 
 // The trailer's count, of an image of at least two bytes.
@@ -72,9 +77,10 @@ pub fn refusal_of(image: &[u8]) -> Refusal
     if len < 2 {
         return Refusal::TooShort;
     }
-    if !forms::is_form(image[len - 1]) {
+    let numbered = forms::with_byte(image[len - 1]);
+    let Numbered::Known(_) = numbered else {
         return Refusal::OtherForm;
-    }
+    };
     let n = count_of(image);
     if MOST_PANELS < n {
         return Refusal::TooMany;

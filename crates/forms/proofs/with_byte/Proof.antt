@@ -1,4 +1,4 @@
--- Form 1's byte is tried. Assumes nothing.
+-- The form bytes are tried one after the other. Assumes nothing.
 use borrow.Author.Tests.{eq-eqb, ne-eqb}
 use Rattle.forms.specs.Forms.{formWith}
 use Rattle.forms.proofs.with_byte.Statement.{statement}
@@ -10,7 +10,11 @@ returns c = simp (eq-eqb _ _ (c .if1 .taken))
 
 returns-2 : tie.Need-returns-2
 unfolding formWith
-returns-2 c = simp (ne-eqb _ _ (c .if1 .left))
+returns-2 c = simp (ne-eqb _ _ (c .before .if1 .left), eq-eqb _ _ (c .if2 .taken))
+
+returns-3 : tie.Need-returns-3
+unfolding formWith
+returns-3 c = simp (ne-eqb _ _ (c .before .if1 .left), ne-eqb _ _ (c .if2 .left))
 
 pub with-byte-spec : {M : Type 1} → statement M
-with-byte-spec = tie.close (tie.spec returns returns-2)
+with-byte-spec = tie.close (tie.spec returns returns-2 returns-3)
