@@ -57,7 +57,7 @@ fn print_refusal(number: u8) {
 fn print_image(form: Form, t: Table)
     requires { ⌜ WellFormed t ⌝ }
 {
-    let mut out = [0u8; LARGEST];
+    let mut out = image_write::room();
     let written = image_write::write_image(form, t, &mut out);
     match written {
         Written::Bytes(n) => print_hex(text::front(&out, n)),

@@ -10,7 +10,7 @@ use Rattle.forms.specs.declared.Form.the-variants.{One, Two}
 use Rattle.forms.specs.Forms.{formByte, headSize, headOf, hasField, keeps}
 use Rattle.lists.specs.Lists.{startOf, each, laidOver}
 use Rattle.panels.specs.declared.Panel.{Panel}
-use Rattle.panels.specs.Wall.{Wall}
+use Rattle.panels.specs.Wall.{Wall, mostPanels}
 use Rattle.refusals.specs.Refusals.{noRoom, wouldLose}
 use Rattle.image_write.specs.declared.Written.{Written}
 use Rattle.image_write.specs.declared.Written.the-variants.{Bytes, WouldLose, NoRoom}
@@ -77,6 +77,10 @@ setupOf form w = imageOf form (recordsOf form w)
 -- how many bytes that is: behind the starts stand n and the form byte
 abbrev pub sizeOf : Form → Wall → ℕ
 sizeOf form w = panelSize form * length w + 2
+
+-- the most that a table's image can have, that of a full table in form 2
+abbrev pub largest : ℕ
+largest = panelSize Form.Two * mostPanels + 2
 
 -- a form keeps all that a wall has
 unfoldable pub losesNothing : Form → Wall → Bool

@@ -2,9 +2,10 @@
 mod write;
 
 ghost use mathlib.Core.Path.{_≡_};
+ghost use lib.ListN.{replicate};
 ghost use Rattle.panels.specs.Wall.{panelsOf};
 ghost use Rattle.panels.specs.WellFormed.{WellFormed};
-ghost use Rattle.image_write.specs.Written.{fieldsSize, recordSize, sizeOf, losesNothing, writtenOf, refusalNumber, outputOf};
+ghost use Rattle.image_write.specs.Written.{fieldsSize, recordSize, sizeOf, largest, losesNothing, writtenOf, refusalNumber, outputOf};
 use forms::Form;
 use panels::MOST_PANELS;
 use panels::Table;
@@ -72,6 +73,13 @@ pub fn size_of(form: Form, t: Table) -> usize
     ensures { λ r. ⌜ r ≡ sizeOf form (panelsOf t) ⌝ }
 {
     (record_size(form) + START_SIZE) * panels::count_of(t) + TRAILER_SIZE
+}
+
+// An empty output with room for any table's image.
+pub fn room() -> [u8; LARGEST]
+    ensures { λ r. ⌜ r ≡ replicate largest 0 ⌝ }
+{
+    [0; LARGEST]
 }
 
 // Whether a form holds all that a table has.

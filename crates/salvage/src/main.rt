@@ -1,15 +1,14 @@
 // Salvages the setup image on standard input. The lines that tell its faults go to standard output and, where a file is named,
 // what was kept goes there as an image of form 2. What fails is told on standard error.
 ghost use mathlib.Core.Path.{_≡_};
-ghost use Prim.Native.Nat.{_+_, _*_, _≤_};
+ghost use Prim.Native.Nat.{_≤_};
 ghost use lib.ListN.{length};
 ghost use Rattle.lists.specs.Lists.{laidOver};
-ghost use Rattle.panels.specs.Wall.{panelsOf, mostPanels};
+ghost use Rattle.panels.specs.Wall.{panelsOf};
 ghost use Rattle.panels.specs.WellFormed.{WellFormed};
-ghost use Rattle.image_write.specs.Written.{setupOf, sizeOf};
+ghost use Rattle.image_write.specs.Written.{setupOf, sizeOf, largest};
 use forms::Form;
 use image_salvage::LINES_CAP;
-use image_write::LARGEST;
 use image_write::Written;
 use libc::STDERR_FILENO;
 use libc::STDIN_FILENO;
@@ -106,7 +105,7 @@ fn print_refusal(number: u8) {
 
 // The image of what was kept, at the front of out, which has room for any.
 fn write_kept(t: Table, out: &mut [u8]) -> usize
-    requires { ⌜ WellFormed t × (45 * mostPanels + 2 ≤ length (now out)) ⌝ }
+    requires { ⌜ WellFormed t × (largest ≤ length (now out)) ⌝ }
     ensures { λ r. ⌜ r ≡ sizeOf Form.Two (panelsOf t) ⌝ }
     ensures { λ _. ⌜ now (out .exit) ≡ laidOver (setupOf Form.Two (panelsOf t)) (now (out .entry)) ⌝ }
 {
@@ -147,7 +146,7 @@ fn make_file(path: &[u8], bytes: &[u8]) {
 fn keep(t: Table, path: &[u8])
     requires { ⌜ WellFormed t ⌝ }
 {
-    let mut out = [0u8; LARGEST];
+    let mut out = image_write::room();
     let n = write_kept(t, &mut out);
     make_file(path, text::front(&out, n));
 }
