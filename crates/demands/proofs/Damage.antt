@@ -75,4 +75,4 @@ any-length = marked
 
 pub host-unchanged : HostUnchanged
 unfolding step
-host-unchanged s b = rw (damage-said b)
+host-unchanged s b = refl

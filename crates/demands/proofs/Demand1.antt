@@ -13,6 +13,7 @@ use Rattle.packet.specs.declared.GroupId.{GroupId}
 use Rattle.packet.specs.declared.Verdict.{Verdict}
 use Rattle.packet.specs.declared.Verdict.the-variants.{Empty, Damaged, Intact}
 use Rattle.packet.specs.Packet.{longest}
+use Rattle.packet.specs.Reading.{readingOf}
 use Rattle.lists.specs.Lists.{laidOver}
 use Rattle.panels.specs.declared.Panel.{Panel}
 use Rattle.panels.specs.declared.Place.{Place}
@@ -163,7 +164,7 @@ step-stays : (s : State) (h : Happening) → Stays s (step s h)
 unfolding step heard
 step-stays s (start r) =
     one-of s (waits s) _ _ (quiet-stays s _) (one-of s (isRequest r) _ _ (begun-stays s r) (quiet-stays s _))
-step-stays s (burst b) = one-of s (waits s) (heard s b) (quiet s Outcome.Idle) (ending-stays s _ _) (quiet-stays s _)
+step-stays s (burst b) = one-of s (waits s) (heard s (readingOf b)) (quiet s Outcome.Idle) (ending-stays s _ _) (quiet-stays s _)
 step-stays s mark = one-of s (waits s) _ _ (again-stays s) (quiet-stays s _)
 
 pub call-refused : CallRefused

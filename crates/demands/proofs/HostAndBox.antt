@@ -27,8 +27,7 @@ use Rattle.packet.specs.Packet.{groupId, packetOf, mostData}
 use Rattle.packet.specs.Control.{controlData}
 use Rattle.packet.specs.Reading.{readingOf}
 use Rattle.packet.specs.Answered.{isHeard}
-use Rattle.packet.proofs.Packets.{sound, packet-intact, packet-verdict, packet-data}
-use Rattle.packet.proofs.Damages.{undamaged}
+use Rattle.packet.proofs.Packets.{packet-verdict, packet-data}
 use Rattle.panels.specs.declared.Panel.{Panel}
 use Rattle.panels.specs.declared.Place.the-variants.{At}
 use Rattle.panels.specs.Wall.{Wall, modelOf, blank, placeOf, panelsOf}
@@ -178,8 +177,7 @@ module _ (w : Wall) (r : Request) (k : ℕ) (asked : isRequest r ≡ true) (due 
       → step (asking r n) (burst (packetOf (r .id) (groupId 0) d)) ≡ ending (waiting r (suc n)) d (wordIn (r .model) (r .code) d)
   unfolding step heard saidTo saidBy
   hears n few d short =
-      let none = undamaged _ (sound _ (packet-intact (r .id) (groupId 0) d short)) in
-      rw (waits-on n few, length-replicate, lt-ltb 0 (suc n) (omega arith), none, packet-data (r .id) (groupId 0) d short, packet-verdict (r .id) (groupId 0) d short, eq-eqb (r .id .0) _ refl)
+      rw (waits-on n few, length-replicate, lt-ltb 0 (suc n) (omega arith), packet-data (r .id) (groupId 0) d short, packet-verdict (r .id) (groupId 0) d short, eq-eqb (r .id .0) _ refl)
       (untold (waiting r (suc n)) d (wordIn (r .model) (r .code) d))
 
   -- a set to which the panel says the word

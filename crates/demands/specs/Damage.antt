@@ -64,4 +64,4 @@ Unchanged = (w : Wall) (b : List ℕ) → answered w (readingOf b) ≡ before w 
 
 -- and the host's move is what it was, with what is wrong with the burst beside it, whatever the host waits for.
 abbrev pub HostUnchanged : Type 0
-HostUnchanged = (s : State) (b : List ℕ) → step s (burst b) ≡ telling (told b) (cond (waits s) (heard s b) (quiet s Idle))
+HostUnchanged = (s : State) (b : List ℕ) → step s (burst b) ≡ telling (told b) (cond (waits s) (heard s (readingOf b)) (quiet s Idle))

@@ -15,14 +15,15 @@ use Rattle.settings.specs.Settings.{mostValues}
 use Rattle.lists.proofs.Both.{both}
 use Rattle.packet.specs.Answered.{isHeard}
 use Rattle.packet.specs.declared.Damage.{Damage}
-use Rattle.packet.specs.Packet.{verdictOf, mostData}
-use Rattle.packet.specs.declared.Verdict.the-variants.{Intact}
+use Rattle.packet.specs.Packet.{mostData}
+use Rattle.packet.specs.Reading.{readingOf}
+use Rattle.packet.specs.declared.Verdict.{Verdict}
 use Rattle.packet.proofs.Packets.{packet-verdict, packet-data}
 use Rattle.requests.specs.declared.Request.{Request}
 use Rattle.requests.specs.declared.Said.{Said}
 use Rattle.requests.specs.declared.Said.the-variants.{Ack, Nack, Nav, Report, Nothing}
 use Rattle.requests.specs.Request.{requestData, requestPacket, isRequest}
-use Rattle.host.specs.Heard.{saidTo, dataIn}
+use Rattle.host.specs.Heard.{saidTo}
 use Rattle.host.specs.Machine.{Happening, start, burst, mark, State, Move, idle, sendings, mostSendings, waits, begun, again, ending, heard, telling, step}
 use Rattle.host.specs.Private.Lasting.{run, after, lasts, isNack, pushes, pushed, packets, countIn}
 
@@ -70,7 +71,7 @@ telling-on s k d m =
 pub one-step : (s : State) (h : Happening) → waits s ≡ true → Ends s (step s h) ⊎ Goes s (pushes (s .request) h) (step s h)
 unfolding step heard pushes
 one-step s (start r) w = rw w (inr (record { next = refl; sent = refl; few = λ h. omega arith }))
-one-step s (burst b) w = rw w (telling-on s _ _ _ (told s (dataIn b) (saidTo (s .request) b)))
+one-step s (burst b) w = rw w (telling-on s _ _ _ (told s _ (saidTo (s .request) (readingOf b))))
 one-step s mark w = rw w (pushed-on s)
 
 -- all happenings while the request lasts
@@ -161,7 +162,8 @@ same-packets r hs taken l =
 
 -- The packet reader finds that packet intact, with the request's ID, group and data.
 pub packet-reads : (r : Request) → isRequest r ≡ true
-    → (verdictOf (requestPacket r) ≡ Intact (r .id) (r .group) (length (requestData r))) × (dataIn (requestPacket r) ≡ requestData r)
+    → let reading = readingOf (requestPacket r) in
+    (reading .verdict ≡ Verdict.Intact (r .id) (r .group) (length (requestData r))) × (reading .part ≡ requestData r)
 unfolding requestPacket isRequest
 packet-reads r taken =
     let seven = leb-true (r .count) mostValues (both _ _ taken .0) in

@@ -9,7 +9,8 @@ use borrow.Author.Tests.{le-leb, lt-leb, lt-ltb, eq-eqb, ne-eqb}
 use types.Run.{OneOf}
 use denote.Enum.Declared.{tagOf}
 use lib.ListN.{length, length-replicate}
-use Rattle.packet.specs.Packet.{damageOf, verdictOf, dataOf, longest}
+use Rattle.packet.specs.Packet.{damageIn, longest}
+use Rattle.packet.specs.Reading.{readingOf}
 use Rattle.packet.specs.declared.MonitorId.{MonitorId}
 use Rattle.packet.specs.declared.GroupId.{GroupId}
 use Rattle.packet.specs.declared.Verdict.{Verdict}
@@ -37,7 +38,7 @@ some n h = omega arith
 module _ (out : List ℕ) (host : Host) (room : longest ≤ length out) where
   -- nothing waits
   module _ (e : host .sendings ≡ 0) where
-    pub idle-burst : (b : List ℕ) → call out (stateOf host) (burst b) ≡ telling (damageOf b) (quiet (stateOf host) Idle)
+    pub idle-burst : (b : List ℕ) → call out (stateOf host) (burst b) ≡ telling (damageIn (readingOf b .verdict)) (quiet (stateOf host) Idle)
     unfolding call step
     idle-burst b = rw (le-leb _ _ room, length-replicate, e)
 
@@ -55,7 +56,7 @@ module _ (out : List ℕ) (host : Host) (room : longest ≤ length out) where
 
   -- a request waits
   module _ (ne : host .sendings ≡ 0 → ⊥) where
-    pub burst-heard : (b : List ℕ) → call out (stateOf host) (burst b) ≡ telling (damageOf b) (heard (stateOf host) b)
+    pub burst-heard : (b : List ℕ) → call out (stateOf host) (burst b) ≡ telling (damageIn (readingOf b .verdict)) (heard (stateOf host) (readingOf b))
     unfolding call step
     burst-heard b = rw (le-leb _ _ room, length-replicate, lt-ltb _ _ (some _ ne))
 
@@ -68,7 +69,7 @@ module _ (out : List ℕ) (host : Host) (room : longest ≤ length out) where
     busy r = rw (le-leb _ _ room, length-replicate, lt-ltb _ _ (some _ ne))
 
 -- what is heard goes by the burst's verdict and data
-pub heard-is : (s : State) (b d : List ℕ) (v : Verdict) → v ≡ verdictOf b → d ≡ dataOf b → ending s d (saidBy (s .request) v d) ≡ heard s b
+pub heard-is : (s : State) (b d : List ℕ) (v : Verdict) → v ≡ readingOf b .verdict → d ≡ readingOf b .part → ending s d (saidBy (s .request) v d) ≡ heard s (readingOf b)
 unfolding heard saidTo
 heard-is s b d v e f = rw (f, e)
 

@@ -6,10 +6,11 @@ use Prim.Native.Nat.{ℕ}
 use lib.Dec.{ltb}
 use lib.ListN.{replicate}
 use Rattle.packet.specs.Answered.{isHeard}
+use Rattle.packet.specs.Reading.{readingOf}
 use Rattle.requests.specs.declared.Said.{Said}
 use Rattle.requests.specs.declared.Said.the-variants.{Ack, Nack, Nav, Report, Nothing}
 use Rattle.requests.specs.Request.{requestPacket, isRequest}
-use Rattle.host.specs.Heard.{saidTo, dataIn}
+use Rattle.host.specs.Heard.{saidTo}
 use Rattle.host.specs.Machine.{Happening, start, burst, mark, State, Move, idle, sendings, mostSendings, waits, begun, again, ending, heard, step}
 use Rattle.host.specs.Private.Lasting.{run, calls}
 use Rattle.host.specs.Calls.{hostOf, stateOf, stepOf}
@@ -42,7 +43,7 @@ unfolding step heard begun
 step-alike s (start r) a =
     either (waits s) (record { alike = a })
     (either (isRequest r) (either (isHeard (r .id) (r .group)) (record { alike = refl }) (record { alike = refl })) (record { alike = a }))
-step-alike s (burst b) a = record { alike = either (waits s) (told-alike s (dataIn b) (saidTo (s .request) b) a) (record { alike = a }) .alike }
+step-alike s (burst b) a = record { alike = either (waits s) (told-alike s _ (saidTo (s .request) (readingOf b)) a) (record { alike = a }) .alike }
 step-alike s mark a = either (waits s) (again-alike s a) (record { alike = a })
 
 state-back : (s : State) → Alike s → stateOf (hostOf s) ≡ s

@@ -5,21 +5,16 @@ use mathlib.Core.Bool.{cond, _&&_}
 use mathlib.Core.List.{List}
 use lib.Dec.{eqb}
 use Rattle.requests.specs.Said.{wordIn}
-use Rattle.packet.specs.Packet.{verdictOf, dataOf}
+use Rattle.packet.specs.Reading.{Reading}
 use Rattle.packet.specs.declared.Verdict.{Verdict}
-use Rattle.packet.specs.declared.Verdict.the-variants.{Empty, Damaged, Intact}
 use Rattle.requests.specs.declared.Request.{Request}
 use Rattle.requests.specs.declared.Said.{Said}
-use Rattle.requests.specs.declared.Said.the-variants.{Nothing}
 
 -- what a burst with that verdict and data says to the host that waits for r
 unfoldable pub saidBy : Request → Verdict → List ℕ → Said
-saidBy r Empty d = Nothing
-saidBy r (Damaged damage) d = Nothing
-saidBy r (Intact id group n) d = cond (eqb (group .0) 0 && eqb (id .0) (r .id .0)) (wordIn (r .model) (r .code) d) Nothing
+saidBy r Verdict.Empty d = Said.Nothing
+saidBy r (Verdict.Damaged damage) d = Said.Nothing
+saidBy r (Verdict.Intact id group n) d = cond (eqb (group .0) 0 && eqb (id .0) (r .id .0)) (wordIn (r .model) (r .code) d) Said.Nothing
 
-abbrev pub dataIn : List ℕ → List ℕ
-dataIn burst = dataOf burst
-
-unfoldable pub saidTo : Request → List ℕ → Said
-saidTo r burst = saidBy r (verdictOf burst) (dataIn burst)
+unfoldable pub saidTo : Request → Reading → Said
+saidTo r reading = saidBy r (reading .verdict) (reading .part)

@@ -8,7 +8,8 @@ use Rattle.tiling.specs.declared.Kind.the-variants.{FiveByFive}
 use Rattle.settings.specs.declared.Profile.the-variants.{General}
 use Rattle.settings.specs.Settings.{mostValues}
 use Rattle.packet.specs.Answered.{isHeard}
-use Rattle.packet.specs.Packet.{monitorId, groupId, damageOf}
+use Rattle.packet.specs.Packet.{monitorId, groupId, damageIn}
+use Rattle.packet.specs.Reading.{Reading, readingOf}
 use Rattle.packet.specs.declared.Damage.{Damage}
 use Rattle.packet.specs.declared.Damage.the-variants.{Nothing}
 use Rattle.requests.specs.declared.Request.{Request}
@@ -17,7 +18,7 @@ use Rattle.host.specs.declared.End.{End}
 use Rattle.host.specs.declared.Outcome.{Outcome}
 use Rattle.requests.specs.declared.Said.{Said}
 use Rattle.requests.specs.Request.{isRequest, isPowerOff, requestPacket}
-use Rattle.host.specs.Heard.{saidTo, dataIn}
+use Rattle.host.specs.Heard.{saidTo}
 
 -- A request is started, a burst is heard, or the mark says that 500 ms have passed.
 pub data Happening : Type 0 where
@@ -96,8 +97,8 @@ ending s d Said.Nav = over s [] (navEnds s) []
 ending s d Said.Report = over s [] End.Report (drop 1 d)
 ending s d Said.Nothing = quiet s Outcome.Waiting
 
-unfoldable pub heard : State → List ℕ → Move
-heard s b = ending s (dataIn b) (saidTo (s .request) b)
+unfoldable pub heard : State → Reading → Move
+heard s reading = ending s (reading .part) (saidTo (s .request) reading)
 
 -- a burst's move tells what is wrong with the burst, whatever comes of it; 02, A3
 abbrev pub telling : Damage → Move → Move
@@ -106,5 +107,5 @@ telling d m = record { next = m .next; sent = m .sent; outcome = m .outcome; val
 -- one happening
 unfoldable pub step : State → Happening → Move
 step s (start r) = cond (waits s) (quiet s (Outcome.Refused Refusal.Busy)) (cond (isRequest r) (begun r) (quiet s (Outcome.Refused Refusal.NotARequest)))
-step s (burst b) = telling (damageOf b) (cond (waits s) (heard s b) (quiet s Outcome.Idle))
+step s (burst b) = let reading = readingOf b in telling (damageIn (reading .verdict)) (cond (waits s) (heard s reading) (quiet s Outcome.Idle))
 step s mark = cond (waits s) (again s) (quiet s Outcome.Idle)

@@ -3,6 +3,7 @@
 use Prim.Native.Nat.{ℕ, _+_}
 use mathlib.Core.Bool.{Bool, _&&_}
 use mathlib.Core.List.{List, [], _∷_, _++_}
+use Rattle.packet.specs.Reading.{readingOf}
 use Rattle.host.specs.declared.Host.{Host}
 use Rattle.host.specs.declared.Step.{Step}
 use Rattle.requests.specs.declared.Request.{Request}
@@ -38,7 +39,7 @@ isNack Nothing = 0
 -- how many NACKs and marks a request meets
 unfoldable pub pushes : Request → Happening → ℕ
 pushes r (start other) = 0
-pushes r (burst b) = isNack (saidTo r b)
+pushes r (burst b) = isNack (saidTo r (readingOf b))
 pushes r mark = 1
 
 unfoldable pub pushed : Request → List Happening → ℕ

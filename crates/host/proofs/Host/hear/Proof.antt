@@ -2,8 +2,8 @@
 use mathlib.Core.Path.{_≡_, refl, ap, _∙_}
 use borrow.Author.Needs.{needs}
 use Rattle.packet.specs.declared.Damage.{Damage}
-use Rattle.packet.specs.Packet.{damageOf, damageIn}
-use Rattle.packet.proofs.Damages.{damage-said}
+use Rattle.packet.specs.Packet.{damageIn}
+use Rattle.packet.specs.Reading.{readingOf}
 use Rattle.host.specs.declared.Step.{Step}
 use Rattle.host.specs.declared.Outcome.the-variants.{Idle}
 use Rattle.host.specs.Machine.{quiet, heard}
@@ -16,10 +16,8 @@ use Rattle.host.proofs.Host.hear.Tie as tie
 
 -- the damage that is told is the burst's
 told : (c : tie.After-damage-in) (r : Step)
-    → tellingStep (c .damage-in .result) r ≡ tellingStep (damageOf (c .before .before .before .before .before .args .b .now)) r
-told c r =
-    let b = c .before .before .before .before .before .args .b .now in
-    ap (λ (d : Damage). tellingStep d r) (c .damage-in .ensures ∙ ap damageIn (c .before .verdict-on .ensures) ∙ damage-said b)
+    → tellingStep (c .damage-in .result) r ≡ tellingStep (damageIn (readingOf (c .before .before .before .before .before .args .b .now) .verdict)) r
+told c r = ap (λ (d : Damage). tellingStep d r) (c .damage-in .ensures ∙ ap damageIn (c .before .verdict-on .ensures))
 
 plain-requires : tie.Need-plain-requires
 plain-requires c κs = search needs
@@ -70,7 +68,7 @@ returns-3 c =
     let a = has .before .before .before .args in
     let said = heard-is (stateOf (a .self)) (a .b .now) _ _ (damage .before .verdict-on .ensures) (part .data-part .ensures) in
     rw (burst-heard (a .out .now) (a .self) (has .if1 .left) (waits .if2 .left) (a .b .now))
-    (tells (heard (stateOf (a .self)) (a .b .now)) _ _ (rw said at (heeded .heeded .ensures)) (c .telling2 .ensures ∙ told damage (heeded .heeded .result)))
+    (tells (heard (stateOf (a .self)) (readingOf (a .b .now))) _ _ (rw said at (heeded .heeded .ensures)) (c .telling2 .ensures ∙ told damage (heeded .heeded .result)))
 
 pub hear-spec : {M : Type 1} → statement M
 hear-spec =
