@@ -80,17 +80,19 @@ impl Receiver {
         answers::play(t, &bytes[..n])
     }
 
-    pub fn quiet(self, t: Table) -> Heard
+    // A quiet mark: the burst is answered, and nothing was heard since.
+    pub fn quiet(mut self, t: Table) -> Heard
         requires { ⌜ WellFormed t ⌝ }
         ensures { λ r. ⌜ r ≡ atMark self t ⌝ }
     {
         let played = self.answered(t);
-        let receiver = Receiver::fresh();
+        self.bytes = [0u8; LONGEST];
+        self.count = 0;
         let table = played.table;
         let reply = played.reply;
         let damage = played.damage;
         Heard {
-            receiver,
+            receiver: self,
             table,
             reply,
             damage,
