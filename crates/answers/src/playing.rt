@@ -74,7 +74,7 @@ fn store_in(
     requires { ⌜ (row < rowCount) × (0 < length (now d)) × (allowed ≡ allowedBy row (drop 1 (now d))) ⌝ }
     ensures { λ r. ⌜ r ≡ turned id group (setOf row (drop 1 (now (d .entry)))) p ⌝ }
 {
-    if panels::addresses(id, group, p) && judging::takes(p, row, allowed, d) {
+    if panels::reaches(id, group, p) && judging::takes(p, row, allowed, d) {
         return judging::with_values(p, row, d);
     }
     p
@@ -162,7 +162,7 @@ fn play_by(t: Table, verdict: Verdict, d: &[u8], seems: Addressee) -> Turned
             group,
             count: _,
         } => {
-            if packet::is_answered(id, group) {
+            if packet::is_heard(id, group) {
                 return play_heard(t, id, d);
             }
             play_unheard(t, id, group, d)

@@ -39,7 +39,7 @@ pub(crate) fn begin(request: Request, out: &mut [u8]) -> Step
         request,
         sendings: 1,
     };
-    if packet::is_answered(request.id, request.group) {
+    if packet::is_heard(request.id, request.group) {
         crate::plain(host, length, Outcome::Waiting)
     } else {
         crate::over(host, length, End::Unheard, &[])

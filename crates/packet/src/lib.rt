@@ -62,7 +62,7 @@ pub enum Control {
 }
 
 // Whether a packet with this ID and group is answered.
-pub fn is_answered(id: MonitorId, group: GroupId) -> bool
+pub fn is_heard(id: MonitorId, group: GroupId) -> bool
     ensures { λ r. ⌜ r ≡ isHeard id group ⌝ }
 {
     group.0 == 0 && id.0 != 0

@@ -140,7 +140,7 @@ pub fn find_panel(t: Table, id: MonitorId) -> Place
 }
 
 // Whether a packet with this ID and group addresses a panel.
-pub fn addresses(id: MonitorId, group: GroupId, p: Panel) -> bool
+pub fn reaches(id: MonitorId, group: GroupId, p: Panel) -> bool
     ensures { λ r. ⌜ r ≡ reaches id group p ⌝ }
 {
     if group.0 == 0 {

@@ -75,7 +75,7 @@ pub fn is_request(request: Request) -> bool
             if count != 0 {
                 return false;
             }
-            packet::is_answered(request.id, group)
+            packet::is_heard(request.id, group)
         }
         Found::Nothing => false,
     }

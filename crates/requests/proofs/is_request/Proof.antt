@@ -49,8 +49,8 @@ returns-3 : tie.Need-returns-3
 unfolding isTaken
 returns-3 c = sym (past (c .before .before .before) _ (c .before .enum-told .given .1) ∙ simp (ne-eqb _ _ (c .if3 .taken)))
 
-is-answered-requires : tie.Need-is-answered-requires
-is-answered-requires c κs = search needs
+is-heard-requires : tie.Need-is-heard-requires
+is-heard-requires c κs = search needs
 
 enum-told-2 : tie.Need-enum-told-2
 enum-told-2 c = search needs
@@ -65,7 +65,7 @@ returns-5 : tie.Need-returns-5
 unfolding isTaken
 returns-5 c =
     let found = c .before .before in
-    sym (past (found .before .before) _ (found .enum-told .given .1) ∙ simp (eq-eqb _ _ (c .before .if3 .left), sym (c .is-answered .ensures)))
+    sym (past (found .before .before) _ (found .enum-told .given .1) ∙ simp (eq-eqb _ _ (c .before .if3 .left), sym (c .is-heard .ensures)))
 
 returns-6 : tie.Need-returns-6
 unfolding isTaken
@@ -82,7 +82,7 @@ is-request-spec =
     may-set-requires
     enum-told
     returns-3
-    is-answered-requires
+    is-heard-requires
     enum-told-2
     returns-4
     returns-5

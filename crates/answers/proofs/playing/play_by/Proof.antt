@@ -33,8 +33,8 @@ nack-from-requires c κs = search needs
 enum-known-verdict : tie.Need-enum-known-verdict
 enum-known-verdict c = search needs
 
-is-answered-requires : tie.Need-is-answered-requires
-is-answered-requires c κs = search needs
+is-heard-requires : tie.Need-is-heard-requires
+is-heard-requires c κs = search needs
 
 by-verdict : (w : Wall) (d : List ℕ) (a : Addressee) (v u : Verdict) → v ≡ u → inTable (answeredBy u w d a) ≡ inTable (answeredBy v w d a)
 by-verdict w d a v u e = ap (λ (x : Verdict). inTable (answeredBy x w d a)) (sym e)
@@ -42,20 +42,20 @@ by-verdict w d a v u e = ap (λ (x : Verdict). inTable (answeredBy x w d a)) (sy
 abbrev both : Table → Reply → Turned
 both t r = record { table = t; reply = r }
 
-abbrev start : tie.After-is-answered → tie.Start
+abbrev start : tie.After-is-heard → tie.Start
 start c = c .before .before .before .before .before
 
 play-heard-requires : tie.Need-play-heard-requires
 play-heard-requires c κs =
     let call = c .before in
-    (start call .pre, heard-means _ _ (sym (call .is-answered .ensures) ∙ c .if1 .taken) .1)
+    (start call .pre, heard-means _ _ (sym (call .is-heard .ensures) ∙ c .if1 .taken) .1)
 
 returns : tie.Need-returns
 returns c =
     let call = c .before .before in
     let a = start call .args in
     let v = call .before .before .verdict .given in
-    let heard = heard-means _ _ (sym (call .is-answered .ensures) ∙ c .before .if1 .taken) in
+    let heard = heard-means _ _ (sym (call .is-heard .ensures) ∙ c .before .if1 .taken) in
     let group : groupId 0 ≡ v .0 .1 .0 = λ t. record { 0 = sym (heard .0) t } in
     c .play-heard .ensures ∙ ap (λ (g : GroupId). inTable (playedPacket (panelsOf (a .t)) (v .0 .0) g (command (a .d .now)))) group
     ∙ by-verdict _ _ (a .seems) _ _ (v .1)
@@ -63,7 +63,7 @@ returns c =
 play-unheard-requires : tie.Need-play-unheard-requires
 play-unheard-requires c κs =
     let call = c .before in
-    (start call .pre, sym (call .is-answered .ensures) ∙ c .if1 .left)
+    (start call .pre, sym (call .is-heard .ensures) ∙ c .if1 .left)
 
 returns-2 : tie.Need-returns-2
 returns-2 c =
@@ -91,7 +91,7 @@ play-by-spec =
     enum-told-2
     nack-from-requires
     enum-known-verdict
-    is-answered-requires
+    is-heard-requires
     play-heard-requires
     returns
     play-unheard-requires

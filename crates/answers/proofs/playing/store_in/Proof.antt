@@ -25,8 +25,8 @@ module _ (i : MonitorId) (g : GroupId) (row : ℕ) (vs : List ℕ) (p : Panel) (
   unfolding turned
   kept t = rw (r, judge-not (setOf row vs) row vs p refl t)
 
-addresses-requires : tie.Need-addresses-requires
-addresses-requires c κs = search needs
+reaches-requires : tie.Need-reaches-requires
+reaches-requires c κs = search needs
 
 takes-requires : tie.Need-takes-requires
 takes-requires c κs = search needs
@@ -39,17 +39,17 @@ with-values-requires c κs =
 returns : tie.Need-returns
 returns c =
     let judged = c .before .before in
-    let r = sym (judged .before .before .addresses .ensures) ∙ judged .before .if1 .taken in
+    let r = sym (judged .before .before .reaches .ensures) ∙ judged .before .if1 .taken in
     c .with-values .ensures ∙ sym (took _ _ _ _ _ r (sym (judged .takes .ensures) ∙ c .before .if2 .taken))
 
 returns-2 : tie.Need-returns-2
 returns-2 c =
     let call = c .before in
-    let reached = sym (call .addresses .ensures) in
+    let reached = sym (call .reaches .ensures) in
     ⊎-elim
     (λ w. sym (kept _ _ _ _ _ (reached ∙ w .0 .taken) (sym (w .1 .ensures) ∙ w .2 .left)))
     (λ w. sym (stays _ _ _ _ (reached ∙ w .left)))
     (c .if1 .came)
 
 pub store-in-spec : {M : Type 1} → statement M
-store-in-spec = tie.close (tie.spec addresses-requires takes-requires with-values-requires returns returns-2)
+store-in-spec = tie.close (tie.spec reaches-requires takes-requires with-values-requires returns returns-2)

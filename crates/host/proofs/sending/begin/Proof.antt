@@ -11,8 +11,8 @@ use Rattle.host.proofs.sending.begin.Tie as tie
 send-requires : tie.Need-send-requires
 send-requires c κs = search needs
 
-is-answered-requires : tie.Need-is-answered-requires
-is-answered-requires c κs = search needs
+is-heard-requires : tie.Need-is-heard-requires
+is-heard-requires c κs = search needs
 
 plain-requires : tie.Need-plain-requires
 plain-requires c κs = search needs
@@ -32,7 +32,7 @@ returns c =
     let sent = c .before .before .before .before .before in
     let r = sent .before .before .before .args .request in
     gives (record { request = r; given = requestPacket r ∷ [] }) _ _ _ _ _ _ refl (sent .send .ensures .0) (sent .send .ensures .1)
-    (simp (sym (c .before .before .is-answered .ensures) ∙ c .before .if1 .taken)) (c .plain .ensures)
+    (simp (sym (c .before .before .is-heard .ensures) ∙ c .before .if1 .taken)) (c .plain .ensures)
 
 same-length-2 : tie.Need-same-length-2
 same-length-2 c = search needs
@@ -43,14 +43,14 @@ returns-2 c =
     let other = c .before .before in
     let sent = other .before .before .before .before in
     gives-last (record { request = sent .before .before .before .args .request; sendings = 1 }) (c .over .ensures) _ _ _ (sent .send .ensures .0) (sent .send .ensures .1)
-    (simp (sym (other .before .is-answered .ensures) ∙ other .if1 .left))
+    (simp (sym (other .before .is-heard .ensures) ∙ other .if1 .left))
 
 pub begin-spec : {M : Type 1} → statement M
 begin-spec =
     tie.close
     (tie.spec
     send-requires
-    is-answered-requires
+    is-heard-requires
     plain-requires
     slice-aggregate-over
     over-requires

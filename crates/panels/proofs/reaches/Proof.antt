@@ -1,8 +1,8 @@
 -- Each test decides a case of `reaches`. Assumes nothing.
 use borrow.Author.Tests.{eq-eqb, ne-eqb}
 use Rattle.panels.specs.Addressed.{reaches}
-use Rattle.panels.proofs.addresses.Statement.{statement}
-use Rattle.panels.proofs.addresses.Tie as tie
+use Rattle.panels.proofs.reaches.Statement.{statement}
+use Rattle.panels.proofs.reaches.Tie as tie
 
 returns : tie.Need-returns
 unfolding reaches
@@ -20,5 +20,5 @@ returns-4 : tie.Need-returns-4
 unfolding reaches
 returns-4 c = simp (ne-eqb _ _ (c .before .before .if1 .left), eq-eqb _ _ (c .if3 .left))
 
-pub addresses-spec : {M : Type 1} → statement M
-addresses-spec = tie.close (tie.spec returns returns-2 returns-3 returns-4)
+pub reaches-spec : {M : Type 1} → statement M
+reaches-spec = tie.close (tie.spec returns returns-2 returns-3 returns-4)
