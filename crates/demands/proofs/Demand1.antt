@@ -22,7 +22,7 @@ use Rattle.table_calls.specs.declared.Refusal.{Refusal}
 use Rattle.table_calls.specs.declared.Refusal.the-variants.{Nothing, Full, IdZero, IdTaken, GroupZero, UnknownProfile, NoPanel, UnknownKind}
 use Rattle.panels.specs.Wall.{Wall, blank, placeOf, panelsOf, ifThere}
 use Rattle.panels.specs.Addressed.{reaches}
-use Rattle.table_calls.specs.Calls.{refusalOf as tableNumber, addRefusal, added, without, removed}
+use Rattle.table_calls.specs.Calls.{refusalNumber as tableNumber, addRefusal, added, without, removed}
 use Rattle.answers.specs.declared.Sent.the-variants.{Bytes, NoRoom}
 use Rattle.answers.specs.Reply.{sentBytes, sentOf, bytesSent, outputOf as answerOutput}
 use Rattle.answers.specs.Judged.{command}

@@ -19,7 +19,7 @@ use Rattle.panels.specs.declared.Place.{Place}
 use Rattle.panels.specs.declared.Place.the-variants.{At, Nowhere}
 use Rattle.table_calls.specs.declared.Refusal.the-variants.{Nothing, Full, IdZero, IdTaken, GroupZero, UnknownProfile, NoPanel, UnknownKind}
 use Rattle.panels.specs.Wall.{Wall, placeOf, ifThere}
-use Rattle.table_calls.specs.Calls.{refusalOf as tableNumber, addRefusal}
+use Rattle.table_calls.specs.Calls.{refusalNumber as tableNumber, addRefusal}
 use Rattle.answers.specs.declared.Sent.the-variants.{Bytes as AnswerBytes, NoRoom as NoAnswer}
 use Rattle.answers.specs.Reply.{sentBytes, sentOf, refusalNumber as answerNumber}
 use Rattle.image_write.specs.declared.Written.the-variants.{Bytes as ImageBytes, WouldLose, NoRoom as NoImage}

@@ -18,7 +18,7 @@ use Rattle.refusals.specs.declared.Refusal.{Refusal}
 use Rattle.refusals.specs.declared.Refusal.the-variants.{Nothing as Sound, Record}
 use Rattle.refusals.specs.Refusals.{isSound, refusalNumber}
 use Rattle.image_whole.specs.Whole.{formOf, wholeRefusal, recordsIn}
-use Rattle.image_whole.proofs.Edges.{sound-nothing}
+use Rattle.refusals.proofs.Sound.{sound-nothing}
 use Rattle.image_record.specs.declared.Step.{Step}
 use Rattle.image_record.specs.declared.Step.the-variants.{Field, NotAllowed, Broken, End}
 use Rattle.image_record.specs.Head.{idIn, headIn, headed}

@@ -14,7 +14,7 @@ use Rattle.packet.specs.declared.GroupId.{GroupId}
 use Rattle.packet.specs.Packet.{writtenOf as packetWritten, refusalNumber as packetNumber}
 use Rattle.panels.specs.declared.Panel.{Panel}
 use Rattle.panels.specs.Wall.{Wall, placeOf, ifThere}
-use Rattle.table_calls.specs.Calls.{refusalOf as tableNumber, addRefusal, removedFrom}
+use Rattle.table_calls.specs.Calls.{refusalNumber as tableNumber, addRefusal, removedFrom}
 use Rattle.answers.specs.declared.Reply.{Reply}
 use Rattle.answers.specs.Reply.{sentOf, refusalNumber as answerNumber}
 use Rattle.forms.specs.declared.Form.the-variants.{One, Two}

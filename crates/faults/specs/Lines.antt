@@ -6,6 +6,8 @@ use mathlib.Core.List.{List, [], _∷_, _++_}
 use lib.Dec.{ltb}
 use lib.ListN.{length, replicate}
 use Rattle.digits.specs.Digits.{digitOf}
+use Rattle.refusals.specs.declared.Refusal.{Refusal}
+use Rattle.refusals.specs.Refusals.{refusalNumber}
 use Rattle.faults.specs.declared.Fault.{Fault}
 use Rattle.faults.specs.declared.Fault.the-variants.{Dropped, Broken, NotAllowed}
 use Rattle.faults.specs.declared.Line.{Line}
@@ -23,11 +25,11 @@ decimal n = cond (ltb n 10) ((48 + n) ∷ []) ((48 + n / 10) ∷ (48 + n % 10) �
 abbrev pub hex : ℕ → List ℕ
 hex code = digitOf (code / 16) ∷ digitOf (code % 16) ∷ []
 
--- the refusal's number
+-- the number of the reader's refusal
 abbrev pub faultNumber : Fault → ℕ
-faultNumber Dropped = 16
-faultNumber (Broken code) = 17
-faultNumber (NotAllowed code) = 18
+faultNumber Dropped = refusalNumber Refusal.Record
+faultNumber (Broken code) = refusalNumber Refusal.Field
+faultNumber (NotAllowed code) = refusalNumber Refusal.Value
 
 -- and the code, where one is told
 abbrev pub codeWords : Fault → List ℕ

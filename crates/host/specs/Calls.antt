@@ -18,10 +18,10 @@ use Rattle.requests.specs.Request.{requestPacket}
 use Rattle.host.specs.Machine.{Happening, State, Move, quiet, step}
 
 -- 01's numbers
-abbrev pub refusalOf : Refusal → ℕ
-refusalOf NoRoom = noRoom
-refusalOf Busy = 21
-refusalOf NotARequest = 22
+abbrev pub refusalNumber : Refusal → ℕ
+refusalNumber NoRoom = noRoom
+refusalNumber Busy = 21
+refusalNumber NotARequest = 22
 
 -- a state by value has the number of the packets; they are all the request's own
 abbrev pub hostOf : State → Host

@@ -8,7 +8,7 @@ ghost use Prim.Native.Nat.{ℕ, _≤_};
 ghost use lib.ListN.{length};
 ghost use Rattle.settings.specs.Settings.{mostValues};
 ghost use Rattle.host.specs.Machine.{start, burst, mark, idle, over};
-ghost use Rattle.host.specs.Calls.{refusalOf, hostOf, stateOf, stepOf, call, Answers};
+ghost use Rattle.host.specs.Calls.{refusalNumber, hostOf, stateOf, stepOf, call, Answers};
 ghost use Rattle.host.specs.Private.Steps.{plainStep, tellingStep};
 use models::Model;
 use packet::Damage;
@@ -68,7 +68,7 @@ pub struct Step {
 
 // The paper's number for a refusal.
 pub fn refusal_number(refusal: Refusal) -> u8
-    ensures { λ r. ⌜ r ≡ refusalOf refusal ⌝ }
+    ensures { λ r. ⌜ r ≡ refusalNumber refusal ⌝ }
 {
     match refusal {
         Refusal::NoRoom => NO_ROOM,

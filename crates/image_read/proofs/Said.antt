@@ -23,7 +23,7 @@ use Rattle.image_read.specs.declared.Fields.{Fields}
 use Rattle.image_read.specs.Fields.{fieldsIn}
 use Rattle.refusals.specs.Refusals.{isSound}
 use Rattle.image_read.specs.Read.{recordRefusal, panelIn}
-use Rattle.image_whole.proofs.Edges.{sound-nothing}
+use Rattle.refusals.proofs.Sound.{sound-nothing}
 
 unfoldable pub saidRefusal : Wall → ℕ → ℕ → Fields → Refusal
 saidRefusal w id group f =

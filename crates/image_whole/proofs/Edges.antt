@@ -17,21 +17,9 @@ use Rattle.lists.proofs.Both.{both}
 use Rattle.lists.proofs.Each.{in-each, length-each}
 use Rattle.forms.specs.declared.Numbered.{Numbered}
 use Rattle.forms.specs.Forms.{formWith, ifKnown}
-use Rattle.refusals.specs.declared.Refusal.{Refusal}
-use Rattle.refusals.specs.declared.Refusal.the-variants.{Nothing, TooShort, OtherForm, TooMany, NoStarts, Starts, Record, Field, Value}
+use Rattle.refusals.specs.declared.Refusal.the-variants.{Nothing, TooShort, OtherForm, TooMany, NoStarts, Starts}
 use Rattle.image_whole.specs.Whole.{lastByte, countOf, startsAt, edge, rises, startsFit, wholeRefusal, recordIn, recordsIn}
 use Rattle.refusals.specs.Refusals.{isSound}
-
-pub sound-nothing : (r : Refusal) → isSound r ≡ true → r ≡ Nothing
-sound-nothing Nothing e = refl
-sound-nothing TooShort e = absurd (false≢true e)
-sound-nothing OtherForm e = absurd (false≢true e)
-sound-nothing TooMany e = absurd (false≢true e)
-sound-nothing NoStarts e = absurd (false≢true e)
-sound-nothing Starts e = absurd (false≢true e)
-sound-nothing Record e = absurd (false≢true e)
-sound-nothing Field e = absurd (false≢true e)
-sound-nothing Value e = absurd (false≢true e)
 
 pub record Fits (image : List ℕ) : Type 0 where
   pub two : 2 ≤ length image

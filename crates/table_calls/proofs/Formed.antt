@@ -20,7 +20,7 @@ use Rattle.panels.specs.declared.Place.the-variants.{At, Nowhere}
 use Rattle.table_calls.specs.declared.Refusal.{Refusal}
 use Rattle.table_calls.specs.declared.Refusal.the-variants.{Nothing, Full, IdZero, IdTaken, GroupZero, UnknownProfile, NoPanel, UnknownKind}
 use Rattle.panels.specs.Wall.{Wall, tableOf, panelsOf, placeOf, mostPanels, ifThere}
-use Rattle.table_calls.specs.Calls.{refusalOf, freshOf, addRefusal, added, without, removed}
+use Rattle.table_calls.specs.Calls.{refusalNumber, freshOf, addRefusal, added, without, removed}
 use Rattle.panels.specs.WellFormed.{Absent, GoodWall, WellFormed}
 use Rattle.panels.proofs.Formed.{formed, nowhere-absent, good-snoc, fresh-good}
 
@@ -65,7 +65,7 @@ good-more w i g (Known profile) KindNumbered.Unknown few good m = rw append-nil 
 good-more w i g Unknown kinded few good m = rw append-nil (formed w few good)
 
 good-added : (w : Wall) (i : MonitorId) (g : GroupId) (n k : ℕ) (r : Refusal) → length w ≤ mostPanels → GoodWall w → addRefusal w i g n k ≡ r
-    → WellFormed (tableOf (cond (eqb (refusalOf r) 0) (w ++ freshOf (profileWith n) (kindWith k) i g) w))
+    → WellFormed (tableOf (cond (eqb (refusalNumber r) 0) (w ++ freshOf (profileWith n) (kindWith k) i g) w))
 good-added w i g n k Nothing few good e = good-more w i g (profileWith n) (kindWith k) few good (may-add w i g n k e)
 good-added w i g n k Full few good e = formed w few good
 good-added w i g n k IdZero few good e = formed w few good

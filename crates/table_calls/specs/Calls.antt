@@ -19,15 +19,15 @@ use Rattle.table_calls.specs.declared.Changed.{Changed}
 use Rattle.panels.specs.Wall.{ifThere, Wall, freshPanel, tableOf, placeOf, mostPanels}
 
 -- 01's number, 0 where nothing was refused
-abbrev pub refusalOf : Refusal → ℕ
-refusalOf Nothing = 0
-refusalOf Full = 1
-refusalOf IdZero = 2
-refusalOf IdTaken = 3
-refusalOf GroupZero = 4
-refusalOf UnknownProfile = 5
-refusalOf NoPanel = 6
-refusalOf UnknownKind = 7
+abbrev pub refusalNumber : Refusal → ℕ
+refusalNumber Nothing = 0
+refusalNumber Full = 1
+refusalNumber IdZero = 2
+refusalNumber IdTaken = 3
+refusalNumber GroupZero = 4
+refusalNumber UnknownProfile = 5
+refusalNumber NoPanel = 6
+refusalNumber UnknownKind = 7
 
 unfoldable pub addRefusal : Wall → MonitorId → GroupId → ℕ → ℕ → Refusal
 addRefusal w i g n k =
@@ -42,7 +42,7 @@ freshOf numbered kinded i g = ifKnown numbered (λ profile. ifKind kinded (λ ki
 
 -- that panel at the end, unless it is refused
 unfoldable pub added : Wall → MonitorId → GroupId → ℕ → ℕ → Wall
-added w i g n k = cond (eqb (refusalOf (addRefusal w i g n k)) 0) (w ++ freshOf (profileWith n) (kindWith k) i g) w
+added w i g n k = cond (eqb (refusalNumber (addRefusal w i g n k)) 0) (w ++ freshOf (profileWith n) (kindWith k) i g) w
 
 abbrev pub addedTo : Wall → MonitorId → GroupId → ℕ → ℕ → Changed
 addedTo w i g n k = record { refusal = addRefusal w i g n k; table = tableOf (added w i g n k) }

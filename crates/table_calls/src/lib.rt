@@ -4,7 +4,7 @@ ghost use Prim.Native.Nat.{_<_};
 ghost use lib.ListN.{length};
 ghost use Rattle.panels.specs.Wall.{freshPanel, tableOf, panelsOf};
 ghost use Rattle.panels.specs.WellFormed.{WellFormed};
-ghost use Rattle.table_calls.specs.Calls.{refusalOf, addedTo, without, removedFrom};
+ghost use Rattle.table_calls.specs.Calls.{refusalNumber, addedTo, without, removedFrom};
 use packet::GroupId;
 use packet::MonitorId;
 use panels::MOST_PANELS;
@@ -93,7 +93,7 @@ pub fn add(t: Table, id: MonitorId, group: GroupId, number: u8, kind: u8) -> Cha
 
 // 01's number for a refusal, 0 where there was none.
 pub fn refusal_number(r: Refusal) -> u8
-    ensures { λ n. ⌜ n ≡ refusalOf r ⌝ }
+    ensures { λ n. ⌜ n ≡ refusalNumber r ⌝ }
 {
     match r {
         Refusal::Nothing => 0,

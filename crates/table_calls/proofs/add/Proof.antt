@@ -21,13 +21,13 @@ use Rattle.table_calls.specs.declared.Changed.{Changed}
 use Rattle.table_calls.specs.declared.Refusal.{Refusal}
 use Rattle.table_calls.specs.declared.Refusal.the-variants.{Nothing, UnknownKind}
 use Rattle.panels.specs.Wall.{Wall, inPlaces, panelsOf, tableOf, mostPanels}
-use Rattle.table_calls.specs.Calls.{refusalOf, freshOf, addRefusal, added, addedTo}
+use Rattle.table_calls.specs.Calls.{refusalNumber, freshOf, addRefusal, added, addedTo}
 use Rattle.panels.proofs.Laws.{grown-places, held-first, may-hold}
 use Rattle.table_calls.proofs.add.Statement.{statement}
 use Rattle.table_calls.proofs.add.Tie as tie
 
 answered : (t : Table) {u : Table} (i : MonitorId) (g : GroupId) (n k : ℕ) (r : Refusal) → addRefusal (panelsOf t) i g n k ≡ r
-    → u ≡ tableOf (cond (eqb (refusalOf r) 0) (panelsOf t ++ freshOf (profileWith n) (kindWith k) i g) (panelsOf t))
+    → u ≡ tableOf (cond (eqb (refusalNumber r) 0) (panelsOf t ++ freshOf (profileWith n) (kindWith k) i g) (panelsOf t))
     → _≡_ {A = Changed} (record { refusal = r; table = u }) (addedTo (panelsOf t) i g n k)
 unfolding added
 answered t i g n k r e after = rw (e, after)

@@ -12,7 +12,8 @@ use Rattle.panels.specs.declared.Table.{Table}
 use Rattle.panels.specs.Wall.{tableOf, mostPanels}
 use Rattle.refusals.specs.declared.Refusal.the-variants.{Nothing}
 use Rattle.image_whole.specs.Whole.{formOf, countOf, edge, wholeRefusal, recordIn}
-use Rattle.image_whole.proofs.Edges.{Fits, fits, edge-less, edge-inside, sound-nothing}
+use Rattle.image_whole.proofs.Edges.{Fits, fits, edge-less, edge-inside}
+use Rattle.refusals.proofs.Sound.{sound-nothing}
 use Rattle.image_salvage.specs.declared.KeptRecord.{KeptRecord}
 use Rattle.image_salvage.specs.declared.Salvaged.{Salvaged}
 use Rattle.image_salvage.specs.Salvaged.{linesOf, salvageOf, linesCap}

@@ -1,0 +1,2 @@
+-- `Sound` has that a refusal without a number refuses nothing.
+pub mod Sound
