@@ -23,8 +23,8 @@ use Rattle.forms.specs.Forms.{headSize}
 use Rattle.faults.specs.declared.Fault.{Fault}
 use Rattle.faults.specs.declared.Fault.the-variants.{Dropped}
 use Rattle.faults.specs.Lines.{longestLine}
-use Rattle.image_whole.specs.Whole.{formOf, countOf, edge, recordIn, recordsIn}
-use Rattle.image_whole.proofs.Edges.{Fits, first-edge, record-next, record-count}
+use Rattle.image_whole.specs.Whole.{formOf, countOf, recordIn, recordsIn}
+use Rattle.image_whole.proofs.Edges.{Fits, record-next, record-count}
 use Rattle.image_record.specs.Head.{marked, headIn, headed}
 use Rattle.image_record.proofs.Heads.{Marks, none-marked, one-more as one-marked, head-alike}
 use Rattle.image_salvage.specs.declared.KeptRecord.{KeptRecord}
@@ -73,9 +73,8 @@ module _ (image first : List ℕ) where
   left w k = salvagedFrom form w (drop k (recordsIn image))
 
   -- what is left comes to what the whole comes to, and its lines are still to be laid
-  pub record Round (lines : List ℕ) (places : Wall) (count : ℕ) (seen : List Bool) (start next k : ℕ) : Type 0 where
+  pub record Round (lines : List ℕ) (places : Wall) (count : ℕ) (seen : List Bool) (next k : ℕ) : Type 0 where
     pub few : k ≤ countOf image
-    pub place : start ≡ edge image k
     pub room : next ≤ mostFaults * longestLine * k
     pub held : places ≡ inPlaces (take count places)
     pub panels : count ≤ k
@@ -90,11 +89,10 @@ module _ (image first : List ℕ) where
     pub told : next ≡ length (textOf whole)
     pub laid : lines ≡ laidOver (textOf whole) first
 
-  pub begins : Fits image → {p : Panel} → p ≡ blank → Round first (replicate mostPanels p) 0 (replicate 256 false) 0 0 0
-  begins f e =
+  pub begins : {p : Panel} → p ≡ blank → Round first (replicate mostPanels p) 0 (replicate 256 false) 0 0
+  begins e =
       record {
         few = omega arith;
-        place = sym (first-edge f);
         room = omega arith;
         held = ap (replicate mostPanels) e ∙ none-held;
         panels = omega arith;
@@ -104,7 +102,7 @@ module _ (image first : List ℕ) where
         kept = refl;
       }
 
-  module _ {lines : List ℕ} {places : Wall} {count : ℕ} {seen : List Bool} {start next k : ℕ} (r : Round lines places count seen start next k) where
+  module _ {lines : List ℕ} {places : Wall} {count : ℕ} {seen : List Bool} {next k : ℕ} (r : Round lines places count seen next k) where
     -- the panels so far
     abbrev wall : Wall
     wall = take count places
@@ -156,16 +154,15 @@ module _ (image first : List ℕ) where
       here = ap (salvagedFrom form wall) (record-next image k more)
 
       -- one record more, where what the code has is what it should have: dropped
-      pub dropped-on : {after : List ℕ} {place : ℕ} {end : ℕ} → read .kept ≡ false → after ≡ laidAt next piece lines → place ≡ read .next → end ≡ edge image (k + 1)
-          → Round after places count seen end place (k + 1)
+      pub dropped-on : {after : List ℕ} {place : ℕ} → read .kept ≡ false → after ≡ laidAt next piece lines → place ≡ read .next
+          → Round after places count seen place (k + 1)
       unfolding faultsBy
-      dropped-on e laid placed end =
+      dropped-on e laid placed =
           let unknown = dropped-by form (k + 1) next seen bytes e in
           let is = here ∙ record-dropped form wall bytes _ (sym (head-alike (r .marks) form bytes) ∙ unknown) in
           let faults : faultsBy form seen bytes ≡ Dropped ∷ [] = rw unknown in
           record {
             few = more-suc;
-            place = end;
             room = place-on placed;
             held = r .held;
             panels = omega (arith, r .panels);
@@ -179,11 +176,11 @@ module _ (image first : List ℕ) where
           more-suc = omega arith
 
       -- or kept
-      pub kept-on : {after : List ℕ} {place end : ℕ} → read .kept ≡ true → after ≡ laidAt next piece lines → place ≡ read .next → end ≡ edge image (k + 1)
+      pub kept-on : {after : List ℕ} {place : ℕ} → read .kept ≡ true → after ≡ laidAt next piece lines → place ≡ read .next
           → {panel : Panel} → panel ≡ read .panel → panel .id .0 < 256
-          → Round after (set places count panel) (count + 1) (set seen (panel .id .0) true) end place (k + 1)
+          → Round after (set places count panel) (count + 1) (set seen (panel .id .0) true) place (k + 1)
       unfolding faultsBy recordBy
-      kept-on e laid placed end {panel} panel-is small =
+      kept-on e laid placed {panel} panel-is small =
           let (profile, known) = kept-by form (k + 1) next seen bytes e in
           let kept = keptOf form profile (drop (headSize form) bytes) in
           let fits = sym (head-alike (r .marks) form bytes) ∙ known in
@@ -196,7 +193,6 @@ module _ (image first : List ℕ) where
           let (held, on) = one-held places count panel (omega (arith, r .panels, f .few)) (r .held) in
           record {
             few = omega arith;
-            place = end;
             room = place-on placed;
             held = held;
             panels = omega (arith, r .panels);

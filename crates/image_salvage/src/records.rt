@@ -75,25 +75,25 @@ pub fn all(image: &[u8], lines: &mut [u8; LINES_CAP]) -> Salvaged
     let n = image_whole::count_of(image);
     let blank = panels::blank_panel();
     let mut places = [blank; MOST_PANELS];
-    let mut count = 0;
+    let mut dropped = 0;
     let mut seen = [false; ID_COUNT];
-    let mut start = 0;
     let mut next = 0;
     let mut k = 0;
     while k < n {
+        let start = image_whole::edge_at(image, n, k);
         let end = image_whole::edge_at(image, n, k + 1);
         k += 1;
         let record = record(form, k as u8, &image[start..end], &seen, lines, next);
-        start = end;
         next = record.next;
         if record.kept {
             let panel = record.panel;
             seen[panel.id.0 as usize] = true;
-            places[count] = panel;
-            count += 1;
+            places[k - 1 - dropped] = panel;
+        } else {
+            dropped += 1;
         }
     }
-    let table = panels::table_of(places, count);
+    let table = panels::table_of(places, k - dropped);
     Salvaged {
         refusal: Refusal::Nothing,
         table,

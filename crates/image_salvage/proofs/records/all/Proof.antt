@@ -23,10 +23,11 @@ use Rattle.image_salvage.proofs.records.all.Statement.{statement}
 use Rattle.image_salvage.proofs.records.all.Tie as tie
 
 abbrev Inv-loop : tie.InvT-loop
-Inv-loop image lines₀ form n places₀ count₀ seen₀ start₀ next₀ k₀ lines places count seen start next k = Round image lines₀ lines places count seen start next k
+Inv-loop image lines₀ form n places₀ dropped₀ seen₀ next₀ k₀ lines places dropped seen next k =
+    (dropped ≤ k) × Round image lines₀ lines places (k - dropped) seen next k
 
 abbrev μ-loop : tie.MeasureT-loop
-μ-loop image lines₀ form n places₀ count₀ seen₀ start₀ next₀ k₀ lines places count seen start next k = n - k
+μ-loop image lines₀ form n places₀ dropped₀ seen₀ next₀ k₀ lines places dropped seen next k = n - k
 
 abbrev start : tie.At-loop Inv-loop μ-loop → tie.Start Inv-loop μ-loop
 start c = c .before .before .before .before .before
@@ -41,37 +42,36 @@ more : (c : tie.In-loop Inv-loop μ-loop) → c .before .loop .k < countOf (star
 more c = omega (arith, n-is (c .before), c .loop-test .taken)
 
 -- what is lent has room for any lines
-enough : (c : tie.After-record-arg2 Inv-loop μ-loop) → linesCap ≤ length (start (c .before .before .before .before .before) .args .lines .now)
-enough c = omega (arith, c .record-arg2 .given .0 .1, c .before .before .before .before .before .loop .inv .laying .long)
+enough : (c : tie.After-record-arg2 Inv-loop μ-loop) → linesCap ≤ length (start (c .before .before .before .before .before .before) .args .lines .now)
+enough c = omega (arith, c .record-arg2 .given .0 .1, c .before .before .before .before .before .before .loop .inv .1 .laying .long)
 
 -- where the record lies
-edges : (c : tie.After-edge-at Inv-loop μ-loop) → let loop = c .before .before in
+edges : (c : tie.After-edge-at2 Inv-loop μ-loop) → let loop = c .before .before .before in
     let image = start loop .args .image .now in
-    (loop .loop .start ≤ c .edge-at .result) × (c .edge-at .result ≤ length image)
+    (c .before .edge-at .result ≤ c .edge-at2 .result) × (c .edge-at2 .result ≤ length image) × (c .edge-at2 .result ≡ edge image (suc (loop .loop .k)))
 edges c =
-    let loop = c .before .before in
+    let loop = c .before .before .before in
     let image = start loop .args .image .now in
     let f = image-fits (start loop) in
     let k = loop .loop .k in
-    let next : c .edge-at .result ≡ edge image (suc k) = c .edge-at .ensures ∙ ap (edge image) (add-one k) in
-    (omega (arith, next, loop .loop .inv .place, edge-less f k (more (c .before))), rw next (edge-inside f (suc k) (more (c .before))))
+    let here = more (c .before .before) in
+    let next : c .edge-at2 .result ≡ edge image (suc k) = c .edge-at2 .ensures ∙ ap (edge image) (add-one k) in
+    (omega (arith, next, c .before .edge-at .ensures, edge-less f k here), rw next (edge-inside f (suc k) here), next)
 
 -- it is read as it should be
-read : (c : tie.After-record Inv-loop μ-loop) → let at-edge = c .before .before .before .before in
-    let loop = at-edge .before .before in
+read : (c : tie.After-record Inv-loop μ-loop) → let loop = c .before .before .before .before .before .before .before in
     let image = start loop .args .image .now in
     let k = loop .loop .k in
     (c .«record» .result ≡ recordBy (formOf image) (k + 1) (loop .loop .next) (loop .loop .seen) (recordIn image k))
     × (c .«record» .last .1 .1 .1 .1 .0 ≡ laidAt (loop .loop .next) (linesOf (k + 1) (faultsBy (formOf image) (loop .loop .seen) (recordIn image k))) (loop .loop .lines))
 read c =
     let at-edge = c .before .before .before .before in
-    let loop = at-edge .before .before in
+    let loop = at-edge .before .before .before in
     let image = start loop .args .image .now in
     let k = loop .loop .k in
     let form = loop .before .before .before .form-of .ensures in
-    let next : at-edge .edge-at .result ≡ edge image (suc k) = at-edge .edge-at .ensures ∙ ap (edge image) (add-one k) in
-    let part : take (at-edge .edge-at .result - loop .loop .start) (drop (loop .loop .start) image) ≡ recordIn image k =
-    ap₂ (λ (e s : ℕ). take (e - s) (drop s image)) next (loop .loop .inv .place) in (
+    let part : take (at-edge .edge-at2 .result - at-edge .before .edge-at .result) (drop (at-edge .before .edge-at .result) image) ≡ recordIn image k =
+    ap₂ (λ (e s : ℕ). take (e - s) (drop s image)) (edges at-edge .2) (at-edge .before .edge-at .ensures) in (
       c .«record» .ensures .0 ∙ ap₂ (λ (f : Form) (b : List ℕ). recordBy f (k + 1) (loop .loop .next) (loop .loop .seen) b) form part,
       c .«record» .ensures .1
           ∙ ap₂ (λ (f : Form) (b : List ℕ). laidAt (loop .loop .next) (linesOf (k + 1) (faultsBy f (loop .loop .seen) b)) (loop .loop .lines)) form part,
@@ -89,19 +89,22 @@ blank-panel-requires c κs = search needs
 loop-holds : tie.Need-loop-holds Inv-loop μ-loop
 loop-holds c =
     let s = c .before .before .before .before in
-    begins (s .args .image .now) (s .args .lines .now) (image-fits s) (c .blank-panel .ensures)
-
-add-edge-at : tie.Need-add-edge-at Inv-loop μ-loop
-add-edge-at c = omega (arith, more c)
+    (omega arith, begins (s .args .image .now) (s .args .lines .now) (c .blank-panel .ensures))
 
 edge-at-requires : tie.Need-edge-at-requires Inv-loop μ-loop
 edge-at-requires c κs = let loop = c .before in (n-is loop, rw (n-is loop) (image-fits (start loop) .room))
 
+add-edge-at : tie.Need-add-edge-at Inv-loop μ-loop
+add-edge-at c = omega (arith, more (c .before))
+
+edge-at-requires-2 : tie.Need-edge-at-requires-2 Inv-loop μ-loop
+edge-at-requires-2 c κs = let loop = c .before .before in (n-is loop, rw (n-is loop) (image-fits (start loop) .room))
+
 add-k : tie.Need-add-k Inv-loop μ-loop
-add-k c = omega (arith, more (c .before))
+add-k c = omega (arith, more (c .before .before))
 
 cast-record : tie.Need-cast-record Inv-loop μ-loop
-cast-record c = omega (arith, more (c .before), image-fits (start (c .before .before)) .few)
+cast-record c = omega (arith, more (c .before .before), image-fits (start (c .before .before .before)) .few)
 
 sub-record : tie.Need-sub-record Inv-loop μ-loop
 sub-record c = edges c .0
@@ -114,9 +117,9 @@ part-record-end c = edges c .1
 
 record-requires : tie.Need-record-requires Inv-loop μ-loop
 record-requires c κs =
-    let in-loop = c .before .before .before .before in
+    let in-loop = c .before .before .before .before .before in
     let loop = in-loop .before in
-    piece-room _ _ (loop .loop .inv) (image-fits (start loop)) (enough c) (more in-loop)
+    piece-room _ _ (loop .loop .inv .1) (image-fits (start loop)) (enough c) (more in-loop)
 
 cast-seen : tie.Need-cast-seen Inv-loop μ-loop
 cast-seen c = search needs
@@ -125,52 +128,71 @@ array-write-seen : tie.Need-array-write-seen Inv-loop μ-loop
 array-write-seen c = search needs
 
 -- there is a place left for its panel
-room : (c : tie.After-struct-known Inv-loop μ-loop) → let loop = c .before .before .before .before .before .before .before .before .before in loop .loop .count < mostPanels
+room : (c : tie.After-struct-known Inv-loop μ-loop) → let loop = c .before .before .before .before .before .before .before .before .before .before in loop .loop .k < mostPanels
 room c =
-    let in-loop = c .before .before .before .before .before .before .before .before in
-    let loop = in-loop .before in
-    omega (arith, loop .loop .inv .panels, more in-loop, image-fits (start loop) .few)
+    let in-loop = c .before .before .before .before .before .before .before .before .before in
+    omega (arith, more in-loop, image-fits (start (in-loop .before)) .few)
+
+sub-places : tie.Need-sub-places Inv-loop μ-loop
+sub-places c = omega arith
+
+sub-places-2 : tie.Need-sub-places-2 Inv-loop μ-loop
+sub-places-2 c = omega (arith, c .before .before .before .before .before .before .before .before .before .before .loop .inv .0)
 
 mul-places : tie.Need-mul-places Inv-loop μ-loop
 mul-places c = omega (arith, room c)
 
 array-set-from-places : tie.Need-array-set-from-places Inv-loop μ-loop
-array-set-from-places c = room c
-
-add-count : tie.Need-add-count Inv-loop μ-loop
-add-count c = omega (arith, room c)
+array-set-from-places c = omega (arith, room c)
 
 loop-less : tie.Need-loop-less Inv-loop μ-loop
-loop-less c = omega (arith, c .before .before .before .before .before .before .before .before .loop-test .taken)
+loop-less c = omega (arith, c .before .before .before .before .before .before .before .before .before .loop-test .taken)
 
 loop-again : tie.Need-loop-again Inv-loop μ-loop
 loop-again c =
     let kept = c .before .before in
     let one = kept .before in
-    let at-edge = one .before .before .before .before in
-    let in-loop = at-edge .before in
+    let in-loop = one .before .before .before .before .before .before in
     let loop = in-loop .before in
     let (is, laid) = read one in
-    kept-on _ _ (loop .loop .inv) (image-fits (start loop)) (enough (one .before)) (more in-loop) (ap (λ (r : KeptRecord). r .kept) (sym is) ∙ kept .if1 .taken) laid
-    (ap (λ (r : KeptRecord). r .next) is) (at-edge .edge-at .ensures) (ap (λ (r : KeptRecord). r .panel) is) (omega arith)
+    let k = loop .loop .k in
+    let fewer = loop .loop .inv .0 in
+    let place : (k + 1) - 1 - loop .loop .dropped ≡ k - loop .loop .dropped = omega arith in
+    let next : (k + 1) - loop .loop .dropped ≡ k - loop .loop .dropped + 1 = omega arith in (
+      omega arith,
+      rw (place, next)
+          (kept-on _ _ (loop .loop .inv .1) (image-fits (start loop)) (enough (one .before)) (more in-loop) (ap (λ (r : KeptRecord). r .kept) (sym is) ∙ kept .if1 .taken) laid
+          (ap (λ (r : KeptRecord). r .next) is) (ap (λ (r : KeptRecord). r .panel) is) (omega arith)),
+    )
+
+add-dropped : tie.Need-add-dropped Inv-loop μ-loop
+add-dropped c =
+    let in-loop = c .before .before .before .before .before .before .before in
+    omega (arith, in-loop .before .loop .inv .0, more in-loop)
 
 loop-less-2 : tie.Need-loop-less-2 Inv-loop μ-loop
-loop-less-2 c = omega (arith, c .before .before .before .before .before .before .loop-test .taken)
+loop-less-2 c = omega (arith, c .before .before .before .before .before .before .before .loop-test .taken)
 
 loop-again-2 : tie.Need-loop-again-2 Inv-loop μ-loop
 loop-again-2 c =
     let one = c .before in
-    let at-edge = one .before .before .before .before in
-    let in-loop = at-edge .before in
+    let in-loop = one .before .before .before .before .before .before in
     let loop = in-loop .before in
     let (is, laid) = read one in
-    dropped-on _ _ (loop .loop .inv) (image-fits (start loop)) (enough (one .before)) (more in-loop) (ap (λ (r : KeptRecord). r .kept) (sym is) ∙ c .if1 .left) laid
-    (ap (λ (r : KeptRecord). r .next) is) (at-edge .edge-at .ensures)
+    let same : (loop .loop .k + 1) - (loop .loop .dropped + 1) ≡ loop .loop .k - loop .loop .dropped = omega arith in (
+      omega (arith, loop .loop .inv .0),
+      rw same
+          (dropped-on _ _ (loop .loop .inv .1) (image-fits (start loop)) (enough (one .before)) (more in-loop) (ap (λ (r : KeptRecord). r .kept) (sym is) ∙ c .if1 .left) laid
+          (ap (λ (r : KeptRecord). r .next) is)),
+    )
+
+sub-table-of : tie.Need-sub-table-of Inv-loop μ-loop
+sub-table-of c = c .before .loop .inv .0
 
 table-of-requires : tie.Need-table-of-requires Inv-loop μ-loop
 table-of-requires c κs =
     let loop = c .before in
-    (omega (arith, loop .loop .inv .panels, loop .loop .inv .few, image-fits (start loop) .few), loop .loop .inv .held)
+    (omega (arith, loop .loop .inv .1 .few, image-fits (start loop) .few), loop .loop .inv .1 .held)
 
 returns : tie.Need-returns Inv-loop μ-loop
 unfolding salvageOf
@@ -178,7 +200,7 @@ returns c =
     let loop = c .before .before in
     let s = start loop in
     let image = s .args .image .now in
-    let all = ended _ _ (loop .loop .inv) (omega (arith, n-is loop, c .before .loop-test .left)) in
+    let all = ended _ _ (loop .loop .inv .1) (omega (arith, n-is loop, c .before .loop-test .left)) in
     let table = c .table-of .ensures ∙ ap tableOf (all .kept) in
     rw (sound-nothing (wholeRefusal image) (s .pre))
     (ap₂ {C = Salvaged} (λ (t : Table) (n : ℕ). record { refusal = Nothing; table = t; told = n }) table (all .told), all .laid)
@@ -193,8 +215,9 @@ all-spec =
     count-of-requires
     blank-panel-requires
     loop-holds
-    add-edge-at
     edge-at-requires
+    add-edge-at
+    edge-at-requires-2
     add-k
     cast-record
     sub-record
@@ -203,12 +226,15 @@ all-spec =
     record-requires
     cast-seen
     array-write-seen
+    sub-places
+    sub-places-2
     mul-places
     array-set-from-places
-    add-count
     loop-less
     loop-again
+    add-dropped
     loop-less-2
     loop-again-2
+    sub-table-of
     table-of-requires
     returns)
