@@ -8,6 +8,7 @@ use native.Mathlib.Omega.{arith}
 use borrow.Author.Tests.{eq-eqb, ne-eqb, eqb-true, eqb-false}
 use lib.Dec.{eqb}
 use lib.ListN.{length, getD, take, drop, set, length-map, List·getD-map}
+use Rattle.packet.specs.declared.Damage.{Damage}
 use Rattle.packet.specs.declared.MonitorId.{MonitorId}
 use Rattle.packet.specs.declared.GroupId.{GroupId}
 use Rattle.packet.specs.Packet.{groupId}
@@ -69,7 +70,7 @@ module _ (i : MonitorId) (c : Command) (named : i .0 ≡ 0 → ⊥) where
 
   -- a packet to a panel that is not there
   pub heard-nowhere : (w : Wall) → placeOf i w ≡ Nowhere
-      → inTable (playedPacket w i (groupId 0) c) ≡ record { table = tableOf w; reply = silence }
+      → inTable (playedPacket w i (groupId 0) c) ≡ record { table = tableOf w; reply = silence; damage = Damage.Nothing }
   unfolding isHeard
   heard-nowhere w e =
       let walls = map-same (turned i (groupId 0) c) blank w (λ j t. others (getD w j blank) (place-nowhere i w e j t)) in
@@ -77,12 +78,12 @@ module _ (i : MonitorId) (c : Command) (named : i .0 ≡ 0 → ⊥) where
 
 -- a packet that nobody answers
 pub unheard : (i : MonitorId) (g : GroupId) (c : Command) (w : Wall) → isHeard i g ≡ false
-    → inTable (playedPacket w i g c) ≡ record { table = tableOf (map (turned i g c) w); reply = silence }
+    → inTable (playedPacket w i g c) ≡ record { table = tableOf (map (turned i g c) w); reply = silence; damage = Damage.Nothing }
 unheard i g c w u = rw u
 
 -- one that no panel takes, besides
 pub unheard-same : (i : MonitorId) (g : GroupId) (c : Command) (w : Wall) → isHeard i g ≡ false
-    → ((p : Panel) → panelAfter (judge c p) p ≡ p) → inTable (playedPacket w i g c) ≡ record { table = tableOf w; reply = silence }
+    → ((p : Panel) → panelAfter (judge c p) p ≡ p) → inTable (playedPacket w i g c) ≡ record { table = tableOf w; reply = silence; damage = Damage.Nothing }
 unfolding turned
 unheard-same i g c w u h = unheard i g c w u ∙ rw (map-same (turned i g c) blank w (λ j t. either-way (reaches i g _) (h (getD w j blank))))
 

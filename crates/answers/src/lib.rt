@@ -43,13 +43,7 @@ enum Order {
     NotAvailable,
 }
 
-// The table after a burst, and the reply to it.
-struct Turned {
-    table: Table,
-    reply: Reply,
-}
-
-// And what was wrong with the burst.
+// The table after a burst, the reply to it, and what was wrong with it.
 pub struct Played {
     pub table: Table,
     pub reply: Reply,

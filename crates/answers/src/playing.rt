@@ -10,17 +10,17 @@ ghost use Rattle.panels.specs.Wall.{tableOf, panelsOf};
 ghost use Rattle.packet.specs.Answered.{isHeard};
 ghost use Rattle.panels.specs.WellFormed.{WellFormed};
 ghost use Rattle.answers.specs.Judged.{setOf, command};
-ghost use Rattle.answers.specs.Private.Orders.{orderOf, allowedBy, inTable, asked};
-ghost use Rattle.answers.specs.Played.{turned, playedPacket, nackFrom, answeredBy, answeredOn, playedOn};
+ghost use Rattle.answers.specs.Private.Orders.{orderOf, allowedBy, undamaged, inTable, asked};
+ghost use Rattle.answers.specs.Played.{turned, playedPacket, nackFrom, answeredOn, playedOn};
 use crate::Order;
 use crate::PROFILE_COUNT;
 use crate::Played;
 use crate::Reply;
-use crate::Turned;
 use crate::answering;
 use crate::judging;
 use packet::Addressee;
 use packet::Control;
+use packet::Damage;
 use packet::GroupId;
 use packet::MonitorId;
 use packet::Verdict;
@@ -28,37 +28,37 @@ use panels::Panel;
 use panels::Place;
 use panels::Table;
 
+// What an undamaged burst leaves.
+fn undamaged(table: Table, reply: Reply) -> Played
+    ensures { λ r. ⌜ r ≡ undamaged table reply ⌝ }
+{
+    Played {
+        table,
+        reply,
+        damage: Damage::Nothing,
+    }
+}
+
 // The panel at place k is asked, and answers.
-fn play_one(t: Table, k: usize, order: Order, d: &[u8]) -> Turned
-    requires { ⌜ WellFormed t × (k < t .count) × (order ≡ orderOf (command (now d))) ⌝ }
+fn play_one(t: Table, k: usize, order: Order, d: &[u8]) -> Played
+    requires { ⌜ WellFormed t × (k < length (panelsOf t)) × (order ≡ orderOf (command (now d))) ⌝ }
     ensures { λ r. ⌜ r ≡ asked (panelsOf t) k (command (now (d .entry))) ⌝ }
 {
-    let p = t.panels[k];
+    let p = panels::panel_at(t, k);
     let id = p.id;
     match order {
-        Order::Report(row) => {
-            let reply = judging::report_of(p, row);
-            Turned { table: t, reply }
-        }
+        Order::Report(row) => undamaged(t, judging::report_of(p, row)),
         Order::Store(row) => {
             let allowed = judging::allowed_by(row, d);
             if !judging::takes(p, row, allowed, d) {
-                let reply = answering::word_from(id, Control::Nav);
-                return Turned { table: t, reply };
+                return undamaged(t, answering::word_from(id, Control::Nav));
             }
-            let mut after = t;
             let q = judging::with_values(p, row, d);
-            after.panels[k] = q;
-            let reply = answering::word_from(id, Control::Ack);
-            Turned {
-                table: after,
-                reply,
-            }
+            let values = q.values;
+            let after = panels::with_values(t, k, values);
+            undamaged(after, answering::word_from(id, Control::Ack))
         }
-        Order::NotAvailable => {
-            let reply = answering::word_from(id, Control::Nav);
-            Turned { table: t, reply }
-        }
+        Order::NotAvailable => undamaged(t, answering::word_from(id, Control::Nav)),
     }
 }
 
@@ -85,46 +85,42 @@ fn store_in_all(t: Table, id: MonitorId, group: GroupId, row: usize, d: &[u8]) -
     requires { ⌜ WellFormed t × (row < rowCount) × (0 < length (now d)) ⌝ }
     ensures { λ r. ⌜ r ≡ tableOf (map (turned id group (setOf row (drop 1 (now (d .entry))))) (panelsOf t)) ⌝ }
 {
-    let n = t.count;
+    let n = panels::count_of(t);
     let allowed = judging::allowed_by(row, d);
-    let mut table = t;
+    let mut places = panels::places_of(t);
     let mut k = 0;
     while k < n {
-        let p = store_in(table.panels[k], id, group, row, allowed, d);
-        table.panels[k] = p;
+        let p = store_in(places[k], id, group, row, allowed, d);
+        places[k] = p;
         k += 1;
     }
-    table
+    panels::with_places(t, places)
 }
 
 // A packet that is answered: the panel with its ID is asked.
-fn play_heard(t: Table, id: MonitorId, d: &[u8]) -> Turned
+fn play_heard(t: Table, id: MonitorId, d: &[u8]) -> Played
     requires { ⌜ WellFormed t × (id .0 ≡ 0 → ⊥) ⌝ }
     ensures { λ r. ⌜ r ≡ inTable (playedPacket (panelsOf t) id (groupId 0) (command (now (d .entry)))) ⌝ }
 {
     let place = panels::find_panel(t, id);
     let Place::At(k) = place else {
-        let reply = answering::no_reply();
-        return Turned { table: t, reply };
+        return undamaged(t, answering::no_reply());
     };
     let order = judging::order_of(d);
     play_one(t, k, order, d)
 }
 
 // A packet to all or to a group: each panel takes a set or keeps what it had, and nobody answers.
-fn play_unheard(t: Table, id: MonitorId, group: GroupId, d: &[u8]) -> Turned
+fn play_unheard(t: Table, id: MonitorId, group: GroupId, d: &[u8]) -> Played
     requires { ⌜ WellFormed t × (isHeard id group ≡ false) ⌝ }
     ensures { λ r. ⌜ r ≡ inTable (playedPacket (panelsOf t) id group (command (now (d .entry)))) ⌝ }
 {
     let reply = answering::no_reply();
     let order = judging::order_of(d);
     match order {
-        Order::Report(_) => Turned { table: t, reply },
-        Order::Store(row) => {
-            let table = store_in_all(t, id, group, row, d);
-            Turned { table, reply }
-        }
-        Order::NotAvailable => Turned { table: t, reply },
+        Order::Report(_) => undamaged(t, reply),
+        Order::Store(row) => undamaged(store_in_all(t, id, group, row, d), reply),
+        Order::NotAvailable => undamaged(t, reply),
     }
 }
 
@@ -143,19 +139,20 @@ fn nack_from(t: Table, seems: Addressee) -> Reply
     }
 }
 
-// A burst with this verdict.
-fn play_by(t: Table, verdict: Verdict, d: &[u8], seems: Addressee) -> Turned
+// The answer to what was read of a burst: its verdict, its data, and whom it seems to be for if it is damaged.
+pub fn answered_on(t: Table, verdict: Verdict, d: &[u8], seems: Addressee) -> Played
     requires { ⌜ WellFormed t ⌝ }
-    ensures { λ r. ⌜ r ≡ inTable (answeredBy verdict (panelsOf t) (now (d .entry)) seems) ⌝ }
+    ensures { λ r. ⌜ r ≡ answeredOn t (record { verdict = verdict; part = now (d .entry); seems = seems }) ⌝ }
 {
     match verdict {
-        Verdict::Empty => {
-            let reply = answering::no_reply();
-            Turned { table: t, reply }
-        }
-        Verdict::Damaged(_) => {
+        Verdict::Empty => undamaged(t, answering::no_reply()),
+        Verdict::Damaged(damage) => {
             let reply = nack_from(t, seems);
-            Turned { table: t, reply }
+            Played {
+                table: t,
+                reply,
+                damage,
+            }
         }
         Verdict::Intact {
             id,
@@ -167,22 +164,6 @@ fn play_by(t: Table, verdict: Verdict, d: &[u8], seems: Addressee) -> Turned
             }
             play_unheard(t, id, group, d)
         }
-    }
-}
-
-// The answer to what was read of a burst: its verdict, its data, and whom it seems to be for if it is damaged.
-pub fn answered_on(t: Table, verdict: Verdict, d: &[u8], seems: Addressee) -> Played
-    requires { ⌜ WellFormed t ⌝ }
-    ensures { λ r. ⌜ r ≡ answeredOn t (record { verdict = verdict; part = now (d .entry); seems = seems }) ⌝ }
-{
-    let turned = play_by(t, verdict, d, seems);
-    let table = turned.table;
-    let reply = turned.reply;
-    let damage = packet::damage_in(verdict);
-    Played {
-        table,
-        reply,
-        damage,
     }
 }
 

@@ -3,7 +3,7 @@ use Prim.Native.Nat.{ℕ, _<_}
 use mathlib.Core.Bool.{Bool, true, false, cond}
 use mathlib.Core.Logic.{_⊎_, inl, inr}
 use mathlib.Core.Path.{_≡_, refl, sym, ap, _∙_}
-use mathlib.Core.List.{List, [], _∷_, map}
+use mathlib.Core.List.{[], _∷_, map}
 use lib.ListN.{length, getD, length-map, List·getD-map}
 use Rattle.finding.proofs.Laws.{get-found}
 use Rattle.packet.specs.declared.MonitorId.{MonitorId}
@@ -28,7 +28,7 @@ use Rattle.table_calls.proofs.Formed.{added-formed, removed-formed}
 use Rattle.answers.specs.Reply.{silence, wordFrom}
 use Rattle.answers.specs.Judged.{Command, getOf, setOf, unavailable, command, heldThen, takes, judge, panelAfter, stored, taken, notAvailable, replyBy}
 use Rattle.answers.specs.Played.{turned, replyFrom, nackFrom, answeredBy, answered}
-use Rattle.answers.specs.Session.{Ended, byBurst, session}
+use Rattle.answers.specs.Session.{Ended, byBurst}
 use Rattle.answers.proofs.Orders.{OnLine, on-line, taken-allowed}
 use Rattle.answers.proofs.Formed.{stored-own, stored-others, answered-formed}
 use Rattle.demands.proofs.Cases.{p-cases}

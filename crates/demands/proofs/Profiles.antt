@@ -23,7 +23,7 @@ use Rattle.panels.specs.Wall.{modelOf, blank, videoOf}
 use Rattle.panels.specs.Addressed.{reaches}
 use Rattle.panels.proofs.Values.{set-row}
 use Rattle.answers.specs.Judged.{setOf, offAlready, heldThen, takes, judge, stored, taken, notAvailable, panelAfter}
-use Rattle.answers.specs.Played.{turned, answered}
+use Rattle.answers.specs.Played.{turned}
 use Rattle.answers.proofs.Formed.{off-same}
 use Rattle.answers.proofs.Readings.{answered-intact}
 use Rattle.demands.specs.Profiles.{OwnModel, TintBack, inPhoenixRange, VideoAllowed, SeenAsSet}

@@ -6,7 +6,7 @@ use mathlib.Core.List.{List, [], _∷_, flatten}
 use native.Mathlib.Omega.{arith}
 use borrow.Author.Tests.{le-leb}
 use lib.Dec.{leb, eqb}
-use lib.ListN.{length, getD, take, drop, set}
+use lib.ListN.{getD, take, drop, set}
 use Rattle.lists.proofs.Both.{both}
 use Rattle.tiling.specs.declared.Kind.{Kind}
 use Rattle.tiling.specs.declared.Kind.the-variants.{FiveByFive, FifteenByTen}
@@ -21,7 +21,7 @@ use Rattle.settings.specs.Settings.{settings, allowedByRow, within, _to_, allAl
 use Rattle.finding.specs.Found.{foundFrom}
 use Rattle.models.specs.Models.{allowedFor, kindFor, kindIn, filled}
 use Rattle.settings.proofs.Laws.{value-of}
-use Rattle.packet.specs.Packet.{groupId, packetOf}
+use Rattle.packet.specs.Packet.{groupId}
 use Rattle.panels.specs.declared.Panel.{Panel}
 use Rattle.panels.specs.Wall.{modelOf, blank, panelsOf}
 use Rattle.panels.specs.WellFormed.{GoodPanel}

@@ -15,13 +15,7 @@ use Rattle.finding.specs.Found.{foundFrom, foundBy, fieldBy}
 use Rattle.lists.proofs.Each.{alike}
 use Rattle.settings.proofs.Laws.{noSetting}
 
--- Codes are distinct, and no get code is a set code: each code of a setting finds its row, and a field's code its row too.
-pub set-found : {row : ℕ} → kindRow < row → row < rowCount → foundBy (setCode row) ≡ Set row
-unfolding settings foundFrom
-set-found {row} s h =
-    let k : suc (row - 1) ≡ row = omega arith in
-    rw k at (alike (λ k. foundBy (setCode (suc k))) (λ k. Set (suc k)) (rowCount - 1) refl {k = row - 1} (omega arith))
-
+-- Codes are distinct, and no get code is a set code: the get code of a setting finds its row, and a field's code its row too.
 pub get-found : {row : ℕ} → kindRow < row → row < rowCount → foundBy (getCode row) ≡ Get row
 unfolding settings foundFrom
 get-found {row} s h =

@@ -1,11 +1,11 @@
 -- What is read of an intact burst, and of one that is too long, by its first bytes. Assumes nothing.
-use mathlib.Core.Path.{_≡_, refl, sym, ap, _∙_}
-use mathlib.Core.Bool.{Bool, true, false, and-false}
+use mathlib.Core.Path.{_≡_}
+use mathlib.Core.Bool.{true, false, and-false}
 use mathlib.Core.List.{List, [], _∷_, _++_}
 use Prim.Native.Nat.{ℕ, _-_, _≤_, _<_}
 use native.Mathlib.Omega.{arith}
 use borrow.Author.Tests.{le-leb, lt-leb}
-use lib.ListN.{length, getD, take, drop, length-append}
+use lib.ListN.{length, take, drop, length-append}
 use Rattle.packet.specs.Packet.{headSize, shortest, longest, isIntact, dataOf}
 use Rattle.packet.specs.Reading.{Reading, seemsFor, readingOf}
 use Rattle.packet.specs.declared.Addressee.{Addressee}

@@ -110,18 +110,17 @@ pub fn with_places(t: Table, places: [Panel; MOST_PANELS]) -> Table
 }
 
 // The table with these values in the panel at place k, if there is one.
-pub fn with_values(t: Table, k: usize, values: [u8; VALUE_COUNT]) -> Table
+pub fn with_values(mut t: Table, k: usize, values: [u8; VALUE_COUNT]) -> Table
     requires { ⌜ WellFormed t ⌝ }
     ensures { λ r. ⌜ r ≡ tableOf (withValues k values (panelsOf t)) ⌝ }
 {
     if t.count <= k {
         return t;
     }
-    let mut next = t;
     let mut p = t.panels[k];
     p.values = values;
-    next.panels[k] = p;
-    next
+    t.panels[k] = p;
+    t
 }
 
 pub fn find_panel(t: Table, id: MonitorId) -> Place

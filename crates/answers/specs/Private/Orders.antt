@@ -5,10 +5,13 @@ use mathlib.Core.List.{List, [], _∷_}
 use lib.ListN.{getD, set}
 use Rattle.settings.specs.declared.Profile.the-variants.{General, Phoenix}
 use Rattle.settings.specs.Settings.{inRanges}
+use Rattle.packet.specs.declared.Damage.{Damage}
+use Rattle.panels.specs.declared.Table.{Table}
 use Rattle.panels.specs.Wall.{Wall, blank, tableOf}
 use Rattle.answers.specs.declared.Order.{Order}
 use Rattle.answers.specs.declared.Order.the-variants.{Report, Store, NotAvailable}
-use Rattle.answers.specs.declared.Turned.{Turned}
+use Rattle.answers.specs.declared.Reply.{Reply}
+use Rattle.answers.specs.declared.Played.{Played}
 use Rattle.answers.specs.Played.{Outcome}
 use Rattle.answers.specs.Judged.{Command, getOf, setOf, unavailable, judge, panelAfter, replyBy}
 
@@ -22,12 +25,15 @@ orderOf unavailable = NotAvailable
 abbrev pub allowedBy : ℕ → List ℕ → List Bool
 allowedBy row values = inRanges General row values ∷ inRanges Phoenix row values ∷ []
 
--- an outcome with its wall in a table
-abbrev pub inTable : Outcome → Turned
-inTable o = record { table = tableOf (o .wall); reply = o .reply }
+-- what an undamaged burst leaves
+abbrev pub undamaged : Table → Reply → Played
+undamaged t r = record { table = t; reply = r; damage = Damage.Nothing }
+
+abbrev pub inTable : Outcome → Played
+inTable o = undamaged (tableOf (o .wall)) (o .reply)
 
 -- one panel asked, and the table with it as it then is
-abbrev pub asked : Wall → ℕ → Command → Turned
+abbrev pub asked : Wall → ℕ → Command → Played
 asked w k c =
     let p = getD w k blank in
-    record { table = tableOf (set w k (panelAfter (judge c p) p)); reply = replyBy (p .id) (judge c p) }
+    undamaged (tableOf (set w k (panelAfter (judge c p) p))) (replyBy (p .id) (judge c p))

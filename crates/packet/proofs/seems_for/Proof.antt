@@ -1,5 +1,4 @@
 -- Each test decides a case of `seemsFor`. Assumes nothing.
-use mathlib.Core.Path.{_≡_}
 use borrow.Author.Tests.{le-leb, lt-leb, eq-eqb, ne-eqb}
 use borrow.Author.Needs.{needs}
 use Rattle.packet.specs.Reading.{seemsFor}

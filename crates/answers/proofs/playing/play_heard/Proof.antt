@@ -1,10 +1,7 @@
 -- The panel with the ID is asked; without one there is silence. Assumes nothing.
 use mathlib.Core.Path.{sym, ap₂, _∙_}
-use native.Mathlib.Omega.{arith}
-use Rattle.panels.specs.declared.Table.{Table}
-use Rattle.panels.proofs.Laws.{count-is, place-there}
-use Rattle.answers.specs.declared.Reply.{Reply}
-use Rattle.answers.specs.declared.Turned.{Turned}
+use Rattle.panels.proofs.Laws.{place-there}
+use Rattle.answers.specs.Private.Orders.{undamaged}
 use Rattle.answers.proofs.Turns.{heard-there, heard-nowhere}
 use borrow.Author.Needs.{needs}
 use Rattle.answers.proofs.playing.play_heard.Statement.{statement}
@@ -22,14 +19,17 @@ enum-told c = search needs
 no-reply-requires : tie.Need-no-reply-requires
 no-reply-requires c κs = search needs
 
+undamaged-requires : tie.Need-undamaged-requires
+undamaged-requires c κs = search needs
+
 returns : tie.Need-returns
 returns c =
-    let told = c .before in
+    let silent = c .before in
+    let told = silent .before in
     let found = told .before .before in
     let start = found .before .before in
     let nowhere = sym (found .find-panel .ensures) ∙ told .enum-told .given .1 in
-    ap₂ {C = Turned} (λ (t : Table) (r : Reply). record { table = t; reply = r }) (start .pre .0 .held) (c .no-reply .ensures)
-    ∙ sym (heard-nowhere _ _ (start .pre .1) _ nowhere)
+    c .undamaged .ensures ∙ ap₂ undamaged (start .pre .0 .held) (silent .no-reply .ensures) ∙ sym (heard-nowhere _ _ (start .pre .1) _ nowhere)
 
 order-of-requires : tie.Need-order-of-requires
 order-of-requires c κs = search needs
@@ -40,7 +40,7 @@ play-one-requires c κs =
     let found = place .before .before in
     let f = found .before .before .pre .0 in
     let there = sym (found .find-panel .ensures) ∙ place .place .given .1 in
-    (f, omega (arith, count-is f, place-there _ _ _ there .0), c .order-of .ensures)
+    (f, place-there _ _ _ there .0, c .order-of .ensures)
 
 returns-2 : tie.Need-returns-2
 returns-2 c =
@@ -58,6 +58,7 @@ play-heard-spec =
     enum-known-place
     enum-told
     no-reply-requires
+    undamaged-requires
     returns
     order-of-requires
     play-one-requires
