@@ -26,7 +26,7 @@ use Rattle.image_write.specs.declared.Written.the-variants.{Bytes as ImageBytes
 use Rattle.forms.specs.declared.Form.{Form}
 use Rattle.forms.specs.declared.Form.the-variants.{One, Two}
 use Rattle.forms.specs.Forms.{keeps}
-use Rattle.image_write.specs.Written.{recordSize, sizeOf, losesNothing, writtenOf as imageWritten, refusalNumber as imageNumber}
+use Rattle.image_write.specs.Written.{sizeOf, losesNothing, writtenOf as imageWritten, refusalNumber as imageNumber}
 use Rattle.image_write.proofs.Losing.{two-holds}
 use Rattle.demands.specs.Numbers.{Add, Remove, isPlain, allPlain, ImageOne, ImageTwo, Answer, Packet}
 
@@ -79,11 +79,10 @@ image-number form w out = go (losesNothing form w) (leb (sizeOf form w) (length 
     go false b = refl
 
 pub image-one : ImageOne
-unfolding recordSize settings
+unfolding settings
 image-one w out = image-number One w out ∙ ap (λ (t : Bool). cond t (cond (leb (35 * length w + 2) (length out)) 0 19) 31) (plain-kept w)
 
 pub image-two : ImageTwo
-unfolding recordSize
 image-two w out = image-number Two w out ∙ ap (λ (t : Bool). cond t (cond (leb (45 * length w + 2) (length out)) 0 19) 31) (two-holds w)
 
 pub answer-number : Answer

@@ -10,7 +10,7 @@ use Rattle.panels.proofs.Values.{length-values}
 use Rattle.settings.specs.Settings.{settings, byteCount, valueCount, rowCount, valuesOf}
 use Rattle.forms.specs.declared.Form.{Form}
 use Rattle.forms.specs.declared.Form.the-variants.{One, Two}
-use Rattle.forms.specs.Forms.{headOf, hasField}
+use Rattle.forms.specs.Forms.{headSize, headOf, hasField}
 use Rattle.forms.proofs.Laws.{head-length, head-some}
 use Rattle.lists.specs.Lists.{startOf, each}
 use Rattle.lists.proofs.Each.{in-each, length-each, each-alike}
@@ -19,7 +19,8 @@ use Rattle.panels.specs.Wall.{Wall, blank}
 use Rattle.panels.specs.WellFormed.{GoodWall}
 use Rattle.lists.proofs.Places.{getD-inside}
 use Rattle.panels.proofs.Formed.{good-at}
-use Rattle.image_write.specs.Written.{field, fieldIn, fieldsOf, recordOf, recordsOf, highLow, startsOf, imageOf, recordSize, fieldsSize}
+use Rattle.image_write.specs.Written.{field, fieldIn, fieldsOf, recordOf, recordsOf, highLow, startsOf, imageOf, recordSize}
+use Rattle.image_write.specs.Private.Sizes.{fieldsSize}
 use Rattle.lists.proofs.Flat.{alike-long}
 
 -- lists as long as others, one behind the other
@@ -79,6 +80,12 @@ starts-count records =
     let all = take-all (length records) (startsOf records) (omega (arith, length-each (λ k. highLow (startOf records k)) (length records))) in
     ap (λ (ls : List (List ℕ)). length (flatten ls)) (sym all) ∙ pairs-before (λ k. startOf records k) (length records) (length records) (omega arith)
 
+-- a record is its head and its fields
+pub record-parts : (form : Form) → recordSize form ≡ headSize form + fieldsSize form
+unfolding settings
+record-parts One = refl
+record-parts Two = refl
+
 module _ (form : Form) where
   pub image-length : (records : List (List ℕ)) → length (imageOf form records) ≡ length (flatten records) + 2 * length records + 2
   unfolding imageOf
@@ -86,15 +93,15 @@ module _ (form : Form) where
 
   -- a record has as many bytes as its form says
   pub record-length : (p : Panel) → length (p .values) ≡ valueCount → length (recordOf form p) ≡ recordSize form
-  unfolding recordOf recordSize
+  unfolding recordOf
   record-length p full =
       let h = headOf form (p .id .0) (p .group .0) (p .profile) in
       length-append h (flatten (fieldsOf form (p .values)))
       ∙ ap₂ (λ (a b : ℕ). a + b) (head-length (p .id .0) (p .group .0) (p .profile) form) (fields-length form (p .values) full)
+      ∙ sym (record-parts form)
 
   pub record-some : 0 < recordSize form
-  unfolding recordSize
-  record-some = omega (arith, head-some form)
+  record-some = omega (arith, record-parts form, head-some form)
 
   -- so that each record of a wall starts that much behind the one before it
   pub record-at : (w : Wall) (k : ℕ) → k < length w → getD (recordsOf form w) k [] ≡ recordOf form (getD w k blank)
@@ -119,15 +126,10 @@ module _ (form : Form) where
       (each-alike (λ k. highLow (startOf (recordsOf form w) k)) (λ k. highLow (recordSize form * k)) (length w)
       (λ k h. ap highLow (records-before w good k (omega arith))))
 
--- a record has 33 bytes or 43
-pub record-sizes : (recordSize One ≡ 33) × (recordSize Two ≡ 43)
-unfolding recordSize settings
-record-sizes = (refl, refl)
-
 -- The products with a record's size that bounds need, which each form has for itself.
 abbrev pub Products : ℕ → ℕ → ℕ → Type 0
 Products size k n = ((size + 2) * n ≡ size * n + 2 * n) × (k < n → size * k + size ≤ size * n) × (k ≤ n → size * k ≤ size * n) × (size * n ≤ 43 * n) × (size ≤ 43)
 
 pub products : (form : Form) (k n : ℕ) → Products (recordSize form) k n
-products One k n = rw (record-sizes .0) (omega arith, (λ h. omega arith), (λ h. omega arith), omega arith, omega arith)
-products Two k n = rw (record-sizes .1) (omega arith, (λ h. omega arith), (λ h. omega arith), omega arith, omega arith)
+products One k n = (omega arith, (λ h. omega arith), (λ h. omega arith), omega arith, omega arith)
+products Two k n = (omega arith, (λ h. omega arith), (λ h. omega arith), omega arith, omega arith)

@@ -1,13 +1,13 @@
 -- The setup image of a wall, in either form. 01, "Setup image, form 1"; 02, A2, and refusal 31; A6.
-use Prim.Native.Nat.{ℕ, _+_, _-_, _*_, _/_, _%_}
+use Prim.Native.Nat.{ℕ, _+_, _*_, _/_, _%_}
 use mathlib.Core.Bool.{Bool, true, cond, _&&_}
 use mathlib.Core.List.{List, [], _∷_, _++_, map, flatten}
 use lib.Dec.{leb}
 use lib.ListN.{length}
-use Rattle.settings.specs.Settings.{setCode, byteCount, valuesOf, rowCount, valueCount, kindRow, tilingRow}
+use Rattle.settings.specs.Settings.{setCode, byteCount, valuesOf, rowCount}
 use Rattle.forms.specs.declared.Form.{Form}
 use Rattle.forms.specs.declared.Form.the-variants.{One, Two}
-use Rattle.forms.specs.Forms.{formByte, headSize, headOf, hasField, keeps}
+use Rattle.forms.specs.Forms.{formByte, headOf, hasField, keeps}
 use Rattle.lists.specs.Lists.{startOf, each, laidOver}
 use Rattle.panels.specs.declared.Panel.{Panel}
 use Rattle.panels.specs.Wall.{Wall, mostPanels}
@@ -15,24 +15,10 @@ use Rattle.refusals.specs.Refusals.{noRoom, wouldLose}
 use Rattle.image_write.specs.declared.Written.{Written}
 use Rattle.image_write.specs.declared.Written.the-variants.{Bytes, WouldLose, NoRoom}
 
--- how many bytes stand before a field's values: set code and length
-abbrev pub fieldHead : ℕ
-fieldHead = 2
-
--- how many the fields of all rows have, and those of the rows that form 1 has no field for
-abbrev pub allFields : ℕ
-allFields = fieldHead * rowCount + valueCount
-
-abbrev pub laterFields : ℕ
-laterFields = fieldHead + byteCount kindRow + (fieldHead + byteCount tilingRow)
-
--- how many the fields of a record have, the record with its head, and a panel in all, with the two bytes of its start
-abbrev pub fieldsSize : Form → ℕ
-fieldsSize One = allFields - laterFields
-fieldsSize Two = allFields
-
-unfoldable pub recordSize : Form → ℕ
-recordSize form = headSize form + fieldsSize form
+-- the bytes of a record with all fields of its form, 01's and 02's (A2, A6), and of a panel in all, with the two of its start
+abbrev pub recordSize : Form → ℕ
+recordSize One = 33
+recordSize Two = 43
 
 abbrev pub panelSize : Form → ℕ
 panelSize form = recordSize form + 2

@@ -7,7 +7,8 @@ ghost use Rattle.settings.specs.Settings.{byteCount, valuesOf, rowCount, valueC
 ghost use Rattle.lists.specs.Lists.{each, laidAt};
 ghost use Rattle.panels.specs.Wall.{panelsOf, mostPanels};
 ghost use Rattle.panels.specs.WellFormed.{WellFormed};
-ghost use Rattle.image_write.specs.Written.{field, fieldIn, fieldsOf, recordOf, recordsOf, highLow, fieldHead, fieldsSize, recordSize, panelSize};
+ghost use Rattle.image_write.specs.Private.Sizes.{fieldHead, fieldsSize};
+ghost use Rattle.image_write.specs.Written.{field, fieldIn, fieldsOf, recordOf, recordsOf, highLow, recordSize, panelSize};
 ghost use Rattle.forms.specs.Forms.{headSize, headOf};
 use crate::FIELD_HEAD;
 use crate::START_SIZE;

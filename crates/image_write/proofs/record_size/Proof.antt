@@ -1,10 +1,9 @@
 -- The head, and all fields. Assumes nothing.
-use mathlib.Core.Path.{ap₂}
+use mathlib.Core.Path.{sym, ap₂, _∙_}
 use Prim.Native.Nat.{ℕ, _+_}
 use native.Mathlib.Omega.{arith}
 use borrow.Author.Needs.{needs}
-use Rattle.image_write.specs.Written.{recordSize}
-use Rattle.image_write.proofs.Lengths.{products}
+use Rattle.image_write.proofs.Lengths.{record-parts, products}
 use Rattle.image_write.proofs.record_size.Statement.{statement}
 use Rattle.image_write.proofs.record_size.Tie as tie
 
@@ -15,12 +14,10 @@ fields-size-requires : tie.Need-fields-size-requires
 fields-size-requires c κs = search needs
 
 add-result : tie.Need-add-result
-unfolding recordSize
-add-result c = omega (arith, products (c .before .before .args .form) 0 0 .4)
+add-result c = omega (arith, record-parts (c .before .before .args .form), products (c .before .before .args .form) 0 0 .4)
 
 returns : tie.Need-returns
-unfolding recordSize
-returns c = ap₂ (λ (m n : ℕ). m + n) (c .before .head-size .ensures) (c .fields-size .ensures)
+returns c = ap₂ (λ (m n : ℕ). m + n) (c .before .head-size .ensures) (c .fields-size .ensures) ∙ sym (record-parts (c .before .before .args .form))
 
 pub record-size-spec : {M : Type 1} → statement M
 record-size-spec = tie.close (tie.spec head-size-requires fields-size-requires add-result returns)

@@ -1,11 +1,9 @@
 -- Both sizes come to the same number. Assumes nothing.
 use mathlib.Core.Path.{refl}
-use Rattle.image_write.specs.Written.{recordSize}
 use Rattle.image_write.proofs.room.Statement.{statement}
 use Rattle.image_write.proofs.room.Tie as tie
 
 returns : tie.Need-returns
-unfolding recordSize
 returns c = refl
 
 pub room-spec : {M : Type 1} → statement M

@@ -1,5 +1,4 @@
 -- The output that is lent has room for any image. Assumes nothing.
-use Rattle.image_write.specs.Written.{recordSize}
 use borrow.Author.Needs.{needs}
 use Rattle.salvage.proofs.keep.Statement.{statement}
 use Rattle.salvage.proofs.keep.Tie as tie
@@ -11,7 +10,6 @@ slice-aggregate-write-kept : tie.Need-slice-aggregate-write-kept
 slice-aggregate-write-kept c = search needs
 
 write-kept-requires : tie.Need-write-kept-requires
-unfolding recordSize
 write-kept-requires c κs = search needs
 
 slice-aggregate-front : tie.Need-slice-aggregate-front

@@ -7,14 +7,13 @@ use Rattle.lists.specs.Lists.{laidOver}
 use Rattle.panels.specs.Wall.{panelsOf}
 use Rattle.forms.specs.declared.Form.the-variants.{Two}
 use Rattle.image_write.specs.declared.Written.{Written}
-use Rattle.image_write.specs.Written.{setupOf, sizeOf, recordSize, bytesWritten}
+use Rattle.image_write.specs.Written.{setupOf, sizeOf, bytesWritten}
 use Rattle.image_write.proofs.Losing.{two-holds, is-written}
 use borrow.Author.Needs.{needs}
 use Rattle.salvage.proofs.write_kept.Statement.{statement}
 use Rattle.salvage.proofs.write_kept.Tie as tie
 
 room : (c : tie.Start) → sizeOf Two (panelsOf (c .args .t)) ≤ length (c .args .out .now)
-unfolding recordSize
 room c = omega (arith, c .pre .0 .few, c .pre .1)
 
 -- what was written, whatever the match told

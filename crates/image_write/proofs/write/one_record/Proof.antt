@@ -7,16 +7,16 @@ use lib.ListN.{length}
 use Rattle.lists.specs.Lists.{laidAt}
 use Rattle.forms.specs.Forms.{headSize, headOf}
 use Rattle.forms.proofs.Laws.{head-length}
-use Rattle.image_write.specs.Written.{fieldsOf, recordOf, recordSize, fieldsSize}
+use Rattle.image_write.specs.Written.{fieldsOf, recordOf}
+use Rattle.image_write.specs.Private.Sizes.{fieldsSize}
 use Rattle.lists.proofs.Laid.{length-laid, laid-then}
-use Rattle.image_write.proofs.Lengths.{fields-length, record-length}
+use Rattle.image_write.proofs.Lengths.{fields-length, record-parts, record-length}
 use borrow.Author.Needs.{needs}
 use Rattle.image_write.proofs.write.one_record.Statement.{statement}
 use Rattle.image_write.proofs.write.one_record.Tie as tie
 
 room : (c : tie.Start) → c .args .at + (headSize (c .args .form) + fieldsSize (c .args .form)) ≤ length (c .args .out .now)
-unfolding recordSize
-room c = c .pre .1
+room c = omega (arith, c .pre .1, record-parts (c .args .form))
 
 head-requires : tie.Need-head-requires
 head-requires c κs = omega (arith, room (c .before .before))
