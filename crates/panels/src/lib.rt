@@ -23,8 +23,8 @@ pub struct Panel {
 }
 
 pub struct Table {
-    pub panels: [Panel; MOST_PANELS],
-    pub count: usize,
+    panels: [Panel; MOST_PANELS],
+    count: usize,
 }
 
 // The place of an ID in the table.
