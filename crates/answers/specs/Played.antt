@@ -59,6 +59,3 @@ played w burst = answered w (readingOf burst)
 -- the same of a table; and what is wrong with the burst, which is a fact about the burst alone (02, A3)
 abbrev pub answeredOn : Table → Reading → Played
 answeredOn t r = let o = answered (panelsOf t) r in record { table = tableOf (o .wall); reply = o .reply; damage = damageIn (r .verdict) }
-
-abbrev pub playedOn : Table → List ℕ → Played
-playedOn t burst = answeredOn t (readingOf burst)

@@ -50,10 +50,5 @@ abbrev pub refusalNumber : Sent → ℕ
 refusalNumber (Sent.Bytes n) = 0
 refusalNumber Sent.NoRoom = noRoom
 
--- how many bytes went out, none on a refusal
-abbrev pub bytesSent : Sent → ℕ
-bytesSent (Bytes n) = n
-bytesSent NoRoom = 0
-
 unfoldable pub outputOf : List ℕ → Reply → List ℕ
 outputOf out r = cond (leb longest (length out)) (laidOver (sentBytes r) out) out

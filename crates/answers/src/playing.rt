@@ -6,12 +6,13 @@ ghost use Prim.Native.Nat.{_<_};
 ghost use lib.ListN.{length, drop};
 ghost use Rattle.settings.specs.Settings.{rowCount};
 ghost use Rattle.packet.specs.Packet.{groupId};
+ghost use Rattle.packet.specs.Reading.{readingOf};
 ghost use Rattle.panels.specs.Wall.{tableOf, panelsOf};
 ghost use Rattle.packet.specs.Answered.{isHeard};
 ghost use Rattle.panels.specs.WellFormed.{WellFormed};
 ghost use Rattle.answers.specs.Judged.{setOf, command};
 ghost use Rattle.answers.specs.Private.Orders.{orderOf, allowedBy, undamaged, inTable, asked};
-ghost use Rattle.answers.specs.Played.{turned, playedPacket, nackFrom, answeredOn, playedOn};
+ghost use Rattle.answers.specs.Played.{turned, playedPacket, nackFrom, answeredOn};
 use crate::Order;
 use crate::PROFILE_COUNT;
 use crate::Played;
@@ -170,7 +171,7 @@ pub fn answered_on(t: Table, verdict: Verdict, d: &[u8], seems: Addressee) -> Pl
 // A whole burst.
 pub fn play(t: Table, burst: &[u8]) -> Played
     requires { ⌜ WellFormed t ⌝ }
-    ensures { λ r. ⌜ r ≡ playedOn t (now (burst .entry)) ⌝ }
+    ensures { λ r. ⌜ r ≡ answeredOn t (readingOf (now (burst .entry))) ⌝ }
 {
     let verdict = packet::verdict_on(burst);
     let d = packet::data_part(burst, verdict);

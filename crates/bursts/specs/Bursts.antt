@@ -10,15 +10,13 @@ pub record Bursts : Type 0 where
   pub whole : List (List ℕ)
   pub cut : Bool
 
-abbrev pub behind : List ℕ → Bursts → Bursts
-behind burst rest = record { whole = burst ∷ rest .whole; cut = rest .cut }
-
 -- the first k bursts
 unfoldable pub burstsUpTo : ℕ → List ℕ → Bursts
 burstsUpTo zero bytes = record { whole = []; cut = false }
 burstsUpTo (suc k) [] = record { whole = []; cut = false }
 burstsUpTo (suc k) (n ∷ bytes) =
-    cond (leb n (length bytes)) (behind (take n bytes) (burstsUpTo k (drop n bytes))) (record { whole = []; cut = true })
+    let rest = burstsUpTo k (drop n bytes) in
+    cond (leb n (length bytes)) (record { whole = take n bytes ∷ rest .whole; cut = rest .cut }) (record { whole = []; cut = true })
 
 -- each takes a byte at least, so that there are no more bursts than bytes
 unfoldable pub burstsIn : List ℕ → Bursts

@@ -24,14 +24,14 @@ use Rattle.panels.specs.Wall.{Wall, blank, placeOf, panelsOf, ifThere}
 use Rattle.panels.specs.Addressed.{reaches}
 use Rattle.table_calls.specs.Calls.{refusalNumber as tableNumber, addRefusal, added, without, removed}
 use Rattle.answers.specs.declared.Sent.the-variants.{Bytes, NoRoom}
-use Rattle.answers.specs.Reply.{sentBytes, sentOf, bytesSent, outputOf as answerOutput}
+use Rattle.answers.specs.Reply.{sentBytes, sentOf, refusalNumber as answerNumber, outputOf as answerOutput}
 use Rattle.answers.specs.Judged.{command}
 use Rattle.answers.specs.Played.{turned, answeredBy, answered}
 use Rattle.lists.proofs.Mapped.{map-same}
 use Rattle.answers.proofs.Turns.{either-way, stays}
 use Rattle.forms.specs.declared.Form.{Form}
 use Rattle.image_write.specs.declared.Written.the-variants.{Bytes as WrittenBytes, WouldLose, NoRoom as NotWritten}
-use Rattle.image_write.specs.Written.{setupOf, sizeOf, losesNothing, writtenOf, bytesWritten, outputOf as imageOutput}
+use Rattle.image_write.specs.Written.{setupOf, sizeOf, losesNothing, writtenOf, refusalNumber as imageNumber, outputOf as imageOutput}
 use Rattle.refusals.specs.declared.Refusal.{Refusal as ImageRefusal}
 use Rattle.refusals.specs.declared.Refusal.the-variants.{Nothing as Sound}
 use Rattle.image_whole.specs.Whole.{formOf, wholeRefusal, recordsIn}
@@ -90,7 +90,7 @@ unfolding sentOf answerOutput
 answer-alone out r = go (leb longest (length out))
   where
     go : (t : Bool)
-        → let n = bytesSent (cond t (Bytes (length (sentBytes r))) NoRoom) in drop n (cond t (laidOver (sentBytes r) out) out) ≡ drop n out
+        → let n = cond (eqb (answerNumber (cond t (Bytes (length (sentBytes r))) NoRoom)) 0) (length (sentBytes r)) 0 in drop n (cond t (laidOver (sentBytes r) out) out) ≡ drop n out
     go true = behind-over (sentBytes r) out
     go false = refl
 
@@ -99,7 +99,7 @@ unfolding writtenOf imageOutput
 image-alone form t f out = go (losesNothing form (panelsOf t)) (leb (sizeOf form (panelsOf t)) (length out))
   where
     go : (a b : Bool)
-        → let n = bytesWritten (cond a (cond b (WrittenBytes (sizeOf form (panelsOf t))) NotWritten) WouldLose) in
+        → let n = cond (eqb (imageNumber (cond a (cond b (WrittenBytes (sizeOf form (panelsOf t))) NotWritten) WouldLose)) 0) (sizeOf form (panelsOf t)) 0 in
         drop n (cond (a && b) (laidOver (setupOf form (panelsOf t)) out) out) ≡ drop n out
     go true true = rw (← image-size form (panelsOf t) (f .good)) (behind-over (setupOf form (panelsOf t)) out)
     go true false = refl

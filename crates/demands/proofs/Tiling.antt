@@ -19,7 +19,7 @@ use Rattle.tiling.proofs.Numbers.{number-back}
 use Rattle.models.specs.declared.Model.{Model}
 use Rattle.settings.specs.Settings.{settings, allowedByRow, within, _to_, allAllowed, inRanges, valuesOf, kindRow, tilingRow}
 use Rattle.finding.specs.Found.{foundFrom}
-use Rattle.models.specs.Models.{allowedFor, kindFor, kindIn, filled}
+use Rattle.models.specs.Models.{allowedFor, kindFor, filled}
 use Rattle.settings.proofs.Laws.{value-of}
 use Rattle.packet.specs.Packet.{groupId}
 use Rattle.panels.specs.declared.Panel.{Panel}
@@ -90,7 +90,7 @@ module _ (values : List ℕ) where
   unfolding settings allowedByRow flatten
   kind-is = sym (value-of kindRow 0 values (omega arith))
 
-  pub in-own-wall : (position byte : ℕ) → sits (getD values 0 0) position byte ≡ inWall (kindIn values) position byte
+  pub in-own-wall : (position byte : ℕ) → sits (getD values 0 0) position byte ≡ inWall (kindFor (getD (valuesOf kindRow values) 0 0)) position byte
   in-own-wall position byte = sits-in-wall (getD values 0 0) position byte ∙ ap (λ (n : ℕ). inWall (kindFor n) position byte) kind-is
 
   pub value-at : (k : ℕ) → k < 4 → getD (valuesOf tilingRow values) k 0 ≡ getD values (2 + k) 0

@@ -2,7 +2,7 @@
 use Prim.Native.Nat.{ℕ, _-_}
 use mathlib.Core.Bool.{true, cond, not, _||_}
 use mathlib.Core.Path.{_≡_}
-use mathlib.Core.List.{List, []}
+use mathlib.Core.List.{List, [], foldl}
 use lib.Dec.{leb, eqb}
 use lib.ListN.{length, getD, take, drop}
 use Rattle.packet.specs.declared.Damage.{Damage}
@@ -16,7 +16,7 @@ use Rattle.panels.specs.Wall.{Wall, panelsOf, tableOf}
 use Rattle.answers.specs.Reply.{silence}
 use Rattle.answers.specs.Judged.{command}
 use Rattle.answers.specs.Played.{Outcome, playedPacket, nackFrom, answered}
-use Rattle.line.specs.Receiver.{receiverOf, atMark, fed}
+use Rattle.line.specs.Receiver.{receiverOf, withByte, atMark}
 use Rattle.host.specs.declared.Outcome.the-variants.{Idle}
 use Rattle.host.specs.Machine.{burst, State, waits, quiet, heard, telling, step}
 
@@ -46,7 +46,7 @@ abbrev pub AnyLength : Type 0
 AnyLength =
     (t : Table) (b : List ℕ)
     → let o = answered (panelsOf t) (readingOf b) in
-    atMark (fed (receiverOf []) b) t ≡ record { receiver = receiverOf []; table = tableOf (o .wall); reply = o .reply; damage = told b }
+    atMark (foldl withByte (receiverOf []) b) t ≡ record { receiver = receiverOf []; table = tableOf (o .wall); reply = o .reply; damage = told b }
 
 -- The wall and the answer without this request, by 01: an empty burst does nothing, an intact one is a packet, and any other gets
 -- NACK or silence.

@@ -1,10 +1,11 @@
 -- Demand 1. That every function comes back without a fault is what the prover shows of each. The rest: a refusal changes neither
 -- table nor host nor a lent buffer, a bad burst changes no panel, and writing changes no byte but those written.
 use Prim.Native.Nat.{ℕ, _<_}
-use mathlib.Core.Bool.{false}
+use mathlib.Core.Bool.{false, cond}
 use mathlib.Core.Logic.{_⊎_}
 use mathlib.Core.Path.{_≡_}
 use mathlib.Core.List.{List, []}
+use lib.Dec.{eqb}
 use lib.ListN.{length, getD, drop}
 use Rattle.packet.specs.declared.MonitorId.{MonitorId}
 use Rattle.packet.specs.declared.GroupId.{GroupId}
@@ -20,12 +21,12 @@ use Rattle.panels.specs.Addressed.{reaches}
 use Rattle.table_calls.specs.Calls.{addRefusal, added, removedFrom, removed}
 use Rattle.panels.specs.WellFormed.{WellFormed}
 use Rattle.answers.specs.declared.Reply.{Reply}
-use Rattle.answers.specs.Reply.{sentOf, bytesSent, outputOf as answerOutput}
+use Rattle.answers.specs.Reply.{sentBytes, sentOf, refusalNumber as answerNumber, outputOf as answerOutput}
 use Rattle.answers.specs.Judged.{command, judge, notAvailable}
 use Rattle.answers.specs.Played.{answered}
 use Rattle.forms.specs.declared.Form.{Form}
 use Rattle.refusals.specs.declared.Refusal.the-variants.{Nothing as Sound}
-use Rattle.image_write.specs.Written.{writtenOf, bytesWritten, outputOf as imageOutput}
+use Rattle.image_write.specs.Written.{sizeOf, writtenOf, refusalNumber as imageNumber, outputOf as imageOutput}
 use Rattle.image_read.specs.Read.{readOf}
 use Rattle.host.specs.declared.Host.{Host}
 use Rattle.host.specs.declared.Refusal.{Refusal as HostRefusal}
@@ -61,11 +62,12 @@ Bad (Intact i g n) d p = (reaches i g p ≡ false) ⊎ (judge (command d) p ≡ 
 abbrev pub BadBurst : Type 0
 BadBurst = (w : Wall) (r : Reading) → ((k : ℕ) → k < length w → Bad (r .verdict) (r .part) (getD w k blank)) → answered w r .wall ≡ w
 
--- behind the bytes that were written the output is as before
+-- behind the bytes that were written, none on a refusal, the output is as before
 abbrev pub AnswerAlone : Type 0
-AnswerAlone = (out : List ℕ) (r : Reply) → let n = bytesSent (sentOf out r) in drop n (answerOutput out r) ≡ drop n out
+AnswerAlone = (out : List ℕ) (r : Reply) → let n = cond (eqb (answerNumber (sentOf out r)) 0) (length (sentBytes r)) 0 in drop n (answerOutput out r) ≡ drop n out
 
 abbrev pub ImageAlone : Type 0
 ImageAlone =
     (form : Form) (t : Table) → WellFormed t → (out : List ℕ)
-    → let n = bytesWritten (writtenOf form (panelsOf t) out) in drop n (imageOutput form (panelsOf t) out) ≡ drop n out
+    → let n = cond (eqb (imageNumber (writtenOf form (panelsOf t) out)) 0) (sizeOf form (panelsOf t)) 0 in
+    drop n (imageOutput form (panelsOf t) out) ≡ drop n out

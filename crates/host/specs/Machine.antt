@@ -72,15 +72,13 @@ over s packets e vs = move idle packets (Outcome.Over e (sendings s)) vs
 
 -- the packet is given out; where no answer is due, the request is over
 unfoldable pub begun : Request → Move
-begun r =
-    let p = requestPacket r ∷ [] in
+begun r = let p = requestPacket r ∷ [] in
     let s : State = record { request = r; given = p } in
     cond (isHeard (r .id) (r .group)) (move s p Outcome.Waiting []) (over s p End.Unheard [])
 
 -- the same packet again, or after the third sending given up
 unfoldable pub again : State → Move
-again s =
-    let p = requestPacket (s .request) in
+again s = let p = requestPacket (s .request) in
     cond (ltb (sendings s) mostSendings)
     (move (record { request = s .request; given = p ∷ s .given }) (p ∷ []) Outcome.Waiting [])
     (over s [] End.GivenUp [])

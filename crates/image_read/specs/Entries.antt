@@ -71,6 +71,5 @@ RecordOf form id group profile es bytes = (holds form profile ≡ true) × (byte
 
 -- two records, each of its form, whose heads say the same, and fields that stand in a relation, which goes by the second's form
 abbrev pub SameHead : (Form → Profile → List Entry → List Entry → Type 0) → Form → Form → List ℕ → List ℕ → Type 0
-SameHead P f g a b =
-    (id group : ℕ) × (profile : Profile) × (these those : List Entry)
+SameHead P f g a b = (id group : ℕ) × (profile : Profile) × (these those : List Entry)
     × RecordOf f id group profile these a × RecordOf g id group profile those b × P g profile these those

@@ -46,8 +46,7 @@ readRecords form w (bytes ∷ records) =
     cond (isSound why) (readRecords form (w ++ panelIn form bytes ∷ []) records) (refused why)
 
 unfoldable pub readOf : List ℕ → Reading
-readOf image =
-    cond (isSound (wholeRefusal image)) (readRecords (formOf image) [] (recordsIn image)) (refused (wholeRefusal image))
+readOf image = cond (isSound (wholeRefusal image)) (readRecords (formOf image) [] (recordsIn image)) (refused (wholeRefusal image))
 
 abbrev pub inTable : Reading → Read
 inTable r = record { refusal = r .refusal; table = tableOf (r .wall) }

@@ -35,8 +35,7 @@ misplaced form seen row = not (hasField form row) || (getD seen row false || (eq
 -- the field of a code that was found: 17, then 18, by the profile and by the kind among the values so far
 abbrev pub fieldOf : Form → Profile → Found → List Bool → List ℕ → List ℕ → Step
 fieldOf form profile (Set row) seen values left =
-    cond (misplaced form seen row || misfits row left)
-    Broken
+    cond (misplaced form seen row || misfits row left) Broken
     (cond (allowedFor (modelIn profile values) row (valuesIn row left)) (Field row) (NotAllowed row))
 fieldOf form profile (Get row) seen values left = Broken
 fieldOf form profile Nothing seen values left = Broken

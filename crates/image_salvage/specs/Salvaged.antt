@@ -30,16 +30,14 @@ behindFaults faults s = record { wall = s .wall; faults = faults ∷ s .faults }
 unfoldable pub salvagedFrom : Form → Wall → List (List ℕ) → Salvage
 salvagedFrom form w [] = record { wall = w; faults = [] }
 salvagedFrom form w (bytes ∷ records) =
-    ifKnown (headIn form (idIn w) bytes)
-    (λ profile.
+    ifKnown (headIn form (idIn w) bytes) (λ profile.
     let kept = keptOf form profile (drop (headSize form) bytes) in
     behindFaults (kept .faults) (salvagedFrom form (w ++ headed bytes profile (kept .values) ∷ []) records))
     (behindFaults (Dropped ∷ []) (salvagedFrom form w records))
 
 -- nothing of an image that 11 to 15 refuse
 unfoldable pub salvageOf : List ℕ → Salvage
-salvageOf image =
-    cond (isSound (wholeRefusal image)) (salvagedFrom (formOf image) [] (recordsIn image)) (record { wall = []; faults = [] })
+salvageOf image = cond (isSound (wholeRefusal image)) (salvagedFrom (formOf image) [] (recordsIn image)) (record { wall = []; faults = [] })
 
 -- the lines of a record with this number, and of some records that are numbered from it on
 unfoldable pub linesOf : ℕ → List Fault → List ℕ

@@ -51,9 +51,7 @@ wholeRefusal image =
     cond (ltb (length image) 2) TooShort
     (ifKnown (formWith (lastByte image))
     (λ form. cond (ltb mostPanels (countOf image)) TooMany
-    (cond (ltb (length image) (2 * countOf image + 2)) NoStarts
-    (cond (startsFit image) Nothing Starts)))
-    OtherForm)
+    (cond (ltb (length image) (2 * countOf image + 2)) NoStarts (cond (startsFit image) Nothing Starts))) OtherForm)
 
 -- record k runs from its start to the next one, the last to the first byte of the starts
 abbrev pub recordIn : List ℕ → ℕ → List ℕ

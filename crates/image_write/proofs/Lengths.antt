@@ -19,6 +19,7 @@ use Rattle.panels.specs.Wall.{Wall, blank}
 use Rattle.panels.specs.WellFormed.{GoodWall}
 use Rattle.lists.proofs.Places.{getD-inside}
 use Rattle.panels.proofs.Formed.{good-at}
+use Rattle.image_write.specs.declared.Written.{Written}
 use Rattle.image_write.specs.Written.{field, fieldIn, fieldsOf, recordOf, recordsOf, highLow, startsOf, imageOf, recordSize}
 use Rattle.image_write.specs.Private.Sizes.{fieldsSize}
 use Rattle.lists.proofs.Flat.{alike-long}
@@ -133,3 +134,9 @@ Products size k n = ((size + 2) * n ≡ size * n + 2 * n) × (k < n → size * k
 pub products : (form : Form) (k n : ℕ) → Products (recordSize form) k n
 products One k n = (omega arith, (λ h. omega arith), (λ h. omega arith), omega arith, omega arith)
 products Two k n = (omega arith, (λ h. omega arith), (λ h. omega arith), omega arith, omega arith)
+
+-- how many bytes were written, none on a refusal
+abbrev pub bytesWritten : Written → ℕ
+bytesWritten (Written.Bytes n) = n
+bytesWritten Written.WouldLose = 0
+bytesWritten Written.NoRoom = 0

@@ -75,20 +75,13 @@ losesNothing form (p ∷ w) = keeps form (p .profile) (p .values) && losesNothin
 
 -- what writing answers: 31 comes before 19
 unfoldable pub writtenOf : Form → Wall → List ℕ → Written
-writtenOf form w out =
-    cond (losesNothing form w) (cond (leb (sizeOf form w) (length out)) (Bytes (sizeOf form w)) NoRoom) WouldLose
+writtenOf form w out = cond (losesNothing form w) (cond (leb (sizeOf form w) (length out)) (Bytes (sizeOf form w)) NoRoom) WouldLose
 
 -- its number, 0 where the image is written
 abbrev pub refusalNumber : Written → ℕ
 refusalNumber (Written.Bytes n) = 0
 refusalNumber Written.WouldLose = wouldLose
 refusalNumber Written.NoRoom = noRoom
-
--- how many bytes were written, none on a refusal
-abbrev pub bytesWritten : Written → ℕ
-bytesWritten (Bytes n) = n
-bytesWritten WouldLose = 0
-bytesWritten NoRoom = 0
 
 -- the output after it: past the image it is untouched, and on a refusal it is as before
 unfoldable pub outputOf : Form → Wall → List ℕ → List ℕ

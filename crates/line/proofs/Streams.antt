@@ -1,7 +1,7 @@
 -- A stream of bytes and quiet marks is the session of its bursts. Assumes nothing.
 use mathlib.Core.Path.{_≡_, refl, sym, ap, ap₂, _∙_}
 use mathlib.Core.Bool.{Bool, true, false}
-use mathlib.Core.List.{List, [], _∷_, _++_, append-nil, append-assoc}
+use mathlib.Core.List.{List, [], _∷_, _++_, foldl, append-nil, append-assoc}
 use Prim.Native.Nat.{ℕ, suc, _+_, _-_, _≤_, _<_, min}
 use native.Mathlib.Omega.{arith}
 use borrow.Author.Tests.{lt-ltb, le-ltb, ltb-true, ltb-false}
@@ -14,9 +14,15 @@ use Rattle.packet.proofs.Readings.{same-reading, long-reading, seems-alike}
 use Rattle.panels.specs.declared.Table.{Table}
 use Rattle.panels.specs.Wall.{Wall}
 use Rattle.line.specs.declared.Receiver.{Receiver}
-use Rattle.answers.specs.Played.{answered, answeredOn, playedOn}
+use Rattle.line.specs.declared.Heard.{Heard}
+use Rattle.answers.specs.declared.Played.{Played}
+use Rattle.answers.specs.Played.{answered, answeredOn}
 use Rattle.answers.specs.Session.{byBurst, session}
-use Rattle.line.specs.Receiver.{Event, byte, quiet, burstsAfter, receiverOf, withByte, burstOf, readingIn, heardAs, atMark, fed, streamed}
+use Rattle.line.specs.Receiver.{Event, byte, quiet, burstsAfter, receiverOf, withByte, burstOf, atMark, streamed}
+
+-- what was answered, and a fresh receiver
+abbrev pub heardAs : Played → Heard
+heardAs p = record { receiver = receiverOf []; table = p .table; reply = p .reply; damage = p .damage }
 
 abbrev receiver : List ℕ → ℕ → Receiver
 receiver bs n = record { bytes = bs; count = n }
@@ -71,7 +77,7 @@ long-kept l h =
     let none : longest - length l ≡ 0 = omega arith in
     rw (count, none, append-nil (take longest l)) (take-all (longest + 1) (take longest l ++ 0 ∷ []) (simp (length-append, length-take) (omega arith)))
 
-long-alike : (l : List ℕ) → (longest + 1) ≤ length l → readingIn (receiverOf l) ≡ readingOf l
+long-alike : (l : List ℕ) → (longest + 1) ≤ length l → readingOf (burstOf (receiverOf l)) ≡ readingOf l
 long-alike l h =
     let cut = ap readingOf (long-kept l h) ∙ long-reading _ (simp (length-append, length-take) (omega arith)) in
     let head : headSize ≤ length (take longest l) = simp length-take (omega arith) in
@@ -79,18 +85,17 @@ long-alike l h =
     cut ∙ same-reading refl refl seems ∙ sym (long-reading l h)
 
 -- the burst that a receiver has reads as the bytes do that it was fed
-reading-alike : (l : List ℕ) → readingIn (receiverOf l) ≡ readingOf l
+reading-alike : (l : List ℕ) → readingOf (burstOf (receiverOf l)) ≡ readingOf l
 reading-alike l = by-size _ (length l) (longest + 1) (λ h. ap readingOf (kept l h)) (long-alike l)
 
-fed-after : (l bs : List ℕ) → fed (receiverOf l) bs ≡ receiverOf (l ++ bs)
-unfolding fed
+fed-after : (l bs : List ℕ) → foldl withByte (receiverOf l) bs ≡ receiverOf (l ++ bs)
 fed-after l [] = ap receiverOf (sym (append-nil l))
-fed-after l (b ∷ bs) = ap (λ (r : Receiver). fed r bs) (with-byte l b) ∙ fed-after (l ++ b ∷ []) bs ∙ ap receiverOf (append-snoc l b bs)
+fed-after l (b ∷ bs) = ap (λ (r : Receiver). foldl withByte r bs) (with-byte l b) ∙ fed-after (l ++ b ∷ []) bs ∙ ap receiverOf (append-snoc l b bs)
 
 -- a burst of any length, byte after byte and then the mark, is answered by what is read of it, and its damage told
-pub marked : (t : Table) (b : List ℕ) → atMark (fed (receiverOf []) b) t ≡ heardAs (playedOn t b)
+pub marked : (t : Table) (b : List ℕ) → atMark (foldl withByte (receiverOf []) b) t ≡ heardAs (answeredOn t (readingOf b))
 unfolding atMark
-marked t b = ap (λ (r : Reading). heardAs (answeredOn t r)) (ap readingIn (fed-after [] b) ∙ reading-alike b)
+marked t b = ap (λ (r : Reading). heardAs (answeredOn t r)) (ap (λ (r : Receiver). readingOf (burstOf r)) (fed-after [] b) ∙ reading-alike b)
 
 -- from what was heard since the last mark on
 pub stream-after : (l : List ℕ) (w : Wall) (es : List Event) → streamed (receiverOf l) w es ≡ session w (burstsAfter l es)

@@ -31,35 +31,22 @@ receiverOf heard = record { bytes = take longest heard ++ replicate (longest - l
 
 unfoldable pub withByte : Receiver → ℕ → Receiver
 withByte r b =
-    cond (ltb (r .count) longest)
-    (record { bytes = set (r .bytes) (r .count) b; count = r .count + 1 })
+    cond (ltb (r .count) longest) (record { bytes = set (r .bytes) (r .count) b; count = r .count + 1 })
     (record { bytes = r .bytes; count = longest + 1 })
 
 -- the burst that it has, with one byte behind those kept for all that came past them
 unfoldable pub burstOf : Receiver → List ℕ
 burstOf r = take (r .count) (r .bytes ++ 0 ∷ [])
 
--- and what it says
-abbrev pub readingIn : Receiver → Reading
-readingIn r = readingOf (burstOf r)
-
 -- a quiet mark: the burst is answered, and the receiver is fresh
-abbrev pub heardAs : Played → Heard
-heardAs p = record { receiver = receiverOf []; table = p .table; reply = p .reply; damage = p .damage }
-
 unfoldable pub atMark : Receiver → Table → Heard
-atMark r t = heardAs (answeredOn t (readingIn r))
-
--- the bytes of a burst, one at a time
-unfoldable pub fed : Receiver → List ℕ → Receiver
-fed r [] = r
-fed r (b ∷ bytes) = fed (withByte r b) bytes
+atMark r t =
+    let p = answeredOn t (readingOf (burstOf r)) in record { receiver = receiverOf []; table = p .table; reply = p .reply; damage = p .damage }
 
 -- what the receiver makes of a stream
 unfoldable pub streamed : Receiver → Wall → List Event → Ended
 streamed r w [] = record { wall = w; replies = [] }
 streamed r w (byte b ∷ events) = streamed (withByte r b) w events
-streamed r w (quiet ∷ events) =
-    let o = answered w (readingIn r) in
+streamed r w (quiet ∷ events) = let o = answered w (readingOf (burstOf r)) in
     let e = streamed (receiverOf []) (o .wall) events in
     record { wall = e .wall; replies = o .reply ∷ e .replies }

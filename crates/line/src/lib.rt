@@ -1,9 +1,10 @@
 // The receiver of one serial line. It takes one byte or one quiet mark at a time and answers at the mark.
 ghost use mathlib.Core.Path.{_≡_};
-ghost use mathlib.Core.List.{[]};
+ghost use mathlib.Core.List.{[], foldl};
+ghost use Rattle.packet.specs.Reading.{readingOf};
 ghost use Rattle.panels.specs.WellFormed.{WellFormed};
 ghost use Rattle.answers.specs.Played.{answeredOn};
-ghost use Rattle.line.specs.Receiver.{receiverOf, withByte, readingIn, atMark, fed};
+ghost use Rattle.line.specs.Receiver.{receiverOf, withByte, burstOf, atMark};
 use answers::Played;
 use answers::Reply;
 use packet::Damage;
@@ -54,7 +55,7 @@ impl Receiver {
 
     // The bytes of a burst, one after the other.
     pub fn bytes(self, burst: &[u8]) -> Receiver
-        ensures { λ r. ⌜ r ≡ fed self (now (burst .entry)) ⌝ }
+        ensures { λ r. ⌜ r ≡ foldl withByte self (now (burst .entry)) ⌝ }
     {
         let mut receiver = self;
         let mut i = 0;
@@ -68,7 +69,7 @@ impl Receiver {
     // The answer to the burst that it has.
     fn answered(self, t: Table) -> Played
         requires { ⌜ WellFormed t ⌝ }
-        ensures { λ r. ⌜ r ≡ answeredOn t (readingIn self) ⌝ }
+        ensures { λ r. ⌜ r ≡ answeredOn t (readingOf (burstOf self)) ⌝ }
     {
         let bytes = self.bytes;
         let n = self.count;

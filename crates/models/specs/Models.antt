@@ -15,16 +15,12 @@ abbrev pub kindFor : ℕ → Kind
 kindFor n = ifKnown (kindWith n) (λ kind. kind) Kind.FifteenByTen
 
 -- the kind is among a panel's values
-abbrev pub kindIn : List ℕ → Kind
-kindIn values = kindFor (getD (valuesOf kindRow values) 0 0)
-
 abbrev pub modelIn : Profile → List ℕ → Model
-modelIn profile values = record { profile = profile; kind = kindIn values }
+modelIn profile values = record { profile = profile; kind = kindFor (getD (valuesOf kindRow values) 0 0) }
 
 -- The bytes vs may be held in row k: they are in its ranges, and a tiling's position is one of its wall, the wall one of the kind's.
 abbrev pub allowedFor : Model → ℕ → List ℕ → Bool
-allowedFor model k vs =
-    inRanges (model .profile) k vs && (not (eqb k tilingRow) || inWall (model .kind) (getD vs 2 0) (getD vs 3 0))
+allowedFor model k vs = inRanges (model .profile) k vs && (not (eqb k tilingRow) || inWall (model .kind) (getD vs 2 0) (getD vs 3 0))
 
 -- A set of tiling whose wall is 0 means don't care (02, A6): the byte of another wall then stands there. All else is as it was.
 unfoldable pub filled : ℕ → ℕ → List ℕ → List ℕ

@@ -44,8 +44,7 @@ isIntact burst = leb shortest (length burst) && leb (length burst) longest && eq
 -- What is wrong with a burst: the first that holds, in 02's order (A3). An empty burst has no damage.
 unfoldable pub damageOf : List ℕ → Damage
 damageOf burst =
-    cond (eqb (length burst) 0)
-    Nothing
+    cond (eqb (length burst) 0) Nothing
     (cond (ltb (length burst) shortest) TooShort
     (cond (ltb longest (length burst)) TooLong
     (cond (not (eqb (getD burst 0 0) (length burst))) Size (cond (not (eqb (xorAll burst) 0)) Checksum Nothing))))
@@ -62,8 +61,7 @@ damageNumber Checksum = 4
 -- what is wrong
 unfoldable pub verdictOf : List ℕ → Verdict
 verdictOf burst =
-    cond (eqb (length burst) 0)
-    Empty
+    cond (eqb (length burst) 0) Empty
     (cond (isIntact burst) (Intact (monitorId (getD burst 1 0)) (groupId (getD burst 2 0)) (length burst - shortest)) (Damaged (damageOf burst)))
 
 -- the damage that a verdict says

@@ -63,10 +63,10 @@ turned-places g w =
 
 -- the panels are the same ones, where each keeps its ID and its group
 pub same-panels : (g : Panel → Panel) → ((p : Panel) → (g p .id ≡ p .id) × (g p .group ≡ p .group)) → (w : Wall) → SamePanels w (map g w)
-same-panels g keeps [] = record { ids = refl; groups = refl }
+same-panels g keeps [] = (refl, refl)
 same-panels g keeps (p ∷ w) =
     let rest = same-panels g keeps w in
-    record { ids = ap₂ (λ (i : MonitorId) (l : List MonitorId). i ∷ l) (sym (keeps p .0)) (rest .ids); groups = ap₂ (λ (i : GroupId) (l : List GroupId). i ∷ l) (sym (keeps p .1)) (rest .groups) }
+    (ap₂ (λ (i : MonitorId) (l : List MonitorId). i ∷ l) (sym (keeps p .0)) (rest .0), ap₂ (λ (i : GroupId) (l : List GroupId). i ∷ l) (sym (keeps p .1)) (rest .1))
 
 -- places that hold a wall hold it in their first: a table is made of them
 pub held-first : {l : List Panel} {w : Wall} (n : ℕ) → l ≡ inPlaces w → n ≡ length w → take n l ≡ w

@@ -13,7 +13,7 @@ use lib.Seq.{take-add, take-all}
 use Rattle.settings.specs.declared.Profile.{Profile}
 use Rattle.models.specs.declared.Model.{Model}
 use Rattle.settings.specs.Settings.{settings, allowedByRow, byteCount, place, freshValues, valuesOf, valuesWith, valueCount, rowCount, kindRow, tilingRow}
-use Rattle.models.specs.Models.{kindFor, allowedFor, kindIn, modelIn}
+use Rattle.models.specs.Models.{kindFor, allowedFor, modelIn}
 use Rattle.settings.proofs.Laws.{place-fits, places-apart, fresh-count}
 use Rattle.models.proofs.Laws.{allowed-many, fresh-allowed, kind-free}
 use Rattle.lists.proofs.Each.{alike}
@@ -93,7 +93,7 @@ with-in-range {profile} {values} i row vs a fresh = record { full = length-with 
     after : Model
     after = modelIn profile (valuesWith row vs values)
 
-    same-kind : (row ≡ kindRow → ⊥) → kindIn (valuesWith row vs values) ≡ kindIn values
+    same-kind : (row ≡ kindRow → ⊥) → after .kind ≡ modelIn profile values .kind
     same-kind ne = ap (λ (l : List ℕ). kindFor (getD l 0 0)) (other-row row vs values n (i .full) kindRow (λ e. ne (sym e)))
 
     kept : (r : ℕ) → r < rowCount → row ≡ kindRow → (t : Bool) → eqb r tilingRow ≡ t → allowedFor after r (valuesOf r values) ≡ true

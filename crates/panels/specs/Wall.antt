@@ -63,14 +63,11 @@ panelsOf t = take (t .count) (t .panels)
 
 -- other values in the panel at place k, whose ID, group and profile stay
 unfoldable pub withValues : ℕ → List ℕ → Wall → Wall
-withValues k values w =
-    let p = getD w k blank in
-    set w k (record { id = p .id; group = p .group; profile = p .profile; values = values })
+withValues k values w = let p = getD w k blank in set w k (record { id = p .id; group = p .group; profile = p .profile; values = values })
 
 -- the same panels, whatever their settings: ID and group, place by place
-pub record SamePanels (w v : Wall) : Type 0 where
-  pub ids : map (λ (p : Panel). p .id) w ≡ map (λ (p : Panel). p .id) v
-  pub groups : map (λ (p : Panel). p .group) w ≡ map (λ (p : Panel). p .group) v
+abbrev pub SamePanels : Wall → Wall → Type 0
+SamePanels w v = (map (λ p. p .id) w ≡ map (λ p. p .id) v) × (map (λ p. p .group) w ≡ map (λ p. p .group) v)
 
 -- the place of the first panel, counted from k, that has the ID
 unfoldable pub placeFrom : MonitorId → ℕ → Wall → Place

@@ -32,8 +32,7 @@ refusalNumber UnknownKind = 7
 unfoldable pub addRefusal : Wall → MonitorId → GroupId → ℕ → ℕ → Refusal
 addRefusal w i g n k =
     cond (leb mostPanels (length w)) Full
-    (cond (eqb (i .0) 0) IdZero
-    (ifThere (placeOf i w) IdTaken
+    (cond (eqb (i .0) 0) IdZero (ifThere (placeOf i w) IdTaken
     (cond (eqb (g .0) 0) GroupZero (ifKnown (profileWith n) (λ profile. ifKind (kindWith k) (λ kind. Nothing) UnknownKind) UnknownProfile))))
 
 -- the fresh panel of a profile and a kind, if there are such

@@ -28,11 +28,8 @@ pub record After : Type 0 where
   pub out : List ℕ
 
 -- both lengths 0, no damage told, both buffers as before
-abbrev pub refusedBy : ℕ → Outcome
-refusedBy number = record { refusal = number; answered = 0; written = 0; damage = 0 }
-
 abbrev pub refused : ℕ → List ℕ → List ℕ → After
-refused number answer out = record { outcome = refusedBy number; answer = answer; out = out }
+refused number answer out = record { outcome = record { refusal = number; answered = 0; written = 0; damage = 0 }; answer = answer; out = out }
 
 -- an answer and an image at the front of the buffers, their lengths, and the damage's number; the bytes past them are untouched
 abbrev pub given : List ℕ → List ℕ → Damage → List ℕ → List ℕ → After

@@ -1,6 +1,7 @@
 // The exported functions, for C: a setup image read, a burst played on it, and the setup written out again; or what can be kept
 // of an image that the reader refuses.
 ghost use mathlib.Core.Path.{_≡_};
+ghost use mathlib.Core.List.{[]};
 ghost use Prim.Native.Nat.{_≤_};
 ghost use mathlib.Core.Bool.{true, _&&_};
 ghost use lib.Dec.{leb};
@@ -11,7 +12,7 @@ ghost use Rattle.panels.specs.Wall.{panelsOf};
 ghost use Rattle.panels.specs.WellFormed.{WellFormed};
 ghost use Rattle.answers.specs.Reply.{sentBytes};
 ghost use Rattle.image_write.specs.Written.{sizeOf, setupOf, losesNothing};
-ghost use Rattle.undivarro.specs.Calls.{refusedBy, refusalFor, afterMove, afterPlay, afterRead, afterBack, afterSalvage};
+ghost use Rattle.undivarro.specs.Calls.{refused, refusalFor, afterMove, afterPlay, afterRead, afterBack, afterSalvage};
 use answers::Reply;
 use answers::Sent;
 use forms::Form;
@@ -60,7 +61,7 @@ fn refusal_for(read: Refusal, held: bool, room: bool) -> u32
 
 // A refusal: both lengths are 0, and no damage is told.
 fn refused(refusal: u32) -> Outcome
-    ensures { λ r. ⌜ r ≡ refusedBy refusal ⌝ }
+    ensures { λ r. ⌜ r ≡ refused refusal [] [] .outcome ⌝ }
 {
     Outcome {
         refusal,

@@ -1,12 +1,14 @@
 -- The receiver plays the burst, which keeps the table well-formed. Assumes nothing.
+use mathlib.Core.List.{foldl}
 use mathlib.Core.Path.{_≡_, sym, ap, subst, _∙_}
 use Rattle.panels.specs.WellFormed.{WellFormed}
-use Rattle.answers.specs.Played.{playedOn}
+use Rattle.packet.specs.Reading.{readingOf}
+use Rattle.answers.specs.Played.{answeredOn}
 use Rattle.answers.proofs.Formed.{answered-formed}
 use Rattle.line.specs.declared.Heard.{Heard}
 use Rattle.line.specs.declared.Receiver.{Receiver}
-use Rattle.line.specs.Receiver.{heardAs, atMark, fed}
-use Rattle.line.proofs.Streams.{marked}
+use Rattle.line.specs.Receiver.{atMark, withByte}
+use Rattle.line.proofs.Streams.{heardAs, marked}
 use borrow.Author.Needs.{needs}
 use Rattle.play.proofs.answer.Statement.{statement}
 use Rattle.play.proofs.answer.Tie as tie
@@ -51,11 +53,11 @@ write-all-requires-3 : tie.Need-write-all-requires-3
 write-all-requires-3 c κs = search needs
 
 -- the receiver, fed the bytes and a mark, gives what playing the burst gives
-heard : (c : tie.After-quiet) → let a = c .before .before .before .before .args in c .quiet .result ≡ heardAs (playedOn (a .t) (a .burst .now))
+heard : (c : tie.After-quiet) → let a = c .before .before .before .before .args in c .quiet .result ≡ heardAs (answeredOn (a .t) (readingOf (a .burst .now)))
 heard c =
     let fed-all = c .before in
     let a = fed-all .before .before .before .args in
-    let fresh = fed-all .bytes .ensures ∙ ap (λ (r : Receiver). fed r (a .burst .now)) (fed-all .before .fresh .ensures) in
+    let fresh = fed-all .bytes .ensures ∙ ap (λ (r : Receiver). foldl withByte r (a .burst .now)) (fed-all .before .fresh .ensures) in
     c .quiet .ensures ∙ ap (λ (r : Receiver). atMark r (a .t)) fresh ∙ marked (a .t) (a .burst .now)
 
 returns : tie.Need-returns

@@ -7,7 +7,8 @@ use Rattle.lists.specs.Lists.{laidOver}
 use Rattle.panels.specs.Wall.{panelsOf}
 use Rattle.forms.specs.declared.Form.the-variants.{Two}
 use Rattle.image_write.specs.declared.Written.{Written}
-use Rattle.image_write.specs.Written.{setupOf, sizeOf, bytesWritten}
+use Rattle.image_write.specs.Written.{setupOf, sizeOf}
+use Rattle.image_write.proofs.Lengths.{bytesWritten}
 use Rattle.image_write.proofs.Losing.{two-holds, is-written}
 use borrow.Author.Needs.{needs}
 use Rattle.salvage.proofs.write_kept.Statement.{statement}

@@ -5,7 +5,8 @@ use lib.ListN.{length}
 use Rattle.lists.specs.Lists.{laidOver}
 use Rattle.panels.specs.Wall.{panelsOf}
 use Rattle.image_write.specs.declared.Written.{Written}
-use Rattle.image_write.specs.Written.{setupOf, bytesWritten}
+use Rattle.image_write.specs.Written.{setupOf}
+use Rattle.image_write.proofs.Lengths.{bytesWritten}
 use Rattle.image_write.proofs.Lengths.{products}
 use Rattle.image_write.proofs.Losing.{is-written}
 use Rattle.image.proofs.Back.{image-size}

@@ -8,7 +8,7 @@ use lib.Seq.{take-all, length-take-le, take-append-le}
 use Rattle.packet.specs.Packet.{longest}
 use Rattle.packet.specs.Reading.{readingOf}
 use Rattle.packet.proofs.Readings.{same-reading, long-reading, seems-alike}
-use Rattle.answers.specs.Played.{answeredOn, playedOn}
+use Rattle.answers.specs.Played.{answeredOn}
 use Rattle.line.specs.Receiver.{burstOf}
 use borrow.Author.Needs.{needs}
 use Rattle.line.proofs.Receiver.answered.Statement.{statement}
@@ -61,7 +61,7 @@ unfolding burstOf
 returns-2 c =
     let a = c .before .before .before .before .args in
     let n : length (a .self .bytes) ≡ longest = search needs in
-    c .play .ensures ∙ ap (playedOn (a .t)) (sym (take-append-le (a .self .count) (a .self .bytes) (0 ∷ []) (omega arith)))
+    c .play .ensures ∙ ap (λ (b : List ℕ). answeredOn (a .t) (readingOf b)) (sym (take-append-le (a .self .count) (a .self .bytes) (0 ∷ []) (omega arith)))
 
 pub answered-spec : {M : Type 1} → statement M
 answered-spec =

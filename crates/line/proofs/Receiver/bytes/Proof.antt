@@ -1,6 +1,6 @@
 -- The invariant: the receiver so far, fed the bytes that are left, is the receiver fed all. Assumes nothing.
 use mathlib.Core.Path.{_≡_, refl, sym, ap, _∙_}
-use mathlib.Core.List.{List}
+use mathlib.Core.List.{List, foldl}
 use Prim.Native.Nat.{ℕ, _+_, _-_, _≤_, _<_}
 use native.Mathlib.Numerals.{add-one}
 use native.Mathlib.Omega.{arith}
@@ -8,17 +8,16 @@ use lib.ListN.{length, getD, drop}
 use lib.Seq.{drop-cons, drop-length}
 use borrow.Author.Needs.{needs}
 use Rattle.line.specs.declared.Receiver.{Receiver}
-use Rattle.line.specs.Receiver.{withByte, fed}
+use Rattle.line.specs.Receiver.{withByte}
 use Rattle.line.proofs.Receiver.bytes.Statement.{statement}
 use Rattle.line.proofs.Receiver.bytes.Tie as tie
 
 one-more : (r : Receiver) (bytes : List ℕ) (i : ℕ) → i < length bytes
-    → fed r (drop i bytes) ≡ fed (withByte r (getD bytes i 0)) (drop (i + 1) bytes)
-unfolding fed
+    → foldl withByte r (drop i bytes) ≡ foldl withByte (withByte r (getD bytes i 0)) (drop (i + 1) bytes)
 one-more r bytes i h = rw (drop-cons bytes i 0, add-one)
 
 abbrev Inv-loop : tie.InvT-loop
-Inv-loop burst receiver₀ i₀ receiver i = (i ≤ length burst) × (fed receiver₀ burst ≡ fed receiver (drop i burst))
+Inv-loop burst receiver₀ i₀ receiver i = (i ≤ length burst) × (foldl withByte receiver₀ burst ≡ foldl withByte receiver (drop i burst))
 
 abbrev μ-loop : tie.MeasureT-loop
 μ-loop burst receiver₀ i₀ receiver i = length burst - i
@@ -43,10 +42,9 @@ loop-again c =
     let loop = c .before .before .before in
     let burst = loop .before .before .args .burst .now in
     let next = one-more (loop .loop .receiver) burst (loop .loop .i) (omega arith) in
-    (omega arith, loop .loop .inv .1 ∙ next ∙ ap (λ (r : Receiver). fed r (drop (loop .loop .i + 1) burst)) (sym (c .byte .ensures)))
+    (omega arith, loop .loop .inv .1 ∙ next ∙ ap (λ (r : Receiver). foldl withByte r (drop (loop .loop .i + 1) burst)) (sym (c .byte .ensures)))
 
 returns : tie.Need-returns Inv-loop μ-loop
-unfolding fed
 returns c =
     let loop = c .before in
     let burst = loop .before .before .args .burst .now in

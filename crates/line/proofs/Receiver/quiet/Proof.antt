@@ -1,7 +1,8 @@
 -- What is answered, and the receiver fresh. Assumes nothing.
 use mathlib.Core.Path.{ap}
 use borrow.Author.Needs.{needs}
-use Rattle.line.specs.Receiver.{receiverOf, heardAs, atMark}
+use Rattle.line.specs.Receiver.{receiverOf, atMark}
+use Rattle.line.proofs.Streams.{heardAs}
 use Rattle.line.proofs.Receiver.quiet.Statement.{statement}
 use Rattle.line.proofs.Receiver.quiet.Tie as tie
 
