@@ -30,8 +30,7 @@ unfoldable pub receiverOf : List ℕ → Receiver
 receiverOf heard = record { bytes = take longest heard ++ replicate (longest - length heard) 0; count = min (length heard) (longest + 1) }
 
 unfoldable pub withByte : Receiver → ℕ → Receiver
-withByte r b =
-    cond (ltb (r .count) longest) (record { bytes = set (r .bytes) (r .count) b; count = r .count + 1 })
+withByte r b = cond (ltb (r .count) longest) (record { bytes = set (r .bytes) (r .count) b; count = r .count + 1 })
     (record { bytes = r .bytes; count = longest + 1 })
 
 -- the burst that it has, with one byte behind those kept for all that came past them
@@ -40,8 +39,7 @@ burstOf r = take (r .count) (r .bytes ++ 0 ∷ [])
 
 -- a quiet mark: the burst is answered, and the receiver is fresh
 unfoldable pub atMark : Receiver → Table → Heard
-atMark r t =
-    let p = answeredOn t (readingOf (burstOf r)) in record { receiver = receiverOf []; table = p .table; reply = p .reply; damage = p .damage }
+atMark r t = let p = answeredOn t (readingOf (burstOf r)) in record { receiver = receiverOf []; table = p .table; reply = p .reply; damage = p .damage }
 
 -- what the receiver makes of a stream
 unfoldable pub streamed : Receiver → Wall → List Event → Ended

@@ -43,8 +43,7 @@ isIntact burst = leb shortest (length burst) && leb (length burst) longest && eq
 
 -- What is wrong with a burst: the first that holds, in 02's order (A3). An empty burst has no damage.
 unfoldable pub damageOf : List ℕ → Damage
-damageOf burst =
-    cond (eqb (length burst) 0) Nothing
+damageOf burst = cond (eqb (length burst) 0) Nothing
     (cond (ltb (length burst) shortest) TooShort
     (cond (ltb longest (length burst)) TooLong
     (cond (not (eqb (getD burst 0 0) (length burst))) Size (cond (not (eqb (xorAll burst) 0)) Checksum Nothing))))
@@ -60,8 +59,7 @@ damageNumber Checksum = 4
 -- size, monitor ID, group, data, checksum: of an intact burst the ID, the group and the count of its data bytes; of a damaged one
 -- what is wrong
 unfoldable pub verdictOf : List ℕ → Verdict
-verdictOf burst =
-    cond (eqb (length burst) 0) Empty
+verdictOf burst = cond (eqb (length burst) 0) Empty
     (cond (isIntact burst) (Intact (monitorId (getD burst 1 0)) (groupId (getD burst 2 0)) (length burst - shortest)) (Damaged (damageOf burst)))
 
 -- the damage that a verdict says
