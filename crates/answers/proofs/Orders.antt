@@ -10,7 +10,6 @@ use Rattle.lists.specs.Lists.{same}
 use Rattle.lists.proofs.Both.{both}
 use Rattle.lists.proofs.Same.{same-first}
 use Rattle.finding.specs.declared.Found.{Found}
-use Rattle.finding.specs.declared.Found.the-variants.{Set, Get, Nothing}
 use Rattle.settings.specs.Settings.{settings, getCode, byteCount, place, allowedByRow, valuesOf, rowCount, kindRow, powerRow, off}
 use Rattle.finding.specs.Found.{foundBy}
 use Rattle.models.specs.Models.{allowedFor}
@@ -20,21 +19,20 @@ use Rattle.models.proofs.Filled.{length-filled}
 use Rattle.panels.specs.declared.Panel.{Panel}
 use Rattle.panels.specs.Wall.{modelOf}
 use Rattle.answers.specs.declared.Order.{Order}
-use Rattle.answers.specs.declared.Order.the-variants.{Report, Store, NotAvailable}
 use Rattle.answers.specs.Judged.{Command, getOf, setOf, unavailable, command, commandBy, notAvailable, reported, taken, stored, heldThen, takes, judge}
 use Rattle.answers.specs.Private.Orders.{orderOf}
 
 abbrev pub OrderIs : List ℕ → Order → Type 0
-OrderIs d (Report row) = (row < rowCount) × (command d ≡ getOf row)
-OrderIs d (Store row) = (row < rowCount) × (0 < length d) × (command d ≡ setOf row (drop 1 d))
-OrderIs d NotAvailable = (p : Panel) → judge (command d) p ≡ notAvailable
+OrderIs d (Order.Report row) = (row < rowCount) × (command d ≡ getOf row)
+OrderIs d (Order.Store row) = (row < rowCount) × (0 < length d) × (command d ≡ setOf row (drop 1 d))
+OrderIs d Order.NotAvailable = (p : Panel) → judge (command d) p ≡ notAvailable
 
 order-found : (code : ℕ) (vs : List ℕ) (f : Found) → IsFound code f → command (code ∷ vs) ≡ commandBy f vs
     → OrderIs (code ∷ vs) (orderOf (commandBy f vs))
-order-found code vs (Set row) (h, _, _) e = (h, omega arith, e)
-order-found code [] (Get row) (h, _, _) e = (h, e)
-order-found code (v ∷ vs) (Get row) h e = λ p. unfold judge in rw e
-order-found code vs Nothing h e = λ p. unfold judge in rw e
+order-found code vs (Found.Set row) (h, _, _) e = (h, omega arith, e)
+order-found code [] (Found.Get row) (h, _, _) e = (h, e)
+order-found code (v ∷ vs) (Found.Get row) h e = λ p. unfold judge in rw e
+order-found code vs Found.Nothing h e = λ p. unfold judge in rw e
 
 pub order-right : (d : List ℕ) → OrderIs d (orderOf (command d))
 unfolding command
@@ -64,10 +62,10 @@ on-line [] = tt
 on-line (code ∷ vs) = go (foundBy code) vs (found-right code)
   where
     go : (f : Found) (vs : List ℕ) → IsFound code f → OnLine (commandBy f vs)
-    go (Set row) vs (h, _, s) = (s, h)
-    go (Get row) [] (h, _, s) = (s, h)
-    go (Get row) (v ∷ vs) f = tt
-    go Nothing vs f = tt
+    go (Found.Set row) vs (h, _, s) = (s, h)
+    go (Found.Get row) [] (h, _, s) = (s, h)
+    go (Found.Get row) (v ∷ vs) f = tt
+    go Found.Nothing vs f = tt
 
 -- what a panel takes its own profile and kind allow it to hold,
 pub taken-allowed : (row : ℕ) (vs : List ℕ) (p : Panel) → takes row vs p ≡ true → allowedFor (modelOf p) row (heldThen row vs p) ≡ true

@@ -13,7 +13,7 @@ use Rattle.packet.specs.declared.MonitorId.{MonitorId}
 use Rattle.packet.specs.declared.GroupId.{GroupId}
 use Rattle.packet.specs.Packet.{groupId}
 use Rattle.panels.specs.declared.Panel.{Panel}
-use Rattle.panels.specs.declared.Place.the-variants.{At, Nowhere}
+use Rattle.panels.specs.declared.Place.{Place}
 use Rattle.panels.specs.Wall.{Wall, blank, tableOf, placeOf}
 use Rattle.packet.specs.Answered.{isHeard}
 use Rattle.panels.specs.Addressed.{reaches}
@@ -58,7 +58,7 @@ module _ (i : MonitorId) (c : Command) (named : i .0 ≡ 0 → ⊥) where
   own p e = rw (ne-eqb _ _ named, eq-eqb _ _ e)
 
   -- a packet to one panel: that panel is asked
-  pub heard-there : (w : Wall) (k : ℕ) → GoodWall w → placeOf i w ≡ At k → inTable (playedPacket w i (groupId 0) c) ≡ asked w k c
+  pub heard-there : (w : Wall) (k : ℕ) → GoodWall w → placeOf i w ≡ Place.At k → inTable (playedPacket w i (groupId 0) c) ≡ asked w k c
   unfolding isHeard
   heard-there w k good e =
       let (h, same) = place-there i w k e in
@@ -69,7 +69,7 @@ module _ (i : MonitorId) (c : Command) (named : i .0 ≡ 0 → ⊥) where
       rw (walls, ne-eqb _ _ named, e, ← id)
 
   -- a packet to a panel that is not there
-  pub heard-nowhere : (w : Wall) → placeOf i w ≡ Nowhere
+  pub heard-nowhere : (w : Wall) → placeOf i w ≡ Place.Nowhere
       → inTable (playedPacket w i (groupId 0) c) ≡ record { table = tableOf w; reply = silence; damage = Damage.Nothing }
   unfolding isHeard
   heard-nowhere w e =

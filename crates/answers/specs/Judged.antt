@@ -7,12 +7,11 @@ use lib.Dec.{eqb}
 use lib.ListN.{getD}
 use Rattle.lists.specs.Lists.{same}
 use Rattle.finding.specs.declared.Found.{Found}
-use Rattle.finding.specs.declared.Found.the-variants.{Set, Get, Nothing}
 use Rattle.settings.specs.Settings.{getCode, valuesOf, valuesWith, powerRow, off}
 use Rattle.finding.specs.Found.{foundBy}
 use Rattle.models.specs.Models.{allowedFor, filled}
 use Rattle.packet.specs.declared.MonitorId.{MonitorId}
-use Rattle.packet.specs.declared.Control.the-variants.{Ack, Nav}
+use Rattle.packet.specs.declared.Control.{Control}
 use Rattle.panels.specs.declared.Panel.{Panel}
 use Rattle.panels.specs.Wall.{modelOf}
 use Rattle.answers.specs.declared.Reply.{Reply}
@@ -25,10 +24,10 @@ pub data Command : Type 0 where
 
 -- set data is the set code and then the values, get data the get code alone
 abbrev pub commandBy : Found → List ℕ → Command
-commandBy (Set row) values = setOf row values
-commandBy (Get row) [] = getOf row
-commandBy (Get row) (v ∷ values) = unavailable
-commandBy Nothing values = unavailable
+commandBy (Found.Set row) values = setOf row values
+commandBy (Found.Get row) [] = getOf row
+commandBy (Found.Get row) (v ∷ values) = unavailable
+commandBy Found.Nothing values = unavailable
 
 unfoldable pub command : List ℕ → Command
 command [] = unavailable
@@ -69,6 +68,6 @@ panelAfter (taken q) p = q
 
 -- a get: the report alone; a set: ACK; else NAV
 abbrev pub replyBy : MonitorId → Judged → Reply
-replyBy i notAvailable = wordFrom i Nav
+replyBy i notAvailable = wordFrom i Control.Nav
 replyBy i (reported d) = reportFrom i d
-replyBy i (taken q) = wordFrom i Ack
+replyBy i (taken q) = wordFrom i Control.Ack

@@ -6,14 +6,12 @@ use lib.ListN.{getD}
 use Rattle.packet.specs.declared.MonitorId.{MonitorId}
 use Rattle.packet.specs.declared.GroupId.{GroupId}
 use Rattle.packet.specs.declared.Verdict.{Verdict}
-use Rattle.packet.specs.declared.Verdict.the-variants.{Empty, Damaged, Intact}
-use Rattle.packet.specs.declared.Control.the-variants.{Nack}
+use Rattle.packet.specs.declared.Control.{Control}
 use Rattle.packet.specs.declared.Addressee.{Addressee}
 use Rattle.packet.specs.Packet.{damageIn}
 use Rattle.packet.specs.Reading.{Reading, readingOf}
 use Rattle.panels.specs.declared.Panel.{Panel}
 use Rattle.panels.specs.declared.Place.{Place}
-use Rattle.panels.specs.declared.Place.the-variants.{At, Nowhere}
 use Rattle.panels.specs.declared.Table.{Table}
 use Rattle.panels.specs.Wall.{Wall, blank, tableOf, panelsOf, placeOf, ifThere}
 use Rattle.packet.specs.Answered.{isHeard}
@@ -33,8 +31,8 @@ turned i g c p = cond (reaches i g p) (panelAfter (judge c p) p) p
 
 -- silence where no panel has the ID, else what that panel's judgement says
 abbrev pub replyFrom : Wall → MonitorId → Command → Place → Reply
-replyFrom w i c Nowhere = silence
-replyFrom w i c (At k) = replyBy i (judge c (getD w k blank))
+replyFrom w i c Place.Nowhere = silence
+replyFrom w i c (Place.At k) = replyBy i (judge c (getD w k blank))
 
 abbrev pub playedPacket : Wall → MonitorId → GroupId → Command → Outcome
 playedPacket w i g c = record { wall = map (turned i g c) w; reply = cond (isHeard i g) (replyFrom w i c (placeOf i w)) silence }
@@ -42,12 +40,12 @@ playedPacket w i g c = record { wall = map (turned i g c) w; reply = cond (isHea
 -- NACK if the ID that a damaged burst seems to be for is a panel's
 abbrev pub nackFrom : Wall → Addressee → Reply
 nackFrom w Addressee.Nobody = silence
-nackFrom w (Addressee.One i) = ifThere (placeOf i w) (wordFrom i Nack) silence
+nackFrom w (Addressee.One i) = ifThere (placeOf i w) (wordFrom i Control.Nack) silence
 
 abbrev pub answeredBy : Verdict → Wall → List ℕ → Addressee → Outcome
-answeredBy Empty w d seems = record { wall = w; reply = silence }
-answeredBy (Damaged damage) w d seems = record { wall = w; reply = nackFrom w seems }
-answeredBy (Intact i g n) w d seems = playedPacket w i g (command d)
+answeredBy Verdict.Empty w d seems = record { wall = w; reply = silence }
+answeredBy (Verdict.Damaged damage) w d seems = record { wall = w; reply = nackFrom w seems }
+answeredBy (Verdict.Intact i g n) w d seems = playedPacket w i g (command d)
 
 -- what was read of a burst is all that counts
 unfoldable pub answered : Wall → Reading → Outcome

@@ -12,10 +12,8 @@ use Rattle.lists.specs.Lists.{laidOver}
 use Rattle.packet.specs.Control.{controlData}
 use Rattle.refusals.specs.Refusals.{noRoom}
 use Rattle.answers.specs.declared.Answer.{Answer}
-use Rattle.answers.specs.declared.Answer.the-variants.{Silence, Word, Report}
 use Rattle.answers.specs.declared.Reply.{Reply}
 use Rattle.answers.specs.declared.Sent.{Sent}
-use Rattle.answers.specs.declared.Sent.the-variants.{Bytes, NoRoom}
 
 -- a report's data at its longest: the get code, and the values of the largest row
 abbrev pub mostReported : ℕ
@@ -23,27 +21,27 @@ mostReported = mostValues + 1
 
 -- what a reply does not use is 0
 abbrev pub silence : Reply
-silence = record { answer = Silence; id = monitorId 0; bytes = replicate mostReported 0; count = 0 }
+silence = record { answer = Answer.Silence; id = monitorId 0; bytes = replicate mostReported 0; count = 0 }
 
 abbrev pub wordFrom : MonitorId → Control → Reply
-wordFrom i c = record { answer = Word c; id = i; bytes = replicate mostReported 0; count = 0 }
+wordFrom i c = record { answer = Answer.Word c; id = i; bytes = replicate mostReported 0; count = 0 }
 
 -- a report's data: the get code and then the values
 abbrev pub reportFrom : MonitorId → List ℕ → Reply
-reportFrom i d = record { answer = Report; id = i; bytes = d ++ replicate (mostReported - length d) 0; count = length d }
+reportFrom i d = record { answer = Answer.Report; id = i; bytes = d ++ replicate (mostReported - length d) 0; count = length d }
 
 -- what goes out: a packet with group 0 and the panel's ID, or nothing
 abbrev pub sentBy : Answer → MonitorId → List ℕ → List ℕ
-sentBy Silence i d = []
-sentBy (Word c) i d = packetOf i (groupId 0) (controlData c)
-sentBy Report i d = packetOf i (groupId 0) d
+sentBy Answer.Silence i d = []
+sentBy (Answer.Word c) i d = packetOf i (groupId 0) (controlData c)
+sentBy Answer.Report i d = packetOf i (groupId 0) d
 
 unfoldable pub sentBytes : Reply → List ℕ
 sentBytes r = sentBy (r .answer) (r .id) (take (r .count) (r .bytes))
 
 -- an answer needs room for any packet
 unfoldable pub sentOf : List ℕ → Reply → Sent
-sentOf out r = cond (leb longest (length out)) (Bytes (length (sentBytes r))) NoRoom
+sentOf out r = cond (leb longest (length out)) (Sent.Bytes (length (sentBytes r))) Sent.NoRoom
 
 -- its number, 0 where it is written
 abbrev pub refusalNumber : Sent → ℕ

@@ -11,7 +11,6 @@ use Rattle.models.proofs.Filled.{filled-again}
 use Rattle.packet.specs.declared.MonitorId.{MonitorId}
 use Rattle.packet.specs.declared.GroupId.{GroupId}
 use Rattle.packet.specs.declared.Verdict.{Verdict}
-use Rattle.packet.specs.declared.Verdict.the-variants.{Empty, Damaged, Intact}
 use Rattle.packet.specs.Reading.{readingOf}
 use Rattle.panels.specs.declared.Panel.{Panel}
 use Rattle.panels.specs.Wall.{Wall, blank, panelsOf}
@@ -28,9 +27,9 @@ use Rattle.demands.specs.Again.{addressedBy, Again, done, again, other, 
 
 -- what a burst with this verdict and data makes of a panel, and bursts one after the other
 abbrev changedBy : Verdict → List ℕ → Panel → Panel
-changedBy Empty d p = p
-changedBy (Damaged damage) d p = p
-changedBy (Intact i g n) d p = turned i g (command d) p
+changedBy Verdict.Empty d p = p
+changedBy (Verdict.Damaged damage) d p = p
+changedBy (Verdict.Intact i g n) d p = turned i g (command d) p
 
 abbrev verdict : List ℕ → Verdict
 verdict b = readingOf b .verdict
@@ -50,9 +49,9 @@ unfolding answered
 played-each w b = go (verdict b)
   where
     go : (v : Verdict) → answeredBy v w (part b) (readingOf b .seems) .wall ≡ map (changedBy v (part b)) w
-    go Empty = sym (map-id w)
-    go (Damaged d) = sym (map-id w)
-    go (Intact i g n) = refl
+    go Verdict.Empty = sym (map-id w)
+    go (Verdict.Damaged d) = sym (map-id w)
+    go (Verdict.Intact i g n) = refl
 
 session-each : (w : Wall) (bs : List (List ℕ)) → session w bs .wall ≡ map (changedByAll bs) w
 unfolding byBurst
@@ -61,20 +60,20 @@ session-each w (b ∷ bs) = session-each (played w b .wall) bs ∙ ap (map (chan
 
 -- a panel that is not addressed stays, and whom another burst addresses stays so too
 not-addressed : (v : Verdict) (d : List ℕ) (p : Panel) → addressedBy v p ≡ false → changedBy v d p ≡ p
-not-addressed Empty d p e = refl
-not-addressed (Damaged damage) d p e = refl
-not-addressed (Intact i g n) d p e = stays i g _ p e
+not-addressed Verdict.Empty d p e = refl
+not-addressed (Verdict.Damaged damage) d p e = refl
+not-addressed (Verdict.Intact i g n) d p e = stays i g _ p e
 
 same-reached : (i : MonitorId) (g : GroupId) (v : Verdict) (d : List ℕ) (p : Panel) → reaches i g (changedBy v d p) ≡ reaches i g p
 unfolding stored reaches
-same-reached i g Empty d p = refl
-same-reached i g (Damaged damage) d p = refl
-same-reached i g (Intact j h n) d p = turned-keeps (reaches i g) p (λ row vs. refl) j h _
+same-reached i g Verdict.Empty d p = refl
+same-reached i g (Verdict.Damaged damage) d p = refl
+same-reached i g (Verdict.Intact j h n) d p = turned-keeps (reaches i g) p (λ row vs. refl) j h _
 
 same-addressed : (v : Verdict) (c : List ℕ) (p : Panel) → addressedBy v (changed c p) ≡ addressedBy v p
-same-addressed Empty c p = refl
-same-addressed (Damaged d) c p = refl
-same-addressed (Intact i g n) c p = same-reached i g (verdict c) (part c) p
+same-addressed Verdict.Empty c p = refl
+same-addressed (Verdict.Damaged d) c p = refl
+same-addressed (Verdict.Intact i g n) c p = same-reached i g (verdict c) (part c) p
 
 -- A panel that a packet turned is not turned further by it.
 module _ (i : MonitorId) (g : GroupId) (p : Panel) (good : GoodPanel p) where
@@ -126,9 +125,9 @@ module _ (i : MonitorId) (g : GroupId) (p : Panel) (good : GoodPanel p) where
       go false r = unmoved c (stays i g c p r)
 
 changed-again : (v : Verdict) (d : List ℕ) (p : Panel) → GoodPanel p → changedBy v d (changedBy v d p) ≡ changedBy v d p
-changed-again Empty d p good = refl
-changed-again (Damaged damage) d p good = refl
-changed-again (Intact i g n) d p good = turned-again i g p good _
+changed-again Verdict.Empty d p good = refl
+changed-again (Verdict.Damaged damage) d p good = refl
+changed-again (Verdict.Intact i g n) d p good = turned-again i g p good _
 
 -- Nor after a burst that does not address it as well.
 among-others : (b c : List ℕ) (q : Panel) → (addressedBy (verdict b) q && addressedBy (verdict c) q) ≡ false → changed b q ≡ q

@@ -7,7 +7,6 @@ use borrow.Author.Tests.{leb-true, leb-false, lt-ltb, le-ltb, eqb-false}
 use lib.Dec.{leb, ltb, eqb}
 use lib.ListN.{length, getD}
 use Rattle.packet.specs.declared.Damage.{Damage}
-use Rattle.packet.specs.declared.Damage.the-variants.{Nothing, TooShort, TooLong, Size, Checksum}
 use Rattle.xor.specs.Xor.{xorAll}
 use Rattle.packet.specs.Packet.{isIntact, damageOf, damageNumber, verdictOf, dataOf}
 use Rattle.packet.specs.Reading.{readingOf}
@@ -31,7 +30,7 @@ unfolding damageOf
 kinds b = rw (damage-said b, short (length b)) (go (eqb (length b) 0) (ltb (length b) 4) (ltb 40 (length b)) (eqb (getD b 0 0) (length b)) (eqb (xorAll b) 0))
   where
     go : (none short long size sum : Bool)
-        → damageNumber (cond none Nothing (cond short TooShort (cond long TooLong (cond (not size) Size (cond (not sum) Checksum Nothing)))))
+        → damageNumber (cond none Damage.Nothing (cond short Damage.TooShort (cond long Damage.TooLong (cond (not size) Damage.Size (cond (not sum) Damage.Checksum Damage.Nothing)))))
         ≡ cond none 0 (cond short 1 (cond long 2 (cond (not size) 3 (cond sum 0 4))))
     go true short long size sum = refl
     go false true long size sum = refl
@@ -41,12 +40,12 @@ kinds b = rw (damage-said b, short (length b)) (go (eqb (length b) 0) (ltb (leng
     go false false false true false = refl
 
 -- a damage has a number
-numbered : (d : Damage) → (d ≡ Nothing → ⊥) → eqb (damageNumber d) 0 ≡ false
-numbered Nothing h = absurd (h refl)
-numbered TooShort h = refl
-numbered TooLong h = refl
-numbered Size h = refl
-numbered Checksum h = refl
+numbered : (d : Damage) → (d ≡ Damage.Nothing → ⊥) → eqb (damageNumber d) 0 ≡ false
+numbered Damage.Nothing h = absurd (h refl)
+numbered Damage.TooShort h = refl
+numbered Damage.TooLong h = refl
+numbered Damage.Size h = refl
+numbered Damage.Checksum h = refl
 
 pub no-damage : NoDamage
 unfolding damageOf

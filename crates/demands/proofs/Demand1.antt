@@ -11,29 +11,25 @@ use Rattle.packet.specs.Answered.{isHeard}
 use Rattle.packet.specs.declared.MonitorId.{MonitorId}
 use Rattle.packet.specs.declared.GroupId.{GroupId}
 use Rattle.packet.specs.declared.Verdict.{Verdict}
-use Rattle.packet.specs.declared.Verdict.the-variants.{Empty, Damaged, Intact}
 use Rattle.packet.specs.Packet.{longest}
 use Rattle.packet.specs.Reading.{readingOf}
 use Rattle.lists.specs.Lists.{laidOver}
 use Rattle.panels.specs.declared.Panel.{Panel}
 use Rattle.panels.specs.declared.Place.{Place}
-use Rattle.panels.specs.declared.Place.the-variants.{At, Nowhere}
 use Rattle.table_calls.specs.declared.Refusal.{Refusal}
-use Rattle.table_calls.specs.declared.Refusal.the-variants.{Nothing, Full, IdZero, IdTaken, GroupZero, UnknownProfile, NoPanel, UnknownKind}
 use Rattle.panels.specs.Wall.{Wall, blank, placeOf, panelsOf, ifThere}
 use Rattle.panels.specs.Addressed.{reaches}
 use Rattle.table_calls.specs.Calls.{refusalNumber as tableNumber, addRefusal, added, without, removed}
-use Rattle.answers.specs.declared.Sent.the-variants.{Bytes, NoRoom}
+use Rattle.answers.specs.declared.Sent.{Sent}
 use Rattle.answers.specs.Reply.{sentBytes, sentOf, refusalNumber as answerNumber, outputOf as answerOutput}
 use Rattle.answers.specs.Judged.{command}
 use Rattle.answers.specs.Played.{turned, answeredBy, answered}
 use Rattle.lists.proofs.Mapped.{map-same}
 use Rattle.answers.proofs.Turns.{either-way, stays}
 use Rattle.forms.specs.declared.Form.{Form}
-use Rattle.image_write.specs.declared.Written.the-variants.{Bytes as WrittenBytes, WouldLose, NoRoom as NotWritten}
+use Rattle.image_write.specs.declared.Written.{Written}
 use Rattle.image_write.specs.Written.{setupOf, sizeOf, losesNothing, writtenOf, refusalNumber as imageNumber, outputOf as imageOutput}
 use Rattle.refusals.specs.declared.Refusal.{Refusal as ImageRefusal}
-use Rattle.refusals.specs.declared.Refusal.the-variants.{Nothing as Sound}
 use Rattle.image_whole.specs.Whole.{formOf, wholeRefusal, recordsIn}
 use Rattle.refusals.specs.Refusals.{isSound}
 use Rattle.image_read.specs.Read.{Reading, refused, recordRefusal, readRecords, readOf}
@@ -43,7 +39,6 @@ use Rattle.host.specs.declared.Refusal.{Refusal as HostRefusal}
 use Rattle.requests.specs.declared.Request.{Request}
 use Rattle.host.specs.declared.Outcome.{Outcome}
 use Rattle.requests.specs.declared.Said.{Said}
-use Rattle.requests.specs.declared.Said.the-variants.{Ack, Nack, Nav, Report, Nothing as Silent}
 use Rattle.requests.specs.Request.{isRequest}
 use Rattle.host.specs.Machine.{Happening, start, burst, mark, State, Move, sendings, waits, quiet, begun, again, ending, heard, step}
 use Rattle.host.specs.Calls.{hostOf, stateOf, stepOf, call}
@@ -54,43 +49,43 @@ pub add-refused : AddRefused
 unfolding added
 add-refused w i g n k refused = go (addRefusal w i g n k) _ refused
   where
-    go : (r : Refusal) (then : Wall) → (r ≡ Nothing → ⊥) → cond (eqb (tableNumber r) 0) then w ≡ w
-    go Nothing then n = absurd (n refl)
-    go Full then n = refl
-    go IdZero then n = refl
-    go IdTaken then n = refl
-    go GroupZero then n = refl
-    go UnknownProfile then n = refl
-    go NoPanel then n = refl
-    go UnknownKind then n = refl
+    go : (r : Refusal) (then : Wall) → (r ≡ Refusal.Nothing → ⊥) → cond (eqb (tableNumber r) 0) then w ≡ w
+    go Refusal.Nothing then n = absurd (n refl)
+    go Refusal.Full then n = refl
+    go Refusal.IdZero then n = refl
+    go Refusal.IdTaken then n = refl
+    go Refusal.GroupZero then n = refl
+    go Refusal.UnknownProfile then n = refl
+    go Refusal.NoPanel then n = refl
+    go Refusal.UnknownKind then n = refl
 
 pub remove-refused : RemoveRefused
 unfolding removed
 remove-refused w i refused = go (placeOf i w) refused
   where
-    go : (q : Place) → (ifThere q Nothing NoPanel ≡ Nothing → ⊥) → without q w ≡ w
-    go (At k) n = absurd (n refl)
-    go Nowhere n = refl
+    go : (q : Place) → (ifThere q Refusal.Nothing Refusal.NoPanel ≡ Refusal.Nothing → ⊥) → without q w ≡ w
+    go (Place.At k) n = absurd (n refl)
+    go Place.Nowhere n = refl
 
 pub bad-burst : BadBurst
 unfolding answered turned
 bad-burst w r bad = go (r .verdict) bad
   where
-    stay : (i : MonitorId) (g : GroupId) (n : ℕ) (p : Panel) → Bad (Intact i g n) (r .part) p → turned i g (command (r .part)) p ≡ p
+    stay : (i : MonitorId) (g : GroupId) (n : ℕ) (p : Panel) → Bad (Verdict.Intact i g n) (r .part) p → turned i g (command (r .part)) p ≡ p
     stay i g n p (inl past) = stays i g _ p past
     stay i g n p (inr e) = rw e (either-way (reaches i g p) refl)
 
     go : (v : Verdict) → ((k : ℕ) → k < length w → Bad v (r .part) (getD w k blank)) → answeredBy v w (r .part) (r .seems) .wall ≡ w
-    go Empty h = refl
-    go (Damaged d) h = refl
-    go (Intact i g n) h = map-same _ blank w (λ k s. stay i g n (getD w k blank) (h k s))
+    go Verdict.Empty h = refl
+    go (Verdict.Damaged d) h = refl
+    go (Verdict.Intact i g n) h = map-same _ blank w (λ k s. stay i g n (getD w k blank) (h k s))
 
 pub answer-alone : AnswerAlone
 unfolding sentOf answerOutput
 answer-alone out r = go (leb longest (length out))
   where
     go : (t : Bool)
-        → let n = cond (eqb (answerNumber (cond t (Bytes (length (sentBytes r))) NoRoom)) 0) (length (sentBytes r)) 0 in drop n (cond t (laidOver (sentBytes r) out) out) ≡ drop n out
+        → let n = cond (eqb (answerNumber (cond t (Sent.Bytes (length (sentBytes r))) Sent.NoRoom)) 0) (length (sentBytes r)) 0 in drop n (cond t (laidOver (sentBytes r) out) out) ≡ drop n out
     go true = behind-over (sentBytes r) out
     go false = refl
 
@@ -99,7 +94,7 @@ unfolding writtenOf imageOutput
 image-alone form t f out = go (losesNothing form (panelsOf t)) (leb (sizeOf form (panelsOf t)) (length out))
   where
     go : (a b : Bool)
-        → let n = cond (eqb (imageNumber (cond a (cond b (WrittenBytes (sizeOf form (panelsOf t))) NotWritten) WouldLose)) 0) (sizeOf form (panelsOf t)) 0 in
+        → let n = cond (eqb (imageNumber (cond a (cond b (Written.Bytes (sizeOf form (panelsOf t))) Written.NoRoom) Written.WouldLose)) 0) (sizeOf form (panelsOf t)) 0 in
         drop n (cond (a && b) (laidOver (setupOf form (panelsOf t)) out) out) ≡ drop n out
     go true true = rw (← image-size form (panelsOf t) (f .good)) (behind-over (setupOf form (panelsOf t)) out)
     go true false = refl
@@ -107,7 +102,7 @@ image-alone form t f out = go (losesNothing form (panelsOf t)) (leb (sizeOf form
 
 -- a refusal gives no panel
 abbrev NoneRefused : Reading → Type 0
-NoneRefused r = (r .refusal ≡ Sound → ⊥) → r .wall ≡ []
+NoneRefused r = (r .refusal ≡ ImageRefusal.Nothing → ⊥) → r .wall ≡ []
 
 either : (t : Bool) (r : Reading) (why : ImageRefusal) → NoneRefused r → NoneRefused (cond t r (refused why))
 either true r why h = h
@@ -150,11 +145,11 @@ again-stays s = one-of s (ltb (sendings s) 3) _ _ (taken _ refl) (taken _ refl)
 
 ending-stays : (s : State) (d : List ℕ) (w : Said) → Stays s (ending s d w)
 unfolding ending
-ending-stays s d Ack = taken _ refl
-ending-stays s d Nack = again-stays s
-ending-stays s d Nav = taken _ refl
-ending-stays s d Report = taken _ refl
-ending-stays s d Silent = taken _ refl
+ending-stays s d Said.Ack = taken _ refl
+ending-stays s d Said.Nack = again-stays s
+ending-stays s d Said.Nav = taken _ refl
+ending-stays s d Said.Report = taken _ refl
+ending-stays s d Said.Nothing = taken _ refl
 
 begun-stays : (s : State) (r : Request) → Stays s (begun r)
 unfolding begun

@@ -8,15 +8,13 @@ use lib.ListN.{length, getD, length-map, List·getD-map}
 use Rattle.finding.proofs.Laws.{get-found}
 use Rattle.packet.specs.declared.MonitorId.{MonitorId}
 use Rattle.packet.specs.declared.GroupId.{GroupId}
-use Rattle.packet.specs.declared.Control.the-variants.{Ack, Nack, Nav}
+use Rattle.packet.specs.declared.Control.{Control}
 use Rattle.packet.specs.declared.Verdict.{Verdict}
-use Rattle.packet.specs.declared.Verdict.the-variants.{Empty, Damaged, Intact}
 use Rattle.packet.specs.declared.Addressee.{Addressee}
 use Rattle.packet.specs.Reading.{Reading, readingOf}
 use Rattle.packet.proofs.Packets.{packet-verdict, packet-data}
 use Rattle.panels.specs.declared.Panel.{Panel}
 use Rattle.panels.specs.declared.Place.{Place}
-use Rattle.panels.specs.declared.Place.the-variants.{At, Nowhere}
 use Rattle.panels.specs.Wall.{Wall, blank, tableOf, panelsOf, placeOf, ifThere}
 use Rattle.packet.specs.Answered.{isHeard}
 use Rattle.panels.specs.Addressed.{reaches}
@@ -57,7 +55,7 @@ pub read-as-written : ReadAsWritten
 read-as-written i g d short = (packet-verdict i g d short, packet-data i g d short)
 
 -- one panel and a command: it stays, or values that are allowed are stored
-module _ (read : Reading) (i : MonitorId) (g : GroupId) (n : ℕ) (e : read .verdict ≡ Intact i g n) (p : Panel) (ok : GoodPanel p) where
+module _ (read : Reading) (i : MonitorId) (g : GroupId) (n : ℕ) (e : read .verdict ≡ Verdict.Intact i g n) (p : Panel) (ok : GoodPanel p) where
   set-by : (c : Command) → command (read .part) ≡ c → reaches i g p ≡ true
       → (panelAfter (judge c p) p ≡ p) ⊎ SetBy read p (panelAfter (judge c p) p)
   unfolding judge
@@ -99,9 +97,9 @@ module _ (read : Reading) (i : MonitorId) (g : GroupId) (n : ℕ) (e : read .ver
 
 by-verdict : (v : Verdict) (w : Wall) (read : Reading) (k : ℕ) → read .verdict ≡ v → GoodWall w → k < length w
     → let p = getD w k blank in let q = getD (answeredBy v w (read .part) (read .seems) .wall) k blank in (q ≡ p) ⊎ SetBy read p q
-by-verdict Empty w read k e good h = inl refl
-by-verdict (Damaged d) w read k e good h = inl refl
-by-verdict (Intact i g n) w read k e good h =
+by-verdict Verdict.Empty w read k e good h = inl refl
+by-verdict (Verdict.Damaged d) w read k e good h = inl refl
+by-verdict (Verdict.Intact i g n) w read k e good h =
     let f = turned i g (command (read .part)) in
     let at = getD-inside (map f w) k blank (f blank) (rw (length-map w f) h) ∙ List·getD-map f w k blank in
     rw at (turned-by read i g n e (getD w k blank) (good-at w good k h))
@@ -115,24 +113,24 @@ judged-answer : (w : Wall) (i : MonitorId) (k : ℕ) (c : Command) → OnLine c 
     → Answer·Is w (replyBy i (judge c (getD w k blank)))
 unfolding judge
 judged-answer w i k (getOf row) (s, l) h e = inr (inr (i, k, row, h, e, get-found s l, refl))
-judged-answer w i k unavailable on h e = inr (inl (i, Nav, refl))
+judged-answer w i k unavailable on h e = inr (inl (i, Control.Nav, refl))
 judged-answer w i k (setOf row vs) on h e = go (takes row vs (getD w k blank))
   where
     go : (t : Bool) → Answer·Is w (replyBy i (cond t (taken (stored row (heldThen row vs (getD w k blank)) (getD w k blank))) notAvailable))
-    go true = inr (inl (i, Ack, refl))
-    go false = inr (inl (i, Nav, refl))
+    go true = inr (inl (i, Control.Ack, refl))
+    go false = inr (inl (i, Control.Nav, refl))
 
 heard-answer : (w : Wall) (i : MonitorId) (c : Command) → OnLine c → (q : Place) → placeOf i w ≡ q → Answer·Is w (replyFrom w i c q)
-heard-answer w i c on Nowhere e = inl refl
-heard-answer w i c on (At k) e = let (h, same) = place-there i w k e in judged-answer w i k c on h same
+heard-answer w i c on Place.Nowhere e = inl refl
+heard-answer w i c on (Place.At k) e = let (h, same) = place-there i w k e in judged-answer w i k c on h same
 
 packet-answer : (w : Wall) (i : MonitorId) (c : Command) → OnLine c → (t : Bool) → Answer·Is w (cond t (replyFrom w i c (placeOf i w)) silence)
 packet-answer w i c on true = heard-answer w i c on (placeOf i w) refl
 packet-answer w i c on false = inl refl
 
-nack-answer : (w : Wall) (i : MonitorId) (q : Place) → Answer·Is w (ifThere q (wordFrom i Nack) silence)
-nack-answer w i Nowhere = inl refl
-nack-answer w i (At k) = inr (inl (i, Nack, refl))
+nack-answer : (w : Wall) (i : MonitorId) (q : Place) → Answer·Is w (ifThere q (wordFrom i Control.Nack) silence)
+nack-answer w i Place.Nowhere = inl refl
+nack-answer w i (Place.At k) = inr (inl (i, Control.Nack, refl))
 
 damaged-answer : (w : Wall) (a : Addressee) → Answer·Is w (nackFrom w a)
 damaged-answer w Addressee.Nobody = inl refl
@@ -143,9 +141,9 @@ unfolding answered
 answers w read = go (read .verdict)
   where
     go : (v : Verdict) → Answer·Is w (answeredBy v w (read .part) (read .seems) .reply)
-    go Empty = inl refl
-    go (Damaged d) = damaged-answer w (read .seems)
-    go (Intact i g n) = packet-answer w i _ (on-line (read .part)) (isHeard i g)
+    go Verdict.Empty = inl refl
+    go (Verdict.Damaged d) = damaged-answer w (read .seems)
+    go (Verdict.Intact i g n) = packet-answer w i _ (on-line (read .part)) (isHeard i g)
 
 -- The line.
 pub received : Received

@@ -3,7 +3,7 @@ use Prim.Native.Nat.{ℕ}
 use mathlib.Core.Logic.{inl, inr}
 use mathlib.Core.Path.{_≡_, refl, sym, ap, subst, _∙_}
 use mathlib.Core.List.{List, [], _∷_, _++_, map, append-assoc, append-nil}
-use Rattle.packet.specs.declared.Control.the-variants.{Nack}
+use Rattle.packet.specs.declared.Control.{Control}
 use Rattle.packet.specs.declared.Addressee.{Addressee}
 use Rattle.packet.specs.declared.Damage.{Damage}
 use Rattle.packet.specs.declared.MonitorId.{MonitorId}
@@ -12,7 +12,6 @@ use Rattle.packet.specs.Reading.{Reading, readingOf}
 use Rattle.packet.specs.Spoiled.{spoiled}
 use Rattle.packet.proofs.Spoiled.{spoiled-damaged}
 use Rattle.panels.specs.declared.Place.{Place}
-use Rattle.panels.specs.declared.Place.the-variants.{At, Nowhere}
 use Rattle.panels.specs.Wall.{Wall, placeOf, ifThere}
 use Rattle.answers.specs.declared.Reply.{Reply}
 use Rattle.answers.specs.Reply.{silence, wordFrom}
@@ -23,9 +22,9 @@ use Rattle.answers.proofs.Readings.{answered-damaged}
 use Rattle.line.proofs.Streams.{stream-after}
 use Rattle.demands.specs.Demand3.{whole, spoilt, sent, kept, SilenceOrNack, AsIfNeverSent, Withstands, Demand3, onLine, Demand3·line}
 
-nack-or-silent : (i : MonitorId) (q : Place) → SilenceOrNack (ifThere q (wordFrom i Nack) silence)
-nack-or-silent i Nowhere = inl refl
-nack-or-silent i (At k) = inr (i, refl)
+nack-or-silent : (i : MonitorId) (q : Place) → SilenceOrNack (ifThere q (wordFrom i Control.Nack) silence)
+nack-or-silent i Place.Nowhere = inl refl
+nack-or-silent i (Place.At k) = inr (i, refl)
 
 damaged-answer : (w : Wall) (a : Addressee) → SilenceOrNack (nackFrom w a)
 damaged-answer w Addressee.Nobody = inl refl

@@ -9,7 +9,6 @@ use Rattle.panels.specs.Wall.{Wall, mostPanels}
 use Rattle.panels.specs.WellFormed.{GoodWall}
 use Rattle.panels.proofs.Laws.{panels-of-table}
 use Rattle.forms.specs.declared.Form.{Form}
-use Rattle.forms.specs.declared.Form.the-variants.{One}
 use Rattle.refusals.specs.declared.Refusal.{Refusal}
 use Rattle.image_read.specs.Read.{Reading, readOf}
 use Rattle.image_read.proofs.Sound.{read-formed}
@@ -49,7 +48,7 @@ reads-general image one = subst (λ (f : Form). losesNothing f (readOf image .wa
 
 pub there-and-back : ThereAndBack
 there-and-back image there back own to from mine =
-    is-setup from ∙ ap (λ (r : Reading). setupOf One (r .wall)) (same-table _ image there to) ∙ sym (is-setup mine)
+    is-setup from ∙ ap (λ (r : Reading). setupOf Form.One (r .wall)) (same-table _ image there to) ∙ sym (is-setup mine)
 
 pub back-and-there : BackAndThere
 back-and-there image back there from to = same-table _ back there to ∙ same-table _ image back from

@@ -10,7 +10,6 @@ use lib.ListN.{length, getD, length-take, length-replicate}
 use lib.Seq.{take-append-seam}
 use Rattle.models.specs.declared.Model.{Model}
 use Rattle.finding.specs.declared.Found.{Found}
-use Rattle.finding.specs.declared.Found.the-variants.{Set, Get, Nothing}
 use Rattle.settings.specs.Settings.{settings, setCode, getCode, byteCount, valuesOf, rowCount, mostValues, kindRow, powerRow, tilingRow, off}
 use Rattle.finding.specs.Found.{foundBy}
 use Rattle.models.specs.Models.{allowedFor, filled}
@@ -21,15 +20,15 @@ use Rattle.models.proofs.Laws.{allowed-many}
 use Rattle.models.proofs.Filled.{filled-other, filled-there, length-filled}
 use Rattle.tiling.specs.Kinds.{largest, inWall}
 use Rattle.lists.proofs.Each.{alike}
-use Rattle.packet.specs.declared.Control.the-variants.{Ack as AckWord, Nav as NavWord}
-use Rattle.packet.specs.declared.Damage.the-variants.{Nothing as NoDamage}
+use Rattle.packet.specs.declared.Control.{Control}
+use Rattle.packet.specs.declared.Damage.{Damage}
 use Rattle.packet.specs.Packet.{groupId, packetOf, mostData}
 use Rattle.packet.specs.Control.{controlData}
 use Rattle.packet.specs.Reading.{readingOf}
 use Rattle.packet.specs.Answered.{isHeard}
 use Rattle.packet.proofs.Packets.{packet-verdict, packet-data}
 use Rattle.panels.specs.declared.Panel.{Panel}
-use Rattle.panels.specs.declared.Place.the-variants.{At}
+use Rattle.panels.specs.declared.Place.{Place}
 use Rattle.panels.specs.Wall.{Wall, modelOf, blank, placeOf, panelsOf}
 use Rattle.panels.specs.WellFormed.{GoodPanel}
 use Rattle.panels.proofs.Laws.{place-there}
@@ -40,7 +39,6 @@ use Rattle.answers.specs.Reply.{wordFrom, reportFrom, sentBytes}
 use Rattle.answers.proofs.Readings.{answered-intact}
 use Rattle.requests.specs.declared.Request.{Request}
 use Rattle.requests.specs.declared.Said.{Said}
-use Rattle.requests.specs.declared.Said.the-variants.{Ack, Nack, Nav, Report, Nothing as Other}
 use Rattle.requests.specs.Request.{valuesOf as requestValues, requestData, requestPacket, isPowerOff, maySet, isTaken, isRequest}
 use Rattle.lists.specs.Lists.{same}
 use Rattle.requests.specs.Said.{isControl, isReport, endedBy, wordIn}
@@ -59,8 +57,8 @@ codes-some row s h =
     rw k at (alike (λ j. eqb (getCode (suc j)) 0) (λ j. false) (rowCount - 1) refl {k = row - 1} (omega arith))
 
 -- The box answers a request to a panel that is there as that panel judges it.
-word-report : (model : Model) (code row : ℕ) (values : List ℕ) → foundBy code ≡ Get row → eqb (getCode row) 0 ≡ false
-    → allowedFor model row values ≡ true → wordIn model code (getCode row ∷ values) ≡ Report
+word-report : (model : Model) (code row : ℕ) (values : List ℕ) → foundBy code ≡ Found.Get row → eqb (getCode row) 0 ≡ false
+    → allowedFor model row values ≡ true → wordIn model code (getCode row ∷ values) ≡ Said.Report
 unfolding wordIn isControl same endedBy isReport
 word-report model code row values found notZero allowed = rw (notZero, found, eq-eqb (getCode row) _ refl, allowed)
 
@@ -112,7 +110,7 @@ may-hold p row vs may = go (eqb row tilingRow) (eqb (getD vs 3 0) 0) refl refl
         subst (λ (r : ℕ). allowedFor model r (heldThen r vs p) ≡ not (pastWall r vs p)) (sym same-row)
         (open-wall p vs (four ∙ ap byteCount same-row ∙ tiling-count) (subst (λ (r : ℕ). maySet model r vs ≡ true) same-row may) (eqb-true (getD vs 3 0) 0 ez))
 
-module _ (w : Wall) (r : Request) (k : ℕ) (asked : isRequest r ≡ true) (due : isHeard (r .id) (r .group) ≡ true) (there : placeOf (r .id) w ≡ At k)
+module _ (w : Wall) (r : Request) (k : ℕ) (asked : isRequest r ≡ true) (due : isHeard (r .id) (r .group) ≡ true) (there : placeOf (r .id) w ≡ Place.At k)
     (told : modelOf (getD w k blank) ≡ r .model) where
   abbrev panel : Panel
   panel = getD w k blank
@@ -136,20 +134,20 @@ module _ (w : Wall) (r : Request) (k : ℕ) (asked : isRequest r ≡ true) (due 
   waits-on (suc n) h = ap (λ (s : State). step s mark .next) (waits-on n (omega arith)) ∙ sends n h
 
   -- what is heeded has no damage
-  untold : (s : State) (d : List ℕ) (w : Said) → telling NoDamage (ending s d w) ≡ ending s d w
+  untold : (s : State) (d : List ℕ) (w : Said) → telling Damage.Nothing (ending s d w) ≡ ending s d w
   unfolding ending again
-  untold s d Ack = refl
-  untold s d Nack = go (ltb (sendings s) mostSendings) refl refl
+  untold s d Said.Ack = refl
+  untold s d Said.Nack = go (ltb (sendings s) mostSendings) refl refl
     where
-      go : (t : Bool) {m o : Move} → telling NoDamage m ≡ m → telling NoDamage o ≡ o → telling NoDamage (cond t m o) ≡ cond t m o
+      go : (t : Bool) {m o : Move} → telling Damage.Nothing m ≡ m → telling Damage.Nothing o ≡ o → telling Damage.Nothing (cond t m o) ≡ cond t m o
       go true h k = h
       go false h k = k
-  untold s d Nav = refl
-  untold s d Report = refl
-  untold s d Other = refl
+  untold s d Said.Nav = refl
+  untold s d Said.Report = refl
+  untold s d Said.Nothing = refl
 
   -- NAV to a power off
-  power-off : (row : ℕ) → foundBy (r .code) ≡ Set row → offAlready row (requestValues r) panel ≡ true → isPowerOff r ≡ true
+  power-off : (row : ℕ) → foundBy (r .code) ≡ Found.Set row → offAlready row (requestValues r) panel ≡ true → isPowerOff r ≡ true
   unfolding offAlready isPowerOff same
   power-off row found e =
       let (at, sets) = both (eqb row powerRow) _ e in
@@ -162,7 +160,7 @@ module _ (w : Wall) (r : Request) (k : ℕ) (asked : isRequest r ≡ true) (due 
   nav-ends (suc n) e = rw (e, length-replicate, lt-ltb 1 (suc (suc n)) (omega arith), ne-eqb (suc (suc n)) 1 (λ d. omega arith))
 
   -- and to any other request
-  not-power : (row : ℕ) → foundBy (r .code) ≡ Set row → pastWall row (requestValues r) panel ≡ true → isPowerOff r ≡ false
+  not-power : (row : ℕ) → foundBy (r .code) ≡ Found.Set row → pastWall row (requestValues r) panel ≡ true → isPowerOff r ≡ false
   unfolding isPowerOff same settings
   not-power row found e =
       let (at, _) = both (eqb row tilingRow) _ (both (eqb row tilingRow && eqb (getD (requestValues r) 3 0) 0) _ e .0) in
@@ -181,29 +179,29 @@ module _ (w : Wall) (r : Request) (k : ℕ) (asked : isRequest r ≡ true) (due 
       (untold (waiting r (suc n)) d (wordIn (r .model) (r .code) d))
 
   -- a set to which the panel says the word
-  set-ends : (n : ℕ) → n < mostSendings → (row : ℕ) → foundBy (r .code) ≡ Set row
+  set-ends : (n : ℕ) → n < mostSendings → (row : ℕ) → foundBy (r .code) ≡ Found.Set row
       → allowedFor (modelOf panel) row (heldThen row (requestValues r) panel) ≡ not (pastWall row (requestValues r) panel)
       → (off past : Bool) → offAlready row (requestValues r) panel ≡ off → pastWall row (requestValues r) panel ≡ past
-      → EndsWith (Set row) r panel (suc n) (step (asking r n) (burst (sentBytes (played w (requestPacket r) .reply))))
+      → EndsWith (Found.Set row) r panel (suc n) (step (asking r n) (burst (sentBytes (played w (requestPacket r) .reply))))
   unfolding command takes judge sentBytes ending
   set-ends n few row found allowed true past e f =
-      let reply : played w (requestPacket r) .reply ≡ wordFrom (r .id) NavWord = box-answers ∙ rw (found, allowed, e, and-false (not (pastWall row (requestValues r) panel))) in
-      rw (reply, e) (hears n few (controlData NavWord) (omega arith) ∙ (unfold wordIn isControl same in ap (λ (e : End). over (waiting r (suc n)) [] e []) (nav-ends n (power-off row found e))))
+      let reply : played w (requestPacket r) .reply ≡ wordFrom (r .id) Control.Nav = box-answers ∙ rw (found, allowed, e, and-false (not (pastWall row (requestValues r) panel))) in
+      rw (reply, e) (hears n few (controlData Control.Nav) (omega arith) ∙ (unfold wordIn isControl same in ap (λ (e : End). over (waiting r (suc n)) [] e []) (nav-ends n (power-off row found e))))
   set-ends n few row found allowed false true e f =
-      let reply : played w (requestPacket r) .reply ≡ wordFrom (r .id) NavWord = box-answers ∙ rw (found, allowed, f) in
-      rw (reply, e, f) (hears n few (controlData NavWord) (omega arith) ∙ (unfold wordIn isControl same in ap (λ (e : End). over (waiting r (suc n)) [] e []) (nav-plain n (not-power row found f))))
+      let reply : played w (requestPacket r) .reply ≡ wordFrom (r .id) Control.Nav = box-answers ∙ rw (found, allowed, f) in
+      rw (reply, e, f) (hears n few (controlData Control.Nav) (omega arith) ∙ (unfold wordIn isControl same in ap (λ (e : End). over (waiting r (suc n)) [] e []) (nav-plain n (not-power row found f))))
   set-ends n few row found allowed false false e f =
-      let reply : played w (requestPacket r) .reply ≡ wordFrom (r .id) AckWord = box-answers ∙ rw (found, allowed, e, f) in
-      rw (reply, e, f) (hears n few (controlData AckWord) (omega arith) ∙ (unfold wordIn isControl same endedBy in rw found))
+      let reply : played w (requestPacket r) .reply ≡ wordFrom (r .id) Control.Ack = box-answers ∙ rw (found, allowed, e, f) in
+      rw (reply, e, f) (hears n few (controlData Control.Ack) (omega arith) ∙ (unfold wordIn isControl same endedBy in rw found))
 
   ends : (n : ℕ) → n < mostSendings → GoodPanel panel → (f : Found) → foundBy (r .code) ≡ f → isTaken r f ≡ true
       → EndsWith f r panel (suc n) (step (asking r n) (burst (sentBytes (played w (requestPacket r) .reply))))
   unfolding isTaken command judge sentBytes ending
-  ends n few good Nothing found t = absurd (false≢true t)
-  ends n few good (Set row) found t =
+  ends n few good Found.Nothing found t = absurd (false≢true t)
+  ends n few good (Found.Set row) found t =
       let may = both (not (eqb (r .group .0) 255)) _ t .1 in
       set-ends n few row found (may-hold panel row (requestValues r) (subst (λ (m : Model). maySet m row (requestValues r) ≡ true) (sym told) may)) (offAlready row (requestValues r) panel) (pastWall row (requestValues r) panel) refl refl
-  ends n few good (Get row) found t =
+  ends n few good (Found.Get row) found t =
       let none = eqb-true (r .count) 0 (both (eqb (r .count) 0) _ t .0) in
       let (inTable, _, setting) = subst (IsFound (r .code)) found (found-right (r .code)) in
       let d = getCode row ∷ valuesOf row (panel .values) in

@@ -9,7 +9,6 @@ use lib.Dec.{ltb}
 use lib.ListN.{getD, drop}
 use Rattle.digits.specs.Digits.{digitOf}
 use Rattle.faults.specs.declared.Fault.{Fault}
-use Rattle.faults.specs.declared.Fault.the-variants.{Dropped, Broken, NotAllowed}
 use Rattle.faults.specs.Lines.{space, lineFeed, decimal, faultNumber, codeWords, lineOf}
 use Rattle.demands.specs.Salvage.{CodeOf, LinesTell}
 
@@ -34,15 +33,15 @@ abbrev words : Fault → List ℕ
 words f = decimal (faultNumber f) ++ codeWords f ++ lineFeed ∷ []
 
 words-tell : (f g : Fault) → CodeOf f → CodeOf g → words f ≡ words g → f ≡ g
-words-tell Dropped Dropped cf cg e = refl
-words-tell Dropped (Broken d) cf cg e = let z = ap (λ (l : List ℕ). getD l 1 0) e in absurd (omega arith)
-words-tell Dropped (NotAllowed d) cf cg e = let z = ap (λ (l : List ℕ). getD l 1 0) e in absurd (omega arith)
-words-tell (Broken c) Dropped cf cg e = let z = ap (λ (l : List ℕ). getD l 1 0) e in absurd (omega arith)
-words-tell (Broken c) (Broken d) cf cg e = ap Broken (code-is c d cf cg (ap (λ (l : List ℕ). getD l 3 0) e) (ap (λ (l : List ℕ). getD l 4 0) e))
-words-tell (Broken c) (NotAllowed d) cf cg e = let z = ap (λ (l : List ℕ). getD l 1 0) e in absurd (omega arith)
-words-tell (NotAllowed c) Dropped cf cg e = let z = ap (λ (l : List ℕ). getD l 1 0) e in absurd (omega arith)
-words-tell (NotAllowed c) (Broken d) cf cg e = let z = ap (λ (l : List ℕ). getD l 1 0) e in absurd (omega arith)
-words-tell (NotAllowed c) (NotAllowed d) cf cg e = ap NotAllowed (code-is c d cf cg (ap (λ (l : List ℕ). getD l 3 0) e) (ap (λ (l : List ℕ). getD l 4 0) e))
+words-tell Fault.Dropped Fault.Dropped cf cg e = refl
+words-tell Fault.Dropped (Fault.Broken d) cf cg e = let z = ap (λ (l : List ℕ). getD l 1 0) e in absurd (omega arith)
+words-tell Fault.Dropped (Fault.NotAllowed d) cf cg e = let z = ap (λ (l : List ℕ). getD l 1 0) e in absurd (omega arith)
+words-tell (Fault.Broken c) Fault.Dropped cf cg e = let z = ap (λ (l : List ℕ). getD l 1 0) e in absurd (omega arith)
+words-tell (Fault.Broken c) (Fault.Broken d) cf cg e = ap Fault.Broken (code-is c d cf cg (ap (λ (l : List ℕ). getD l 3 0) e) (ap (λ (l : List ℕ). getD l 4 0) e))
+words-tell (Fault.Broken c) (Fault.NotAllowed d) cf cg e = let z = ap (λ (l : List ℕ). getD l 1 0) e in absurd (omega arith)
+words-tell (Fault.NotAllowed c) Fault.Dropped cf cg e = let z = ap (λ (l : List ℕ). getD l 1 0) e in absurd (omega arith)
+words-tell (Fault.NotAllowed c) (Fault.Broken d) cf cg e = let z = ap (λ (l : List ℕ). getD l 1 0) e in absurd (omega arith)
+words-tell (Fault.NotAllowed c) (Fault.NotAllowed d) cf cg e = ap Fault.NotAllowed (code-is c d cf cg (ap (λ (l : List ℕ). getD l 3 0) e) (ap (λ (l : List ℕ). getD l 4 0) e))
 
 pub lines-tell : LinesTell
 unfolding lineOf

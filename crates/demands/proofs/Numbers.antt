@@ -6,25 +6,23 @@ use mathlib.Core.List.{List, [], _∷_, flatten}
 use mathlib.Core.Option.{none, some}
 use lib.Dec.{leb, eqb}
 use lib.ListN.{length}
-use Rattle.settings.specs.declared.Profile.the-variants.{General, Phoenix}
+use Rattle.settings.specs.declared.Profile.{Profile}
 use Rattle.tiling.specs.declared.Kind.{Kind}
 use Rattle.tiling.specs.declared.Numbered.{Numbered as KindNumbered}
 use Rattle.tiling.specs.Kinds.{kindWith, ifKnown as ifKind}
 use Rattle.settings.specs.Settings.{settings, freshValues, allowedByRow}
-use Rattle.profiles.specs.declared.Numbered.the-variants.{Known, Unknown}
+use Rattle.profiles.specs.declared.Numbered.{Numbered}
 use Rattle.profiles.specs.Numbers.{profileWith, ifKnown}
-use Rattle.packet.specs.declared.Written.the-variants.{Bytes as PacketBytes, TooLong, NoRoom as NoPacket}
+use Rattle.packet.specs.declared.Written.{Written}
 use Rattle.packet.specs.Packet.{writtenOf as packetWritten, refusalNumber as packetNumber}
 use Rattle.panels.specs.declared.Place.{Place}
-use Rattle.panels.specs.declared.Place.the-variants.{At, Nowhere}
-use Rattle.table_calls.specs.declared.Refusal.the-variants.{Nothing, Full, IdZero, IdTaken, GroupZero, UnknownProfile, NoPanel, UnknownKind}
+use Rattle.table_calls.specs.declared.Refusal.{Refusal}
 use Rattle.panels.specs.Wall.{Wall, placeOf, ifThere}
 use Rattle.table_calls.specs.Calls.{refusalNumber as tableNumber, addRefusal}
-use Rattle.answers.specs.declared.Sent.the-variants.{Bytes as AnswerBytes, NoRoom as NoAnswer}
+use Rattle.answers.specs.declared.Sent.{Sent}
 use Rattle.answers.specs.Reply.{sentBytes, sentOf, refusalNumber as answerNumber}
-use Rattle.image_write.specs.declared.Written.the-variants.{Bytes as ImageBytes, WouldLose, NoRoom as NoImage}
+use Rattle.image_write.specs.declared.Written.{Written as ImageWriteWritten}
 use Rattle.forms.specs.declared.Form.{Form}
-use Rattle.forms.specs.declared.Form.the-variants.{One, Two}
 use Rattle.forms.specs.Forms.{keeps}
 use Rattle.image_write.specs.Written.{sizeOf, losesNothing, writtenOf as imageWritten, refusalNumber as imageNumber}
 use Rattle.image_write.proofs.Losing.{two-holds}
@@ -34,36 +32,36 @@ pub add-number : Add
 unfolding addRefusal profileWith kindWith
 add-number w i g n k = go (leb 32 (length w)) (eqb (i .0) 0) (placeOf i w) (eqb (g .0) 0) (eqb n 0) (eqb n 1)
   where
-    kinds : (d e : Bool) → tableNumber (ifKind (cond d (KindNumbered.Known Kind.FiveByFive) (cond e (KindNumbered.Known Kind.FifteenByTen) KindNumbered.Unknown)) (λ kind. Nothing) UnknownKind) ≡ cond (d || e) 0 7
+    kinds : (d e : Bool) → tableNumber (ifKind (cond d (KindNumbered.Known Kind.FiveByFive) (cond e (KindNumbered.Known Kind.FifteenByTen) KindNumbered.Unknown)) (λ kind. Refusal.Nothing) Refusal.UnknownKind) ≡ cond (d || e) 0 7
     kinds true e = refl
     kinds false true = refl
     kinds false false = refl
 
     go : (a b : Bool) (q : Place) (c d e : Bool)
         → tableNumber
-        (cond a Full
-        (cond b IdZero
-        (ifThere q IdTaken
-        (cond c GroupZero
-        (ifKnown (cond d (Known General) (cond e (Known Phoenix) Unknown)) (λ profile. ifKind (kindWith k) (λ kind. Nothing) UnknownKind) UnknownProfile)))))
+        (cond a Refusal.Full
+        (cond b Refusal.IdZero
+        (ifThere q Refusal.IdTaken
+        (cond c Refusal.GroupZero
+        (ifKnown (cond d (Numbered.Known Profile.General) (cond e (Numbered.Known Profile.Phoenix) Numbered.Unknown)) (λ profile. ifKind (kindWith k) (λ kind. Refusal.Nothing) Refusal.UnknownKind) Refusal.UnknownProfile)))))
         ≡ cond a 1 (cond b 2 (ifThere q 3 (cond c 4 (cond (d || e) (cond (eqb k 0 || eqb k 1) 0 7) 5))))
     go true b q c d e = refl
     go false true q c d e = refl
-    go false false (At k) c d e = refl
-    go false false Nowhere true d e = refl
-    go false false Nowhere false true e = kinds (eqb k 0) (eqb k 1)
-    go false false Nowhere false false true = kinds (eqb k 0) (eqb k 1)
-    go false false Nowhere false false false = refl
+    go false false (Place.At k) c d e = refl
+    go false false Place.Nowhere true d e = refl
+    go false false Place.Nowhere false true e = kinds (eqb k 0) (eqb k 1)
+    go false false Place.Nowhere false false true = kinds (eqb k 0) (eqb k 1)
+    go false false Place.Nowhere false false false = refl
 
 pub remove-number : Remove
 remove-number w i = go (placeOf i w)
   where
-    go : (q : Place) → tableNumber (ifThere q Nothing NoPanel) ≡ ifThere q 0 6
-    go (At k) = refl
-    go Nowhere = refl
+    go : (q : Place) → tableNumber (ifThere q Refusal.Nothing Refusal.NoPanel) ≡ ifThere q 0 6
+    go (Place.At k) = refl
+    go Place.Nowhere = refl
 
 -- form 1 keeps exactly the walls of plain panels
-plain-kept : (w : Wall) → losesNothing One w ≡ allPlain w
+plain-kept : (w : Wall) → losesNothing Form.One w ≡ allPlain w
 unfolding losesNothing keeps settings freshValues allowedByRow flatten
 plain-kept [] = refl
 plain-kept (p ∷ w) = ap (λ (t : Bool). isPlain p && t) (plain-kept w)
@@ -73,23 +71,23 @@ image-number : (form : Form) (w : Wall) (out : List ℕ)
 unfolding imageWritten
 image-number form w out = go (losesNothing form w) (leb (sizeOf form w) (length out))
   where
-    go : (a b : Bool) → imageNumber (cond a (cond b (ImageBytes (sizeOf form w)) NoImage) WouldLose) ≡ cond a (cond b 0 19) 31
+    go : (a b : Bool) → imageNumber (cond a (cond b (ImageWriteWritten.Bytes (sizeOf form w)) ImageWriteWritten.NoRoom) ImageWriteWritten.WouldLose) ≡ cond a (cond b 0 19) 31
     go true true = refl
     go true false = refl
     go false b = refl
 
 pub image-one : ImageOne
 unfolding settings
-image-one w out = image-number One w out ∙ ap (λ (t : Bool). cond t (cond (leb (35 * length w + 2) (length out)) 0 19) 31) (plain-kept w)
+image-one w out = image-number Form.One w out ∙ ap (λ (t : Bool). cond t (cond (leb (35 * length w + 2) (length out)) 0 19) 31) (plain-kept w)
 
 pub image-two : ImageTwo
-image-two w out = image-number Two w out ∙ ap (λ (t : Bool). cond t (cond (leb (45 * length w + 2) (length out)) 0 19) 31) (two-holds w)
+image-two w out = image-number Form.Two w out ∙ ap (λ (t : Bool). cond t (cond (leb (45 * length w + 2) (length out)) 0 19) 31) (two-holds w)
 
 pub answer-number : Answer
 unfolding sentOf
 answer-number out r = go (leb 40 (length out))
   where
-    go : (t : Bool) → answerNumber (cond t (AnswerBytes (length (sentBytes r))) NoAnswer) ≡ cond t 0 19
+    go : (t : Bool) → answerNumber (cond t (Sent.Bytes (length (sentBytes r))) Sent.NoRoom) ≡ cond t 0 19
     go true = refl
     go false = refl
 
@@ -97,7 +95,7 @@ pub packet-number : Packet
 unfolding packetWritten
 packet-number out d = go (leb 40 (length out)) (leb (length d) 36)
   where
-    go : (a b : Bool) → packetNumber (cond a (cond b (PacketBytes (length d + 4)) TooLong) NoPacket) ≡ cond a (cond b (some 0) none) (some 19)
+    go : (a b : Bool) → packetNumber (cond a (cond b (Written.Bytes (length d + 4)) Written.TooLong) Written.NoRoom) ≡ cond a (cond b (some 0) none) (some 19)
     go true true = refl
     go true false = refl
     go false b = refl

@@ -14,7 +14,7 @@ use Rattle.settings.specs.Settings.{settings, allowedByRow, _to_, within, allAl
 use Rattle.finding.specs.Found.{foundFrom}
 use Rattle.models.specs.Models.{allowedFor, filled}
 use Rattle.packet.specs.declared.MonitorId.{MonitorId}
-use Rattle.packet.specs.declared.Control.the-variants.{Ack, Nav}
+use Rattle.packet.specs.declared.Control.{Control}
 use Rattle.panels.specs.declared.Panel.{Panel}
 use Rattle.panels.specs.Wall.{modelOf, blank}
 use Rattle.panels.specs.Addressed.{reaches}
@@ -62,7 +62,7 @@ module _ (p : Panel) (good : GoodPanel p) where
       rw (above v, ne-eqb (suc (suc (suc v))) 2 (λ e. omega arith), ne-eqb (suc (suc (suc v))) 1 (λ e. omega arith))
 
   answers-power : (i : MonitorId) (v : ℕ)
-      → replyBy i (judge (command (0x18 ∷ v ∷ [])) p) ≡ wordFrom i (cond (eqb v 2 || eqb v 1 && eqb (getD (p .values) 1 0) 2) Ack Nav)
+      → replyBy i (judge (command (0x18 ∷ v ∷ [])) p) ≡ wordFrom i (cond (eqb v 2 || eqb v 1 && eqb (getD (p .values) 1 0) 2) Control.Ack Control.Nav)
   unfolding settings foundFrom command judge
   answers-power i v = rw (takes-power v) (set-reply i (eqb v 2 || eqb v 1 && eqb (getD (p .values) 1 0) 2) _)
 

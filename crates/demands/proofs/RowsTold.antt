@@ -15,7 +15,6 @@ use Rattle.models.proofs.Laws.{allowed-many}
 use Rattle.panels.proofs.Values.{set-row}
 use Rattle.forms.specs.declared.Form.{Form}
 use Rattle.faults.specs.declared.Fault.{Fault}
-use Rattle.faults.specs.declared.Fault.the-variants.{NotAllowed}
 use Rattle.image_record.specs.Field.{valuesIn, behind}
 use Rattle.image_record.proofs.OnTheWay.{seenWith}
 use Rattle.image_record.proofs.Steps.{Stands}
@@ -37,7 +36,7 @@ more-told : {profile : Profile} {t : List Bool} {w : List ℕ} {es : List Entry}
 more-told {es} {fs} {gs} {r} e other grow k = record {
   unseen = λ u. (other, k .unseen u);
   seen = λ u. let (d, in-es, c) = k .seen u in (d, List·Memᴰ·tail in-es, c);
-  tells = ⊎-elim (λ x. inl (x .0, List·Memᴰ·tail (x .1), x .2, x .3)) (λ x. inr (x .0, ⊎-elim (λ w. inl (other, w)) (λ m. inr (grow (NotAllowed (setCode r)) m)) (x .1))) (k .tells);
+  tells = ⊎-elim (λ x. inl (x .0, List·Memᴰ·tail (x .1), x .2, x .3)) (λ x. inr (x .0, ⊎-elim (λ w. inl (other, w)) (λ m. inr (grow (Fault.NotAllowed (setCode r)) m)) (x .1))) (k .tells);
 }
 
 module _ {form : Form} {profile : Profile} where
@@ -70,20 +69,20 @@ module _ {form : Form} {profile : Profile} where
 
   told-row : {s t : List Bool} {v l w m : List ℕ} {es : List Entry} {fs : List Fault} → Gathering form profile s v → (row : ℕ) (h : Stands false form profile s v l row)
       → Walked form profile (seenWith row s) v (behind row l) es fs t w m → (r : ℕ) → r < rowCount → getD s r false ≡ false
-      → (getD (seenWith row s) r false ≡ false → RowTold profile t w es fs r) → RowTold profile t w (entryAt row l ∷ es) (NotAllowed (getD l 0 0) ∷ fs) r
+      → (getD (seenWith row s) r false ≡ false → RowTold profile t w es fs r) → RowTold profile t w (entryAt row l ∷ es) (Fault.NotAllowed (getD l 0 0) ∷ fs) r
   told-row {s} {t} {v} {l} {w} {es = es} {fs = fs} g row h a r k e ih = go (eqb r row) refl
     where
-      here : RowTold profile t w (entryAt row l ∷ es) (NotAllowed (getD l 0 0) ∷ fs) row
+      here : RowTold profile t w (entryAt row l ∷ es) (Fault.NotAllowed (getD l 0 0) ∷ fs) row
       here =
           let (on, same) = walked-seen (passed-on form profile g h) a row (getD-set-same s row true false (there form profile g h)) in
           record {
             unseen = λ u. absurd (false≢true (sym u ∙ on));
             seen = λ u. (entryAt row l, List·Memᴰ·head refl, h .code);
-            tells = inr (same ∙ g .fresh row (h .free .new), inr (List·Memᴰ·head (ap NotAllowed (sym (h .code)))));
+            tells = inr (same ∙ g .fresh row (h .free .new), inr (List·Memᴰ·head (ap Fault.NotAllowed (sym (h .code)))));
           }
 
-      go : (b : Bool) → eqb r row ≡ b → RowTold profile t w (entryAt row l ∷ es) (NotAllowed (getD l 0 0) ∷ fs) r
-      go true q = subst (RowTold profile t w (entryAt row l ∷ es) (NotAllowed (getD l 0 0) ∷ fs)) (sym (eqb-true r row q)) here
+      go : (b : Bool) → eqb r row ≡ b → RowTold profile t w (entryAt row l ∷ es) (Fault.NotAllowed (getD l 0 0) ∷ fs) r
+      go true q = subst (RowTold profile t w (entryAt row l ∷ es) (Fault.NotAllowed (getD l 0 0) ∷ fs)) (sym (eqb-true r row q)) here
       go false q = more-told (entryAt row l) (other-code g h k q) (λ f m. List·Memᴰ·tail m) (ih (still g h k q e))
 
   pub walked-row : {s t : List Bool} {v l w m : List ℕ} {es : List Entry} {fs : List Fault} → Gathering form profile s v → Walked form profile s v l es fs t w m

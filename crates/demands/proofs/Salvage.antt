@@ -9,14 +9,11 @@ use lib.ListN.{getD, drop, replicate}
 use Rattle.settings.specs.declared.Profile.{Profile}
 use Rattle.settings.specs.Settings.{setCode, freshValues, valuesOf, rowCount}
 use Rattle.profiles.specs.declared.Numbered.{Numbered}
-use Rattle.profiles.specs.declared.Numbered.the-variants.{Known, Unknown}
 use Rattle.panels.specs.Wall.{Wall, tableOf, panelsOf}
 use Rattle.panels.proofs.Laws.{panels-of-table}
 use Rattle.forms.specs.declared.Form.{Form}
-use Rattle.forms.specs.declared.Form.the-variants.{Two}
 use Rattle.forms.specs.Forms.{headSize}
 use Rattle.faults.specs.declared.Fault.{Fault}
-use Rattle.faults.specs.declared.Fault.the-variants.{Dropped, Broken, NotAllowed}
 use Rattle.image_whole.specs.Whole.{formOf, recordsIn}
 use Rattle.image_record.specs.Head.{idIn, headIn, headed}
 use Rattle.image_record.proofs.Steps.{none-seen}
@@ -38,7 +35,7 @@ pub kept-reads : KeptReads
 kept-reads image =
     let f = salvage-formed image in
     let same = panels-of-table (salvageOf image .wall) in
-    (f, rw (← same) (reads-back Two (panelsOf (tableOf (salvageOf image .wall))) (f .good) (f .few) (two-holds _)))
+    (f, rw (← same) (reads-back Form.Two (panelsOf (tableOf (salvageOf image .wall))) (f .good) (f .few) (two-holds _)))
 
 pub lines-are-few : LinesFew
 lines-are-few image = (lines-few image, text-short image)
@@ -57,23 +54,23 @@ module _ (form : Form) (bytes : List ℕ) (profile : Profile) where
   -- the faults of the walk are among those of the record
   among : (f : Fault) → List·Memᴰ f (walk .fs) → List·Memᴰ f (kept .faults)
   among f m =
-      ⊎-elim (λ x. subst (List·Memᴰ f) (sym (x .1)) m) (λ x. subst (List·Memᴰ f) (sym (x .1)) (Memᴰ·append-left (Broken (getD (walk .rest) 0 0) ∷ []) m)) (walk .ends)
+      ⊎-elim (λ x. subst (List·Memᴰ f) (sym (x .1)) m) (λ x. subst (List·Memᴰ f) (sym (x .1)) (Memᴰ·append-left (Fault.Broken (getD (walk .rest) 0 0) ∷ []) m)) (walk .ends)
 
-  not-dropped : List·Memᴰ Dropped (kept .faults) → ⊥
+  not-dropped : List·Memᴰ Fault.Dropped (kept .faults) → ⊥
   not-dropped m =
-      ⊎-elim (λ x. none-dropped form profile (walk .walk) (subst (List·Memᴰ Dropped) (x .1) m))
-      (λ x. ⊎-elim (λ in-walk. none-dropped form profile (walk .walk) in-walk) last (List·Memᴰ·append-cases (walk .fs) (subst (List·Memᴰ Dropped) (x .1) m))) (walk .ends)
+      ⊎-elim (λ x. none-dropped form profile (walk .walk) (subst (List·Memᴰ Fault.Dropped) (x .1) m))
+      (λ x. ⊎-elim (λ in-walk. none-dropped form profile (walk .walk) in-walk) last (List·Memᴰ·append-cases (walk .fs) (subst (List·Memᴰ Fault.Dropped) (x .1) m))) (walk .ends)
     where
-      last : List·Memᴰ Dropped (Broken (getD (walk .rest) 0 0) ∷ []) → ⊥
+      last : List·Memᴰ Fault.Dropped (Fault.Broken (getD (walk .rest) 0 0) ∷ []) → ⊥
       last d = ⊎-elim (λ e. let z : _≡_ {A = ℕ} 0 1 = cc in omega arith) (λ n. List·Memᴰ·not-nil n) (List·Memᴰ·cases-cons d)
 
   more-faults : (row : ℕ) → TellsRow profile (walk .es) (walk .fs) row (valuesOf row (kept .values)) → TellsRow profile (walk .es) (kept .faults) row (valuesOf row (kept .values))
-  more-faults row = ⊎-elim (λ x. inl x) (λ x. inr (x .0, ⊎-elim (λ w. inl w) (λ m. inr (among (NotAllowed (setCode row)) m)) (x .1)))
+  more-faults row = ⊎-elim (λ x. inl x) (λ x. inr (x .0, ⊎-elim (λ w. inl w) (λ m. inr (among (Fault.NotAllowed (setCode row)) m)) (x .1)))
 
   row-told : (row : ℕ) → row < rowCount → RowTold profile (walk .last) (kept .values) (walk .es) (walk .fs) row
   row-told row h = walked-row (none-gathered form profile) (walk .walk) row h (none-seen rowCount row)
 
-  tells : (w : Wall) → headIn form (idIn w) bytes ≡ Known profile → Tells form bytes (kept .faults) (headed bytes profile (kept .values))
+  tells : (w : Wall) → headIn form (idIn w) bytes ≡ Numbered.Known profile → Tells form bytes (kept .faults) (headed bytes profile (kept .values))
   tells w e =
       record {
         head = refl;
@@ -84,7 +81,7 @@ module _ (form : Form) (bytes : List ℕ) (profile : Profile) where
         seen = walk .last;
         marks = λ row h. (row-told row h .unseen, row-told row h .seen);
         stops = ⊎-elim (λ x. inl (x .0))
-            (λ x. inr (x .0, subst (List·Memᴰ (Broken (getD (walk .rest) 0 0))) (sym (x .1)) (Memᴰ·append-right (walk .fs) (List·Memᴰ·head refl)))) (walk .ends);
+            (λ x. inr (x .0, subst (List·Memᴰ (Fault.Broken (getD (walk .rest) 0 0))) (sym (x .1)) (Memᴰ·append-right (walk .fs) (List·Memᴰ·head refl)))) (walk .ends);
         rows = λ row h. more-faults row (row-told row h .tells);
         kept = not-dropped;
       }
@@ -105,12 +102,12 @@ from-told form w (bytes ∷ records) = go (headIn form (idIn w) bytes) refl (λ 
 
     go : (n : Numbered) → headIn form (idIn w) bytes ≡ n → ((v : Wall) → ToldOn form v records (salvagedFrom form v records))
         → ToldOn form w (bytes ∷ records) (salvagedFrom form w (bytes ∷ records))
-    go (Known profile) e ih =
+    go (Numbered.Known profile) e ih =
         let p = headed bytes profile (kept form bytes profile .values) in
         let rest = ih (w ++ p ∷ []) in
         so (record-kept form w bytes records profile e)
         (record { more = p ∷ rest .more; wall = rest .wall ∙ append-assoc w (p ∷ []) (rest .more); told = panel (tells form bytes profile w e) (rest .told) })
-    go Unknown e ih =
+    go Numbered.Unknown e ih =
         let rest = ih w in
         so (record-dropped form w bytes records e) (record { more = rest .more; wall = rest .wall; told = dropped (rest .told) })
 

@@ -8,19 +8,16 @@ use lib.ListN.{drop, replicate}
 use Rattle.settings.specs.declared.Profile.{Profile}
 use Rattle.settings.specs.Settings.{freshValues, rowCount}
 use Rattle.profiles.specs.declared.Numbered.{Numbered}
-use Rattle.profiles.specs.declared.Numbered.the-variants.{Known, Unknown}
 use Rattle.panels.specs.declared.Panel.{Panel}
 use Rattle.panels.specs.Wall.{Wall}
 use Rattle.forms.specs.declared.Form.{Form}
 use Rattle.forms.specs.Forms.{headSize}
 use Rattle.faults.specs.declared.Fault.{Fault}
 use Rattle.refusals.specs.declared.Refusal.{Refusal}
-use Rattle.refusals.specs.declared.Refusal.the-variants.{Nothing as Sound, Record}
 use Rattle.refusals.specs.Refusals.{isSound, refusalNumber}
 use Rattle.image_whole.specs.Whole.{formOf, wholeRefusal, recordsIn}
 use Rattle.refusals.proofs.Sound.{sound-nothing}
 use Rattle.image_record.specs.declared.Step.{Step}
-use Rattle.image_record.specs.declared.Step.the-variants.{Field, NotAllowed, Broken, End}
 use Rattle.image_record.specs.Head.{idIn, headIn, headed}
 use Rattle.image_record.specs.Run.{runFrom}
 use Rattle.image_record.proofs.Heads.{head-known}
@@ -50,31 +47,31 @@ module _ (form : Form) (profile : Profile) (left : List ℕ) where
 
   record FieldsAgree : Type 0 where
     number : refusalNumber (fieldsIn form profile left .refusal) ≡ first (keptOf form profile left .faults)
-    kept : fieldsIn form profile left .refusal ≡ Sound → (keptOf form profile left .values ≡ fieldsIn form profile left .values) × (keptOf form profile left .faults ≡ [])
+    kept : fieldsIn form profile left .refusal ≡ Refusal.Nothing → (keptOf form profile left .values ≡ fieldsIn form profile left .values) × (keptOf form profile left .faults ≡ [])
 
   fields-agree : FieldsAgree
   unfolding fieldsFrom first
   fields-agree = go step refl
     where
       go : (s : Step) → step ≡ s → FieldsAgree
-      go (Field row) e = absurd (run-stopped form profile (replicate rowCount false) (freshValues profile) left .no-field row e)
-      go (NotAllowed row) e = record {
-        number = ap (λ (s : Step). refusalNumber (refusalAt s)) e ∙ ap (λ (k : Kept). first (k .faults)) (sym (kept-step form profile _ _ _ left (NotAllowed row) e));
+      go (Step.Field row) e = absurd (run-stopped form profile (replicate rowCount false) (freshValues profile) left .no-field row e)
+      go (Step.NotAllowed row) e = record {
+        number = ap (λ (s : Step). refusalNumber (refusalAt s)) e ∙ ap (λ (k : Kept). first (k .faults)) (sym (kept-step form profile _ _ _ left (Step.NotAllowed row) e));
         kept = λ s. absurd (false≢true (ap isSound (sym (ap refusalAt e) ∙ s)));
       }
-      go Broken e = record {
-        number = ap (λ (s : Step). refusalNumber (refusalAt s)) e ∙ ap (λ (k : Kept). first (k .faults)) (sym (kept-step form profile _ _ _ left Broken e));
+      go Step.Broken e = record {
+        number = ap (λ (s : Step). refusalNumber (refusalAt s)) e ∙ ap (λ (k : Kept). first (k .faults)) (sym (kept-step form profile _ _ _ left Step.Broken e));
         kept = λ s. absurd (false≢true (ap isSound (sym (ap refusalAt e) ∙ s)));
       }
-      go End e = record {
-        number = ap (λ (s : Step). refusalNumber (refusalAt s)) e ∙ ap (λ (k : Kept). first (k .faults)) (sym (kept-step form profile _ _ _ left End e));
-        kept = λ s. (ap (λ (k : Kept). k .values) (kept-step form profile _ _ _ left End e), ap (λ (k : Kept). k .faults) (kept-step form profile _ _ _ left End e));
+      go Step.End e = record {
+        number = ap (λ (s : Step). refusalNumber (refusalAt s)) e ∙ ap (λ (k : Kept). first (k .faults)) (sym (kept-step form profile _ _ _ left Step.End e));
+        kept = λ s. (ap (λ (k : Kept). k .values) (kept-step form profile _ _ _ left Step.End e), ap (λ (k : Kept). k .faults) (kept-step form profile _ _ _ left Step.End e));
       }
 
 -- a reading and a salvage of the records that are left
 record Agree (r : Reading) (s : Salvage) : Type 0 where
   number : refusalNumber (r .refusal) ≡ firstFault (s .faults)
-  kept : r .refusal ≡ Sound → (s .wall ≡ r .wall) × ((k : ℕ) → textFrom k (s .faults) ≡ [])
+  kept : r .refusal ≡ Refusal.Nothing → (s .wall ≡ r .wall) × ((k : ℕ) → textFrom k (s .faults) ≡ [])
 
 -- a record without a fault, and the others behind it
 module _ (form : Form) (w : Wall) (bytes : List ℕ) (records : List (List ℕ)) where
@@ -82,22 +79,22 @@ module _ (form : Form) (w : Wall) (bytes : List ℕ) (records : List (List ℕ))
   unfolding readRecords
   first-refused e s = rw (e, s)
 
-  first-read : recordRefusal form w bytes ≡ Sound → readRecords form w (bytes ∷ records) ≡ readRecords form (w ++ panelIn form bytes ∷ []) records
+  first-read : recordRefusal form w bytes ≡ Refusal.Nothing → readRecords form w (bytes ∷ records) ≡ readRecords form (w ++ panelIn form bytes ∷ []) records
   unfolding readRecords
   first-read e = rw e
 
   -- the record is dropped
-  agree-dropped : headIn form (idIn w) bytes ≡ Unknown → Agree (readRecords form w (bytes ∷ records)) (salvagedFrom form w (bytes ∷ records))
+  agree-dropped : headIn form (idIn w) bytes ≡ Numbered.Unknown → Agree (readRecords form w (bytes ∷ records)) (salvagedFrom form w (bytes ∷ records))
   unfolding recordRefusal
   agree-dropped e =
-      let read = first-refused {why = Record} (rw e) refl in
+      let read = first-refused {why = Refusal.Record} (rw e) refl in
       let salvaged = record-dropped form w bytes records e in
       record {
         number = ap (λ (r : Reading). refusalNumber (r .refusal)) read ∙ ap (λ (s : Salvage). firstFault (s .faults)) (sym salvaged);
         kept = λ s. absurd (false≢true (ap isSound (ap (λ (r : Reading). r .refusal) (sym read) ∙ s)));
       }
 
-  module _ (profile : Profile) (e : headIn form (idIn w) bytes ≡ Known profile) where
+  module _ (profile : Profile) (e : headIn form (idIn w) bytes ≡ Numbered.Known profile) where
     abbrev left : List ℕ
     left = drop (headSize form) bytes
 
@@ -129,7 +126,7 @@ module _ (form : Form) (w : Wall) (bytes : List ℕ) (records : List (List ℕ))
         }
 
     -- it has none, and the others decide
-    agree-sound : why ≡ Sound → Agree (readRecords form wall records) (salvagedFrom form wall records)
+    agree-sound : why ≡ Refusal.Nothing → Agree (readRecords form wall records) (salvagedFrom form wall records)
         → Agree (readRecords form w (bytes ∷ records)) (salvagedFrom form w (bytes ∷ records))
     unfolding textFrom
     agree-sound s ih =
@@ -156,8 +153,8 @@ agree-from form w (bytes ∷ records) = go (headIn form (idIn w) bytes) refl (λ
   where
     go : (n : Numbered) → headIn form (idIn w) bytes ≡ n → ((v : Wall) → Agree (readRecords form v records) (salvagedFrom form v records))
         → Agree (readRecords form w (bytes ∷ records)) (salvagedFrom form w (bytes ∷ records))
-    go Unknown e ih = agree-dropped form w bytes records e
-    go (Known profile) e ih = by-fault (isSound (fieldsIn form profile (drop (headSize form) bytes) .refusal)) refl
+    go Numbered.Unknown e ih = agree-dropped form w bytes records e
+    go (Numbered.Known profile) e ih = by-fault (isSound (fieldsIn form profile (drop (headSize form) bytes) .refusal)) refl
       where
         by-fault : (b : Bool) → isSound (fieldsIn form profile (drop (headSize form) bytes) .refusal) ≡ b → Agree (readRecords form w (bytes ∷ records)) (salvagedFrom form w (bytes ∷ records))
         by-fault true s = agree-sound form w bytes records profile e (sound-nothing _ s) (ih _)
@@ -174,6 +171,6 @@ sound-kept image s = go (isSound (wholeRefusal image)) refl s
     go : (b : Bool) → isSound (wholeRefusal image) ≡ b
         → let r = cond b (readRecords (formOf image) [] (recordsIn image)) (refused (wholeRefusal image)) in
         let s = cond b (salvagedFrom (formOf image) [] (recordsIn image)) (record { wall = []; faults = [] }) in
-        r .refusal ≡ Sound → (s .wall ≡ r .wall) × (textFrom 1 (s .faults) ≡ [])
+        r .refusal ≡ Refusal.Nothing → (s .wall ≡ r .wall) × (textFrom 1 (s .faults) ≡ [])
     go true e s = let (wall, text) = agree-from (formOf image) [] (recordsIn image) .kept s in (wall, text 1)
     go false e s = absurd (false≢true (sym e ∙ ap isSound s))

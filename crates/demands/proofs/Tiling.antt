@@ -9,7 +9,6 @@ use lib.Dec.{leb, eqb}
 use lib.ListN.{getD, take, drop, set}
 use Rattle.lists.proofs.Both.{both}
 use Rattle.tiling.specs.declared.Kind.{Kind}
-use Rattle.tiling.specs.declared.Kind.the-variants.{FiveByFive, FifteenByTen}
 use Rattle.tiling.specs.declared.Numbered.{Numbered}
 use Rattle.tiling.specs.Walls.{upTo}
 use Rattle.tiling.specs.Kinds.{kindNumber, kindWith, ifKnown, largest, inWall}
@@ -56,7 +55,7 @@ sits-in-wall n position byte = go (eqb n 0) (eqb n 1)
     go : (t s : Bool)
         → let widest : ℕ = cond t 5 15 in
         (upTo (cond t 25 150) byte && upTo (((byte - 1) / widest + 1) * ((byte - 1) % widest + 1)) position)
-        ≡ inWall (ifKnown (cond t (Numbered.Known FiveByFive) (cond s (Numbered.Known FifteenByTen) Numbered.Unknown)) (λ kind. kind) FifteenByTen) position byte
+        ≡ inWall (ifKnown (cond t (Numbered.Known Kind.FiveByFive) (cond s (Numbered.Known Kind.FifteenByTen) Numbered.Unknown)) (λ kind. kind) Kind.FifteenByTen) position byte
     go true s = refl
     go false true = refl
     go false false = refl
@@ -174,12 +173,12 @@ always-sits t c k h =
 -- The host.
 in-largest : (kind : Kind) (position : ℕ) → inWall kind position (largest kind) ≡ upTo (cond (eqb (kindNumber kind) 0) 25 150) position
 unfolding inWall upTo
-in-largest FiveByFive position = refl
-in-largest FifteenByTen position = refl
+in-largest Kind.FiveByFive position = refl
+in-largest Kind.FifteenByTen position = refl
 
 sits-by : (kind : Kind) (position byte : ℕ) → inWall kind position byte ≡ sits (kindNumber kind) position byte
 sits-by kind position byte =
-    ap (λ (n : Numbered). inWall (ifKnown n (λ k. k) FifteenByTen) position byte) (sym (number-back kind)) ∙ sym (sits-in-wall (kindNumber kind) position byte)
+    ap (λ (n : Numbered). inWall (ifKnown n (λ k. k) Kind.FifteenByTen) position byte) (sym (number-back kind)) ∙ sym (sits-in-wall (kindNumber kind) position byte)
 
 pub host-tiling : HostTiling
 unfolding settings isReport filled

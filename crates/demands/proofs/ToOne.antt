@@ -6,14 +6,14 @@ use borrow.Author.Tests.{eq-eqb, ne-eqb}
 use lib.Dec.{eqb}
 use lib.ListN.{getD}
 use Rattle.packet.specs.declared.MonitorId.{MonitorId}
-use Rattle.packet.specs.declared.Control.the-variants.{Ack, Nav}
+use Rattle.packet.specs.declared.Control.{Control}
 use Rattle.packet.specs.declared.Verdict.{Verdict}
 use Rattle.packet.specs.Packet.{groupId}
 use Rattle.packet.specs.Reading.{Reading}
 use Rattle.packet.specs.Answered.{isHeard}
 use Rattle.panels.specs.declared.Panel.{Panel}
 use Rattle.panels.specs.declared.Table.{Table}
-use Rattle.panels.specs.declared.Place.the-variants.{At}
+use Rattle.panels.specs.declared.Place.{Place}
 use Rattle.panels.specs.Wall.{blank, panelsOf, placeOf}
 use Rattle.panels.specs.Addressed.{reaches}
 use Rattle.panels.specs.WellFormed.{GoodPanel, WellFormed}
@@ -25,11 +25,11 @@ use Rattle.answers.specs.Played.{answered}
 use Rattle.answers.proofs.Readings.{answered-intact}
 
 -- to a set the word goes by whether it is taken
-pub set-reply : (i : MonitorId) (t : Bool) (q : Panel) → replyBy i (cond t (taken q) notAvailable) ≡ wordFrom i (cond t Ack Nav)
+pub set-reply : (i : MonitorId) (t : Bool) (q : Panel) → replyBy i (cond t (taken q) notAvailable) ≡ wordFrom i (cond t Control.Ack Control.Nav)
 set-reply i true q = refl
 set-reply i false q = refl
 
-module _ (t : Table) (f : WellFormed t) (i : MonitorId) (k : ℕ) (there : placeOf i (panelsOf t) ≡ At k) where
+module _ (t : Table) (f : WellFormed t) (i : MonitorId) (k : ℕ) (there : placeOf i (panelsOf t) ≡ Place.At k) where
   abbrev pub panel : Panel
   panel = getD (panelsOf t) k blank
 

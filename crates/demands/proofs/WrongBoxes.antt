@@ -19,7 +19,6 @@ use Rattle.panels.specs.Wall.{Wall, placeFrom}
 use Rattle.packet.specs.Answered.{isHeard}
 use Rattle.panels.specs.Addressed.{reaches}
 use Rattle.answers.specs.declared.Answer.{Answer}
-use Rattle.answers.specs.declared.Answer.the-variants.{Silence, Word, Report}
 use Rattle.answers.specs.declared.Reply.{Reply}
 use Rattle.answers.specs.Reply.{silence, sentBytes}
 use Rattle.answers.specs.Judged.{command, stored, offAlready, takes, judge}
@@ -74,9 +73,9 @@ answered-still : (w : Wall) (b : List ℕ) (d : Damage) → readingOf b .verdict
 answered-still w b d e = go (played w b .reply .answer)
   where
     go : (a : Answer) → ifSilent a w (played w b .wall) ≡ w
-    go Silence = refl
-    go (Word c) = damaged-still w (readingOf b) d e
-    go Report = damaged-still w (readingOf b) d e
+    go Answer.Silence = refl
+    go (Answer.Word c) = damaged-still w (readingOf b) d e
+    go Answer.Report = damaged-still w (readingOf b) d e
 
 pub some-withstand : SomeWithstand
 some-withstand = (

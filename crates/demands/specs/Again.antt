@@ -5,7 +5,6 @@ use mathlib.Core.Path.{_≡_}
 use mathlib.Core.List.{List, [], _∷_}
 use lib.ListN.{length, getD}
 use Rattle.packet.specs.declared.Verdict.{Verdict}
-use Rattle.packet.specs.declared.Verdict.the-variants.{Empty, Damaged, Intact}
 use Rattle.packet.specs.Reading.{readingOf}
 use Rattle.panels.specs.declared.Panel.{Panel}
 use Rattle.panels.specs.declared.Table.{Table}
@@ -16,9 +15,9 @@ use Rattle.answers.specs.Session.{session}
 
 -- the panels that a burst addresses: none, where it is not intact
 abbrev pub addressedBy : Verdict → Panel → Bool
-addressedBy Empty p = false
-addressedBy (Damaged damage) p = false
-addressedBy (Intact i g n) p = reaches i g p
+addressedBy Verdict.Empty p = false
+addressedBy (Verdict.Damaged damage) p = false
+addressedBy (Verdict.Intact i g n) p = reaches i g p
 
 -- no panel of the wall is addressed by both bursts
 abbrev pub Apart : Wall → List ℕ → List ℕ → Type 0

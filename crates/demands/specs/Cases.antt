@@ -1,8 +1,8 @@
 -- 01, "Bursts to try", the cases marked P: panels 1 and 2, both in group 9, fresh before each line.
 use Prim.Native.Nat.{ℕ}
 use mathlib.Core.List.{List, [], _∷_}
-use Rattle.settings.specs.declared.Profile.the-variants.{General}
-use Rattle.tiling.specs.declared.Kind.the-variants.{FiveByFive}
+use Rattle.settings.specs.declared.Profile.{Profile}
+use Rattle.tiling.specs.declared.Kind.{Kind}
 use Rattle.packet.specs.Packet.{monitorId, groupId}
 use Rattle.panels.specs.declared.Panel.{Panel}
 use Rattle.panels.specs.Wall.{Wall, freshPanel}
@@ -13,7 +13,7 @@ use Rattle.answers.specs.Played.{played}
 
 -- a fresh panel whose fan is v; the fan is row 6
 abbrev pub fanAt : ℕ → ℕ → Panel
-fanAt i v = stored 6 (v ∷ []) (freshPanel (monitorId i) (groupId 9) General FiveByFive)
+fanAt i v = stored 6 (v ∷ []) (freshPanel (monitorId i) (groupId 9) Profile.General Kind.FiveByFive)
 
 -- a burst, the bytes of its answer, and the wall after it
 pub record Case : Type 0 where

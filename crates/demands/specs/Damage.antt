@@ -6,7 +6,6 @@ use mathlib.Core.List.{List, [], foldl}
 use lib.Dec.{leb, eqb}
 use lib.ListN.{length, getD, take, drop}
 use Rattle.packet.specs.declared.Damage.{Damage}
-use Rattle.packet.specs.declared.Damage.the-variants.{Nothing}
 use Rattle.xor.specs.Xor.{xorAll}
 use Rattle.packet.specs.Packet.{monitorId, groupId, isIntact, damageIn, damageNumber}
 use Rattle.packet.specs.Reading.{seemsFor, readingOf}
@@ -17,7 +16,7 @@ use Rattle.answers.specs.Reply.{silence}
 use Rattle.answers.specs.Judged.{command}
 use Rattle.answers.specs.Played.{Outcome, playedPacket, nackFrom, answered}
 use Rattle.line.specs.Receiver.{receiverOf, withByte, atMark}
-use Rattle.host.specs.declared.Outcome.the-variants.{Idle}
+use Rattle.host.specs.declared.Outcome.{Outcome as HostOutcome}
 use Rattle.host.specs.Machine.{burst, State, waits, quiet, heard, telling, step}
 
 -- what is told of a burst
@@ -38,7 +37,7 @@ NoDamage = (b : List ℕ) → eqb (damageNumber (told b)) 0 ≡ (eqb (length b) 
 
 -- and never for a packet that was spoiled by one byte.
 abbrev pub SpoiledTold : Type 0
-SpoiledTold = (packet : List ℕ) (s : Spoiling) → isIntact packet ≡ true → Spoils s packet → told (spoiled s packet) ≡ Nothing → ⊥
+SpoiledTold = (packet : List ℕ) (s : Spoiling) → isIntact packet ≡ true → Spoils s packet → told (spoiled s packet) ≡ Damage.Nothing → ⊥
 
 -- The receiver, which keeps 40 bytes, leaves of a burst of any length, byte after byte and then the mark, what the whole burst does,
 -- and tells what is wrong with it.
@@ -64,4 +63,4 @@ Unchanged = (w : Wall) (b : List ℕ) → answered w (readingOf b) ≡ before w 
 
 -- and the host's move is what it was, with what is wrong with the burst beside it, whatever the host waits for.
 abbrev pub HostUnchanged : Type 0
-HostUnchanged = (s : State) (b : List ℕ) → step s (burst b) ≡ telling (told b) (cond (waits s) (heard s (readingOf b)) (quiet s Idle))
+HostUnchanged = (s : State) (b : List ℕ) → step s (burst b) ≡ telling (told b) (cond (waits s) (heard s (readingOf b)) (quiet s HostOutcome.Idle))

@@ -10,12 +10,11 @@ use lib.ListN.{length, getD, drop}
 use Rattle.packet.specs.declared.MonitorId.{MonitorId}
 use Rattle.packet.specs.declared.GroupId.{GroupId}
 use Rattle.packet.specs.declared.Verdict.{Verdict}
-use Rattle.packet.specs.declared.Verdict.the-variants.{Empty, Damaged, Intact}
 use Rattle.packet.specs.Reading.{Reading}
 use Rattle.lists.specs.Lists.{laidOver}
 use Rattle.panels.specs.declared.Panel.{Panel}
 use Rattle.panels.specs.declared.Table.{Table}
-use Rattle.table_calls.specs.declared.Refusal.the-variants.{Nothing}
+use Rattle.table_calls.specs.declared.Refusal.{Refusal}
 use Rattle.panels.specs.Wall.{Wall, blank, panelsOf}
 use Rattle.panels.specs.Addressed.{reaches}
 use Rattle.table_calls.specs.Calls.{addRefusal, added, removedFrom, removed}
@@ -25,38 +24,38 @@ use Rattle.answers.specs.Reply.{sentBytes, sentOf, refusalNumber as answerNumbe
 use Rattle.answers.specs.Judged.{command, judge, notAvailable}
 use Rattle.answers.specs.Played.{answered}
 use Rattle.forms.specs.declared.Form.{Form}
-use Rattle.refusals.specs.declared.Refusal.the-variants.{Nothing as Sound}
+use Rattle.refusals.specs.declared.Refusal.{Refusal as RefusalsRefusal}
 use Rattle.image_write.specs.Written.{sizeOf, writtenOf, refusalNumber as imageNumber, outputOf as imageOutput}
 use Rattle.image_read.specs.Read.{readOf}
 use Rattle.host.specs.declared.Host.{Host}
 use Rattle.host.specs.declared.Refusal.{Refusal as HostRefusal}
-use Rattle.host.specs.declared.Outcome.the-variants.{Refused}
+use Rattle.host.specs.declared.Outcome.{Outcome}
 use Rattle.host.specs.Machine.{Happening}
 use Rattle.host.specs.Calls.{stateOf, stepOf, call, bytesOf}
 
 -- a refusal of add or remove leaves the wall as it was
 abbrev pub AddRefused : Type 0
-AddRefused = (w : Wall) (i : MonitorId) (g : GroupId) (n k : ℕ) → (addRefusal w i g n k ≡ Nothing → ⊥) → added w i g n k ≡ w
+AddRefused = (w : Wall) (i : MonitorId) (g : GroupId) (n k : ℕ) → (addRefusal w i g n k ≡ Refusal.Nothing → ⊥) → added w i g n k ≡ w
 
 abbrev pub RemoveRefused : Type 0
-RemoveRefused = (w : Wall) (i : MonitorId) → (removedFrom w i .refusal ≡ Nothing → ⊥) → removed w i ≡ w
+RemoveRefused = (w : Wall) (i : MonitorId) → (removedFrom w i .refusal ≡ Refusal.Nothing → ⊥) → removed w i ≡ w
 
 -- a refused image gives no panel
 abbrev pub ReadRefused : Type 0
-ReadRefused = (image : List ℕ) → (readOf image .refusal ≡ Sound → ⊥) → readOf image .wall ≡ []
+ReadRefused = (image : List ℕ) → (readOf image .refusal ≡ RefusalsRefusal.Nothing → ⊥) → readOf image .wall ≡ []
 
 -- a refused call of the host leaves the host and the output as they were
 abbrev pub CallRefused : Type 0
 CallRefused =
     (out : List ℕ) (host : Host) (h : Happening) (r : HostRefusal)
     → let m = call out (stateOf host) h in
-    m .outcome ≡ Refused r → (stepOf m .host ≡ host) × (laidOver (bytesOf m) out ≡ out)
+    m .outcome ≡ Outcome.Refused r → (stepOf m .host ≡ host) × (laidOver (bytesOf m) out ≡ out)
 
 -- a burst with this verdict and data is bad for a panel: empty or damaged, not to this panel, or not available
 abbrev pub Bad : Verdict → List ℕ → Panel → Type 0
-Bad Empty d p = Unit {0}
-Bad (Damaged damage) d p = Unit {0}
-Bad (Intact i g n) d p = (reaches i g p ≡ false) ⊎ (judge (command d) p ≡ notAvailable)
+Bad Verdict.Empty d p = Unit {0}
+Bad (Verdict.Damaged damage) d p = Unit {0}
+Bad (Verdict.Intact i g n) d p = (reaches i g p ≡ false) ⊎ (judge (command d) p ≡ notAvailable)
 
 -- whatever was read of it
 abbrev pub BadBurst : Type 0

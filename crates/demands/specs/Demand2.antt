@@ -7,14 +7,14 @@ use mathlib.Core.Path.{_≡_}
 use mathlib.Core.List.{List, [], _∷_, map, Forall₂}
 use lib.ListN.{length, getD, take}
 use Rattle.settings.specs.declared.Profile.{Profile}
-use Rattle.finding.specs.declared.Found.the-variants.{Get}
+use Rattle.finding.specs.declared.Found.{Found}
 use Rattle.settings.specs.Settings.{setCode, getCode, valuesOf, rowCount, kindRow, tilingRow}
 use Rattle.finding.specs.Found.{foundBy}
 use Rattle.models.specs.Models.{allowedFor, filled}
 use Rattle.packet.specs.declared.MonitorId.{MonitorId}
 use Rattle.packet.specs.declared.GroupId.{GroupId}
 use Rattle.packet.specs.declared.Control.{Control}
-use Rattle.packet.specs.declared.Verdict.the-variants.{Intact}
+use Rattle.packet.specs.declared.Verdict.{Verdict}
 use Rattle.packet.specs.Packet.{packetOf, mostData}
 use Rattle.packet.specs.Reading.{Reading, readingOf}
 use Rattle.panels.specs.declared.Panel.{Panel}
@@ -32,8 +32,8 @@ use Rattle.demands.specs.Cases.{Case, tried, cases}
 use Rattle.line.specs.Receiver.{Event, burstsAfter, receiverOf, streamed}
 use Rattle.forms.specs.declared.Form.{Form}
 use Rattle.forms.specs.Forms.{hasField}
-use Rattle.refusals.specs.declared.Refusal.the-variants.{Nothing as Sound}
-use Rattle.image_write.specs.declared.Written.the-variants.{Bytes}
+use Rattle.refusals.specs.declared.Refusal.{Refusal}
+use Rattle.image_write.specs.declared.Written.{Written}
 use Rattle.image_write.specs.Written.{writtenOf, outputOf}
 use Rattle.image_whole.specs.Whole.{formOf, wholeRefusal, recordsIn}
 use Rattle.image_read.specs.Fields.{fieldsIn}
@@ -49,7 +49,7 @@ ByReadings = (w : Wall) (bursts : List (List ℕ)) → session w bursts ≡ byBu
 abbrev pub ReadAsWritten : Type 0
 ReadAsWritten =
     (i : MonitorId) (g : GroupId) (d : List ℕ) → length d ≤ mostData
-    → let r = readingOf (packetOf i g d) in (r .verdict ≡ Intact i g (length d)) × (r .part ≡ d)
+    → let r = readingOf (packetOf i g d) in (r .verdict ≡ Verdict.Intact i g (length d)) × (r .part ≡ d)
 
 -- a panel that a set changed: it was addressed, and only the row that the set code names is another, with the set's values, of
 -- which a tiling's byte 0 leaves the wall that the panel had (02, A6); its own profile and kind allow what it then holds
@@ -59,7 +59,7 @@ pub record SetBy (r : Reading) (p q : Panel) : Type 0 where
   pub count : ℕ
   pub row : ℕ
   pub values : List ℕ
-  pub intact : r .verdict ≡ Intact id group count
+  pub intact : r .verdict ≡ Verdict.Intact id group count
   pub addressed : reaches id group p ≡ true
   pub named : command (r .part) ≡ setOf row values
   pub inRange : allowedFor (modelOf p) row (valuesOf row (q .values)) ≡ true
@@ -80,7 +80,7 @@ abbrev pub Answer·Is : Wall → Reply → Type 0
 Answer·Is w r =
     (r ≡ silence)
     ⊎ (((i : MonitorId) × (c : Control) × (r ≡ wordFrom i c))
-    ⊎ ((i : MonitorId) × (k : ℕ) × (row : ℕ) × (k < length w) × (getD w k blank .id .0 ≡ i .0) × (foundBy (getCode row) ≡ Get row)
+    ⊎ ((i : MonitorId) × (k : ℕ) × (row : ℕ) × (k < length w) × (getD w k blank .id .0 ≡ i .0) × (foundBy (getCode row) ≡ Found.Get row)
     × (r ≡ reportFrom i (getCode row ∷ valuesOf row (getD w k blank .values)))))
 
 abbrev pub Answers : Type 0
@@ -104,9 +104,9 @@ InRange = (t : Table) → Comes t → WellFormed t
 -- A written setup of either form reads back as the same table: all that is not refused, by 31 or 19.
 abbrev pub ReadsBack : Type 0
 ReadsBack =
-    (form : Form) (t : Table) → WellFormed t → (out : List ℕ) (n : ℕ) → writtenOf form (panelsOf t) out ≡ Bytes n
+    (form : Form) (t : Table) → WellFormed t → (out : List ℕ) (n : ℕ) → writtenOf form (panelsOf t) out ≡ Written.Bytes n
     → let image = take n (outputOf form (panelsOf t) out) in
-    (inTable (readOf image) .refusal ≡ Sound) × (inTable (readOf image) .table ≡ t)
+    (inTable (readOf image) .refusal ≡ Refusal.Nothing) × (inTable (readOf image) .table ≡ t)
 
 -- Fields go by code: an image without fault, and another, of the same form or the other one, whose records hold the same fields
 -- in any order that has no kind behind a tiling, read as the same wall
@@ -114,7 +114,7 @@ abbrev pub Alike : (Form → Profile → List Entry → List Entry → Type 0) �
 Alike P =
     (image other : List ℕ) → isSound (wholeRefusal other) ≡ true
     → Forall₂ (SameHead P (formOf image) (formOf other)) (recordsIn image) (recordsIn other)
-    → readOf image .refusal ≡ Sound → readOf other ≡ readOf image
+    → readOf image .refusal ≡ Refusal.Nothing → readOf other ≡ readOf image
 
 abbrev pub AnyOrder : Type 0
 AnyOrder = Alike Reordered
@@ -127,7 +127,7 @@ ByCode = Alike GiveAlike
 abbrev pub LeftOut : Type 0
 LeftOut =
     (profile : Profile) (form : Form) (row : ℕ) (es : List Entry) → row < rowCount → hasField form row ≡ true → Without (setCode row) es
-    → (row ≡ tilingRow → Without (setCode kindRow) es) → fieldsIn form profile (bytesOf es) .refusal ≡ Sound
+    → (row ≡ tilingRow → Without (setCode kindRow) es) → fieldsIn form profile (bytesOf es) .refusal ≡ Refusal.Nothing
     → fieldsIn form profile (bytesOf (freshEntry profile row ∷ es)) ≡ fieldsIn form profile (bytesOf es)
 
 -- the ten P cases of 01

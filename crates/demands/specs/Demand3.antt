@@ -7,7 +7,7 @@ use mathlib.Core.Logic.{_⊎_}
 use mathlib.Core.Path.{_≡_}
 use mathlib.Core.List.{List, [], _∷_, _++_, map}
 use Rattle.packet.specs.declared.MonitorId.{MonitorId}
-use Rattle.packet.specs.declared.Control.the-variants.{Nack}
+use Rattle.packet.specs.declared.Control.{Control}
 use Rattle.packet.specs.Packet.{isIntact}
 use Rattle.packet.specs.Spoiled.{Spoiling, spoiled, Spoils}
 use Rattle.panels.specs.Wall.{Wall}
@@ -33,7 +33,7 @@ kept (whole b ∷ items) = b ∷ kept items
 kept (spoilt p s i h ∷ items) = kept items
 
 abbrev pub SilenceOrNack : Reply → Type 0
-SilenceOrNack r = (r ≡ silence) ⊎ ((i : MonitorId) × (r ≡ wordFrom i Nack))
+SilenceOrNack r = (r ≡ silence) ⊎ ((i : MonitorId) × (r ≡ wordFrom i Control.Nack))
 
 -- the replies to what arrived, item by item, are the replies to what was kept; a spoiled packet gets what it may
 abbrev pub Answered : (Reply → Type 0) → List Item → List Reply → List Reply → Type 0

@@ -6,14 +6,13 @@ use mathlib.Core.List.{List, []}
 use lib.Dec.{eqb}
 use lib.ListN.{getD, replicate}
 use Rattle.finding.specs.declared.Found.{Found}
-use Rattle.finding.specs.declared.Found.the-variants.{Set, Get, Nothing}
 use Rattle.tiling.specs.Kinds.{inWall}
 use Rattle.settings.specs.Settings.{valuesOf, tilingRow}
 use Rattle.finding.specs.Found.{foundBy}
 use Rattle.packet.specs.Answered.{isHeard}
 use Rattle.panels.specs.declared.Panel.{Panel}
 use Rattle.panels.specs.declared.Table.{Table}
-use Rattle.panels.specs.declared.Place.the-variants.{At}
+use Rattle.panels.specs.declared.Place.{Place}
 use Rattle.panels.specs.Wall.{modelOf, blank, placeOf, panelsOf}
 use Rattle.panels.specs.WellFormed.{WellFormed}
 use Rattle.answers.specs.Reply.{sentBytes}
@@ -43,16 +42,16 @@ pastWall row values p =
 -- off (02, A5) with NAV and, where an earlier packet may have turned it off, with "off or refused"; and a tiling past the panel's
 -- own wall with NAV.
 abbrev pub EndsWith : Found → Request → Panel → ℕ → Move → Type 0
-EndsWith (Set row) r p n m =
+EndsWith (Found.Set row) r p n m =
     m ≡ over (waiting r n) [] (cond (offAlready row (requestValues r) p) (cond (eqb n 1) End.Nav End.OffOrRefused) (cond (pastWall row (requestValues r) p) End.Nav End.Ack)) []
-EndsWith (Get row) r p n m = m ≡ over (waiting r n) [] End.Report (valuesOf row (p .values))
-EndsWith Nothing r p n m = ⊥
+EndsWith (Found.Get row) r p n m = m ≡ over (waiting r n) [] End.Report (valuesOf row (p .values))
+EndsWith Found.Nothing r p n m = ⊥
 
 -- A request to a panel that is there, and of the profile and kind that the request says, ends so with the first packet that is answered: on
 -- a line that loses nothing that is the first, and on another the one that comes after n marks.
 abbrev pub Lossless : Type 0
 Lossless =
     (t : Table) → WellFormed t → (r : Request) (k n : ℕ) → isRequest r ≡ true → isHeard (r .id) (r .group) ≡ true
-    → placeOf (r .id) (panelsOf t) ≡ At k → modelOf (getD (panelsOf t) k blank) ≡ r .model → n < mostSendings
+    → placeOf (r .id) (panelsOf t) ≡ Place.At k → modelOf (getD (panelsOf t) k blank) ≡ r .model → n < mostSendings
     → let answer = sentBytes (played (panelsOf t) (requestPacket r) .reply) in
     EndsWith (foundBy (r .code)) r (getD (panelsOf t) k blank) (suc n) (step (asking r n) (burst answer))

@@ -17,7 +17,7 @@ use Rattle.panels.specs.Wall.{Wall, placeOf, ifThere}
 use Rattle.table_calls.specs.Calls.{refusalNumber as tableNumber, addRefusal, removedFrom}
 use Rattle.answers.specs.declared.Reply.{Reply}
 use Rattle.answers.specs.Reply.{sentOf, refusalNumber as answerNumber}
-use Rattle.forms.specs.declared.Form.the-variants.{One, Two}
+use Rattle.forms.specs.declared.Form.{Form}
 use Rattle.image_write.specs.Written.{writtenOf as imageWritten, refusalNumber as imageNumber}
 
 -- 32 panels are there, ID 0, ID in the table, group 0, a profile that is neither 0 nor 1, a kind that is neither
@@ -47,10 +47,10 @@ allPlain (p ∷ w) = isPlain p && allPlain w
 
 abbrev pub ImageOne : Type 0
 ImageOne =
-    (w : Wall) (out : List ℕ) → imageNumber (imageWritten One w out) ≡ cond (allPlain w) (cond (leb (35 * length w + 2) (length out)) 0 19) 31
+    (w : Wall) (out : List ℕ) → imageNumber (imageWritten Form.One w out) ≡ cond (allPlain w) (cond (leb (35 * length w + 2) (length out)) 0 19) 31
 
 abbrev pub ImageTwo : Type 0
-ImageTwo = (w : Wall) (out : List ℕ) → imageNumber (imageWritten Two w out) ≡ cond (leb (45 * length w + 2) (length out)) 0 19
+ImageTwo = (w : Wall) (out : List ℕ) → imageNumber (imageWritten Form.Two w out) ≡ cond (leb (45 * length w + 2) (length out)) 0 19
 
 abbrev pub Answer : Type 0
 Answer = (out : List ℕ) (r : Reply) → answerNumber (sentOf out r) ≡ cond (leb 40 (length out)) 0 19

@@ -8,17 +8,17 @@ use lib.IntN.{ℤ, pos, negsuc}
 use lib.ListN.{length, getD}
 use lib.Signed.{mag, leZ}
 use Rattle.tiling.specs.declared.Kind.{Kind}
-use Rattle.settings.specs.declared.Profile.the-variants.{Phoenix}
+use Rattle.settings.specs.declared.Profile.{Profile}
 use Rattle.profiles.specs.declared.Video.{Video}
 use Rattle.settings.specs.Settings.{videoRow}
 use Rattle.models.specs.Models.{allowedFor}
 use Rattle.profiles.specs.Video.{tintOf, tintByte, videoIn, bytesOf}
 use Rattle.packet.specs.declared.MonitorId.{MonitorId}
 use Rattle.packet.specs.declared.GroupId.{GroupId}
-use Rattle.packet.specs.declared.Verdict.the-variants.{Intact}
+use Rattle.packet.specs.declared.Verdict.{Verdict}
 use Rattle.packet.specs.Reading.{Reading}
 use Rattle.panels.specs.declared.Panel.{Panel}
-use Rattle.panels.specs.declared.Seen.the-variants.{Phoenix as PhoenixSeen}
+use Rattle.panels.specs.declared.Seen.{Seen}
 use Rattle.panels.specs.Wall.{Wall, modelOf, blank, videoOf}
 use Rattle.panels.specs.Addressed.{reaches}
 use Rattle.panels.specs.WellFormed.{GoodPanel}
@@ -30,7 +30,7 @@ use Rattle.answers.specs.Played.{answered}
 abbrev pub OwnModel : Type 0
 OwnModel =
     (w : Wall) (r : Reading) (i : MonitorId) (g : GroupId) (n row : ℕ) (values : List ℕ)
-    → r .verdict ≡ Intact i g n → command (r .part) ≡ setOf row values
+    → r .verdict ≡ Verdict.Intact i g n → command (r .part) ≡ setOf row values
     → (k : ℕ) → k < length w
     → let p = getD w k blank in
     let held = heldThen row values p in
@@ -50,10 +50,10 @@ inPhoenixRange v =
 abbrev pub VideoAllowed : Type 0
 VideoAllowed =
     (bytes : List ℕ) (kind : Kind) → length bytes ≡ 7 → getD bytes 4 0 < 256
-    → allowedFor (record { profile = Phoenix; kind = kind }) videoRow bytes ≡ inPhoenixRange (videoIn bytes)
+    → allowedFor (record { profile = Profile.Phoenix; kind = kind }) videoRow bytes ≡ inPhoenixRange (videoIn bytes)
 
 -- What is set is what is seen.
 abbrev pub SeenAsSet : Type 0
 SeenAsSet =
-    (p : Panel) (v : Video) → GoodPanel p → p .profile ≡ Phoenix → mag (v .tint) < 128
-    → videoOf (stored videoRow (bytesOf v) p) ≡ PhoenixSeen v
+    (p : Panel) (v : Video) → GoodPanel p → p .profile ≡ Profile.Phoenix → mag (v .tint) < 128
+    → videoOf (stored videoRow (bytesOf v) p) ≡ Seen.Phoenix v

@@ -2,13 +2,13 @@
 use Prim.Native.Nat.{ℕ}
 use mathlib.Core.List.{List, [], _∷_, map}
 use mathlib.Core.Path.{_≡_}
-use Rattle.settings.specs.declared.Profile.the-variants.{General}
-use Rattle.tiling.specs.declared.Kind.the-variants.{FiveByFive}
+use Rattle.settings.specs.declared.Profile.{Profile}
+use Rattle.tiling.specs.declared.Kind.{Kind}
 use Rattle.packet.specs.Packet.{monitorId, groupId}
 use Rattle.panels.specs.declared.Panel.{Panel}
 use Rattle.panels.specs.Wall.{Wall, freshPanel}
 use Rattle.answers.specs.Judged.{stored}
-use Rattle.forms.specs.declared.Form.the-variants.{Two}
+use Rattle.forms.specs.declared.Form.{Form}
 use Rattle.image_write.specs.Written.{imageOf}
 use Rattle.image_salvage.specs.Salvaged.{salvageOf, textOf}
 
@@ -19,13 +19,13 @@ pub record Case : Type 0 where
   pub wall : Wall
 
 abbrev pub tried : List (List ℕ) → Case
-tried records = let s = salvageOf (imageOf Two records) in record { records = records; text = textOf s; wall = s .wall }
+tried records = let s = salvageOf (imageOf Form.Two records) in record { records = records; text = textOf s; wall = s .wall }
 
 abbrev pub case : List (List ℕ) → List ℕ → Wall → Case
 case r t w = record { records = r; text = t; wall = w }
 
 abbrev pub one : Panel
-one = freshPanel (monitorId 1) (groupId 9) General FiveByFive
+one = freshPanel (monitorId 1) (groupId 9) Profile.General Kind.FiveByFive
 
 -- In ASCII 49 is the digit 1, 32 the space and 10 the line feed. The fan is row 6, its code 0x61; APM row 8, its code 0xD0.
 unfoldable pub cases : List Case

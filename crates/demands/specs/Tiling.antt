@@ -11,12 +11,12 @@ use Rattle.tiling.specs.Kinds.{kindNumber}
 use Rattle.models.specs.declared.Model.{Model}
 use Rattle.settings.specs.Settings.{tilingRow}
 use Rattle.packet.specs.declared.MonitorId.{MonitorId}
-use Rattle.packet.specs.declared.Control.the-variants.{Ack, Nav}
+use Rattle.packet.specs.declared.Control.{Control}
 use Rattle.packet.specs.declared.Verdict.{Verdict}
 use Rattle.packet.specs.Packet.{groupId}
 use Rattle.packet.specs.Reading.{Reading}
 use Rattle.panels.specs.declared.Table.{Table}
-use Rattle.panels.specs.declared.Place.the-variants.{At}
+use Rattle.panels.specs.declared.Place.{Place}
 use Rattle.panels.specs.Wall.{blank, placeOf, panelsOf}
 use Rattle.panels.specs.WellFormed.{WellFormed}
 use Rattle.answers.specs.Reply.{wordFrom}
@@ -57,13 +57,13 @@ sits kind position byte =
 -- its tiling is as it was. Byte 0 leaves it the wall that it has.
 abbrev pub TilingSet : Type 0
 TilingSet =
-    (t : Table) → WellFormed t → (i : MonitorId) (k enable frame position byte n : ℕ) → placeOf i (panelsOf t) ≡ At k
+    (t : Table) → WellFormed t → (i : MonitorId) (k enable frame position byte n : ℕ) → placeOf i (panelsOf t) ≡ Place.At k
     → (r : Reading) → r .verdict ≡ Verdict.Intact i (groupId 0) n → r .part ≡ 0x22 ∷ enable ∷ frame ∷ position ∷ byte ∷ []
     → let values = getD (panelsOf t) k blank .values in
     let wall = cond (eqb byte 0) (getD values 5 0) byte in
     let good = leb enable 1 && (leb frame 1 && sits (getD values 0 0) position wall) in
     let o = answered (panelsOf t) r in
-    (o .reply ≡ wordFrom i (cond good Ack Nav))
+    (o .reply ≡ wordFrom i (cond good Control.Ack Control.Nav))
     × (take 4 (drop 2 (getD (o .wall) k blank .values)) ≡ cond good (enable ∷ frame ∷ position ∷ wall ∷ []) (take 4 (drop 2 values)))
 
 -- At all times each panel's kind is 0 or 1, and its position one of its wall.

@@ -4,11 +4,10 @@ use Prim.Native.Nat.{ℕ}
 use mathlib.Core.Path.{_≡_}
 use mathlib.Core.List.{List, [], _∷_, map}
 use lib.ListN.{getD}
-use Rattle.packet.specs.declared.Control.the-variants.{Ack, Nav}
+use Rattle.packet.specs.declared.Control.{Control}
 use Rattle.packet.specs.Packet.{monitorId}
 use Rattle.panels.specs.Wall.{Wall}
 use Rattle.answers.specs.declared.Answer.{Answer}
-use Rattle.answers.specs.declared.Answer.the-variants.{Silence, Word, Report}
 use Rattle.answers.specs.declared.Reply.{Reply}
 use Rattle.answers.specs.Reply.{silence, wordFrom}
 use Rattle.answers.specs.Played.{Outcome, played}
@@ -22,7 +21,7 @@ always r w b = record { wall = w; reply = r }
 
 -- every burst NAV
 abbrev pub everyNav : Wall → List ℕ → Outcome
-everyNav w b = record { wall = w; reply = wordFrom (monitorId (getD b 1 0)) Nav }
+everyNav w b = record { wall = w; reply = wordFrom (monitorId (getD b 1 0)) Control.Nav }
 
 -- never stores a set
 abbrev pub neverStores : Wall → List ℕ → Outcome
@@ -32,13 +31,13 @@ neverStores w b = record { wall = w; reply = played w b .reply }
 abbrev pub firstAlone : Box
 firstAlone w [] = record { wall = w; replies = [] }
 firstAlone w (b ∷ bs) =
-    record { wall = played w b .wall; replies = played w b .reply ∷ map (λ (c : List ℕ). wordFrom (monitorId (getD c 1 0)) Ack) bs }
+    record { wall = played w b .wall; replies = played w b .reply ∷ map (λ (c : List ℕ). wordFrom (monitorId (getD c 1 0)) Control.Ack) bs }
 
 -- two more: it stores only what it answers, so that sets to a group are lost
 abbrev pub ifSilent : Answer → Wall → Wall → Wall
-ifSilent Silence w v = w
-ifSilent (Word c) w v = v
-ifSilent Report w v = v
+ifSilent Answer.Silence w v = w
+ifSilent (Answer.Word c) w v = v
+ifSilent Answer.Report w v = v
 
 abbrev pub storesAnswered : Wall → List ℕ → Outcome
 storesAnswered w b = let o = played w b in record { wall = ifSilent (o .reply .answer) w (o .wall); reply = o .reply }

@@ -6,7 +6,6 @@ use native.Mathlib.Omega.{arith}
 use lib.Dec.{ltb}
 use lib.ListN.{length}
 use Rattle.faults.specs.declared.Fault.{Fault}
-use Rattle.faults.specs.declared.Fault.the-variants.{Dropped, Broken, NotAllowed}
 use Rattle.faults.specs.Lines.{space, lineFeed, decimal, faultNumber, codeWords, lineOf, longestLine}
 
 pub line-short : (n : ℕ) (f : Fault) → length (lineOf n f) ≤ longestLine
@@ -15,9 +14,9 @@ line-short n f = go (ltb n 10) f
   where
     go : (t : Bool) (f : Fault)
         → length (cond t ((48 + n) ∷ []) ((48 + n / 10) ∷ (48 + n % 10) ∷ []) ++ space ∷ (decimal (faultNumber f) ++ codeWords f ++ lineFeed ∷ [])) ≤ longestLine
-    go true Dropped = omega arith
-    go true (Broken code) = omega arith
-    go true (NotAllowed code) = omega arith
-    go false Dropped = omega arith
-    go false (Broken code) = omega arith
-    go false (NotAllowed code) = omega arith
+    go true Fault.Dropped = omega arith
+    go true (Fault.Broken code) = omega arith
+    go true (Fault.NotAllowed code) = omega arith
+    go false Fault.Dropped = omega arith
+    go false (Fault.Broken code) = omega arith
+    go false (Fault.NotAllowed code) = omega arith

@@ -9,7 +9,6 @@ use Rattle.digits.specs.Digits.{digitOf}
 use Rattle.refusals.specs.declared.Refusal.{Refusal}
 use Rattle.refusals.specs.Refusals.{refusalNumber}
 use Rattle.faults.specs.declared.Fault.{Fault}
-use Rattle.faults.specs.declared.Fault.the-variants.{Dropped, Broken, NotAllowed}
 use Rattle.faults.specs.declared.Line.{Line}
 
 abbrev pub space : ℕ
@@ -27,15 +26,15 @@ hex code = digitOf (code / 16) ∷ digitOf (code % 16) ∷ []
 
 -- the number of the reader's refusal
 abbrev pub faultNumber : Fault → ℕ
-faultNumber Dropped = refusalNumber Refusal.Record
-faultNumber (Broken code) = refusalNumber Refusal.Field
-faultNumber (NotAllowed code) = refusalNumber Refusal.Value
+faultNumber Fault.Dropped = refusalNumber Refusal.Record
+faultNumber (Fault.Broken code) = refusalNumber Refusal.Field
+faultNumber (Fault.NotAllowed code) = refusalNumber Refusal.Value
 
 -- and the code, where one is told
 abbrev pub codeWords : Fault → List ℕ
-codeWords Dropped = []
-codeWords (Broken code) = space ∷ hex code
-codeWords (NotAllowed code) = space ∷ hex code
+codeWords Fault.Dropped = []
+codeWords (Fault.Broken code) = space ∷ hex code
+codeWords (Fault.NotAllowed code) = space ∷ hex code
 
 unfoldable pub lineOf : ℕ → Fault → List ℕ
 lineOf number fault = decimal number ++ space ∷ (decimal (faultNumber fault) ++ codeWords fault ++ lineFeed ∷ [])

@@ -9,37 +9,36 @@ use lib.Dec.{eqb}
 use lib.ListN.{drop}
 use lib.Seq.{drop-cons}
 use Rattle.finding.specs.declared.Found.{Found}
-use Rattle.finding.specs.declared.Found.the-variants.{Set, Get, Nothing}
 use Rattle.settings.specs.Settings.{settings, setCode, getCode, rowCount, kindRow, row}
 use Rattle.finding.specs.Found.{foundFrom, foundBy, fieldBy}
 use Rattle.lists.proofs.Each.{alike}
 use Rattle.settings.proofs.Laws.{noSetting}
 
 -- Codes are distinct, and no get code is a set code: the get code of a setting finds its row, and a field's code its row too.
-pub get-found : {row : ℕ} → kindRow < row → row < rowCount → foundBy (getCode row) ≡ Get row
+pub get-found : {row : ℕ} → kindRow < row → row < rowCount → foundBy (getCode row) ≡ Found.Get row
 unfolding settings foundFrom
 get-found {row} s h =
     let k : suc (row - 1) ≡ row = omega arith in
-    rw k at (alike (λ k. foundBy (getCode (suc k))) (λ k. Get (suc k)) (rowCount - 1) refl {k = row - 1} (omega arith))
+    rw k at (alike (λ k. foundBy (getCode (suc k))) (λ k. Found.Get (suc k)) (rowCount - 1) refl {k = row - 1} (omega arith))
 
-pub field-found : {row : ℕ} → row < rowCount → fieldBy (setCode row) ≡ Set row
+pub field-found : {row : ℕ} → row < rowCount → fieldBy (setCode row) ≡ Found.Set row
 unfolding settings foundFrom fieldBy
-field-found h = alike (λ k. fieldBy (setCode k)) Set rowCount refl h
+field-found h = alike (λ k. fieldBy (setCode k)) Found.Set rowCount refl h
 
 -- what is found from row k on
 foundAfter : ℕ → ℕ → Found
 foundAfter c k = foundFrom c k (drop k settings)
 
 found-step : (c k : ℕ) → k < rowCount
-    → foundAfter c k ≡ cond (eqb (setCode k) c) (Set k) (cond (eqb (getCode k) c) (Get k) (foundAfter c (k + 1)))
+    → foundAfter c k ≡ cond (eqb (setCode k) c) (Found.Set k) (cond (eqb (getCode k) c) (Found.Get k) (foundAfter c (k + 1)))
 unfolding foundAfter foundFrom
 found-step c k h = rw (drop-cons settings k noSetting (unfold settings in h), add-one)
 
 -- What is found is a row of the nine settings, and the code is that row's.
 abbrev pub IsFound : ℕ → Found → Type 0
-IsFound c (Set row) = (row < rowCount) × (setCode row ≡ c) × (kindRow < row)
-IsFound c (Get row) = (row < rowCount) × (getCode row ≡ c) × (kindRow < row)
-IsFound c Nothing = Unit {0}
+IsFound c (Found.Set row) = (row < rowCount) × (setCode row ≡ c) × (kindRow < row)
+IsFound c (Found.Get row) = (row < rowCount) × (getCode row ≡ c) × (kindRow < row)
+IsFound c Found.Nothing = Unit {0}
 
 either : (P : Found → Type 0) (t : Bool) {x y : Found} → (t ≡ true → P x) → (t ≡ false → P y) → P (cond t x y)
 either P true f g = f refl
@@ -59,15 +58,15 @@ found-right c = found-after c (rowCount - 1) 1 refl (omega arith)
 
 -- The row of a field: also the kind's.
 abbrev pub IsField : ℕ → Found → Type 0
-IsField c (Set row) = (row < rowCount) × (setCode row ≡ c)
-IsField c (Get row) = Unit {0}
-IsField c Nothing = Unit {0}
+IsField c (Found.Set row) = (row < rowCount) × (setCode row ≡ c)
+IsField c (Found.Get row) = Unit {0}
+IsField c Found.Nothing = Unit {0}
 
 pub field-right : (c : ℕ) → IsField c (fieldBy c)
 unfolding fieldBy
 field-right c = either (IsField c) (eqb c (setCode kindRow)) (λ e. (unfold settings in omega arith, sym (eqb-true _ _ e))) (λ _. go (foundBy c) (found-right c))
   where
     go : (f : Found) → IsFound c f → IsField c f
-    go (Set row) (h, e, s) = (h, e)
-    go (Get row) f = tt
-    go Nothing f = tt
+    go (Found.Set row) (h, e, s) = (h, e)
+    go (Found.Get row) f = tt
+    go Found.Nothing f = tt

@@ -6,12 +6,11 @@ use lib.Dec.{eqb}
 use lib.ListN.{drop}
 use Rattle.settings.specs.Settings.{Setting, settings, setCode, kindRow}
 use Rattle.finding.specs.declared.Found.{Found}
-use Rattle.finding.specs.declared.Found.the-variants.{Set, Get, Nothing}
 
 -- the first of some rows, counted from k, that has the code c, and which of its two codes that is
 unfoldable pub foundFrom : ℕ → ℕ → List Setting → Found
-foundFrom c k [] = Nothing
-foundFrom c k (s ∷ rest) = cond (eqb (s .set) c) (Set k) (cond (eqb (s .get) c) (Get k) (foundFrom c (suc k) rest))
+foundFrom c k [] = Found.Nothing
+foundFrom c k (s ∷ rest) = cond (eqb (s .set) c) (Found.Set k) (cond (eqb (s .get) c) (Found.Get k) (foundFrom c (suc k) rest))
 
 -- on the line: no command sets or gets the kind
 abbrev pub foundBy : ℕ → Found
@@ -19,4 +18,4 @@ foundBy c = foundFrom c (suc kindRow) (drop (suc kindRow) settings)
 
 -- in an image: the code of a setting's field is its set code, and the kind has one too
 unfoldable pub fieldBy : ℕ → Found
-fieldBy c = cond (eqb c (setCode kindRow)) (Set kindRow) (foundBy c)
+fieldBy c = cond (eqb c (setCode kindRow)) (Found.Set kindRow) (foundBy c)

@@ -12,46 +12,44 @@ use Rattle.lists.specs.Lists.{same}
 use Rattle.lists.proofs.Both.{both}
 use Rattle.lists.proofs.Same.{same-is}
 use Rattle.settings.specs.declared.Profile.{Profile}
-use Rattle.settings.specs.declared.Profile.the-variants.{General, Phoenix}
 use Rattle.settings.specs.Settings.{valuesOf, freshValues, rowCount, kindRow, tilingRow}
-use Rattle.profiles.specs.declared.Numbered.the-variants.{Known}
+use Rattle.profiles.specs.declared.Numbered.{Numbered as ProfilesNumbered}
 use Rattle.profiles.proofs.Numbers.{number-back}
 use Rattle.forms.specs.declared.Form.{Form}
-use Rattle.forms.specs.declared.Form.the-variants.{One, Two}
 use Rattle.forms.specs.declared.Numbered.{Numbered}
 use Rattle.forms.specs.Forms.{formByte, formWith, headSize, headOf, profileIn, holds, hasField, keeps}
 
 pub byte-back : (form : Form) → formWith (formByte form) ≡ Numbered.Known form
 unfolding formWith
-byte-back One = refl
-byte-back Two = refl
+byte-back Form.One = refl
+byte-back Form.Two = refl
 
 -- a head has two bytes or three
 pub head-some : (form : Form) → (2 ≤ headSize form) × (headSize form ≤ 3)
-head-some One = (omega arith, omega arith)
-head-some Two = (omega arith, omega arith)
+head-some Form.One = (omega arith, omega arith)
+head-some Form.Two = (omega arith, omega arith)
 
 -- form 1 has room for general alone
-holds-general : (profile : Profile) → holds One profile ≡ true → profile ≡ General
-holds-general General e = refl
-holds-general Phoenix e = absurd (false≢true e)
+holds-general : (profile : Profile) → holds Form.One profile ≡ true → profile ≡ Profile.General
+holds-general Profile.General e = refl
+holds-general Profile.Phoenix e = absurd (false≢true e)
 
 -- a record's head, and what is behind it
 module _ (id group : ℕ) (profile : Profile) where
   pub head-length : (form : Form) → length (headOf form id group profile) ≡ headSize form
-  head-length One = refl
-  head-length Two = refl
+  head-length Form.One = refl
+  head-length Form.Two = refl
 
-  pub profile-back : (form : Form) (rest : List ℕ) → holds form profile ≡ true → profileIn form (headOf form id group profile ++ rest) ≡ Known profile
-  profile-back One rest h = rw (holds-general profile h)
-  profile-back Two rest h = number-back profile
+  pub profile-back : (form : Form) (rest : List ℕ) → holds form profile ≡ true → profileIn form (headOf form id group profile ++ rest) ≡ ProfilesNumbered.Known profile
+  profile-back Form.One rest h = rw (holds-general profile h)
+  profile-back Form.Two rest h = number-back profile
 
   pub behind-head : (form : Form) (rest : List ℕ) → drop (headSize form) (headOf form id group profile ++ rest) ≡ rest
-  behind-head One rest = refl
-  behind-head Two rest = refl
+  behind-head Form.One rest = refl
+  behind-head Form.Two rest = refl
 
 -- form 1 has a field for every row but two
-but-two : (P : ℕ → Type 0) → P kindRow → P tilingRow → (row : ℕ) → hasField One row ≡ false → P row
+but-two : (P : ℕ → Type 0) → P kindRow → P tilingRow → (row : ℕ) → hasField Form.One row ≡ false → P row
 but-two P kind tiling row e = go (eqb row kindRow) (eqb row tilingRow) refl refl e
   where
     go : (s t : Bool) → eqb row kindRow ≡ s → eqb row tilingRow ≡ t → not (s || t) ≡ false → P row
@@ -73,21 +71,21 @@ module _ (profile : Profile) (values : List ℕ) where
   pub kept-fresh : (form : Form) → keeps form profile values ≡ true → (row : ℕ) → hasField form row ≡ false
       → valuesOf row values ≡ valuesOf row (freshValues profile)
   unfolding keeps
-  kept-fresh One e row n =
-      let (room, rows) = both (holds One profile) _ e in
+  kept-fresh Form.One e row n =
+      let (room, rows) = both (holds Form.One profile) _ e in
       let (kind, tiling) = both _ _ rows in
       rw (holds-general profile room)
-      (but-two (λ row. valuesOf row values ≡ valuesOf row (freshValues General)) (same-is _ _ kind) (same-is _ _ tiling) row n)
-  kept-fresh Two e row n = absurd (false≢true (sym n))
+      (but-two (λ row. valuesOf row values ≡ valuesOf row (freshValues Profile.General)) (same-is _ _ kind) (same-is _ _ tiling) row n)
+  kept-fresh Form.Two e row n = absurd (false≢true (sym n))
 
   pub keeps-fresh : (form : Form) → holds form profile ≡ true
       → ((row : ℕ) → row < rowCount → hasField form row ≡ false → valuesOf row values ≡ valuesOf row (freshValues profile)) → keeps form profile values ≡ true
   unfolding keeps
-  keeps-fresh One room fresh =
+  keeps-fresh Form.One room fresh =
       let of-general = rw (holds-general profile room) at fresh in
       rw (room, of-general kindRow (omega arith) refl, of-general tilingRow (omega arith) refl, same-self _, same-self _)
-  keeps-fresh Two room fresh = refl
+  keeps-fresh Form.Two room fresh = refl
 
-  pub two-keeps : keeps Two profile values ≡ true
+  pub two-keeps : keeps Form.Two profile values ≡ true
   unfolding keeps
   two-keeps = refl

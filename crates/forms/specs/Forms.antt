@@ -7,18 +7,16 @@ use lib.Dec.{eqb}
 use lib.ListN.{getD}
 use Rattle.lists.specs.Lists.{same}
 use Rattle.settings.specs.declared.Profile.{Profile}
-use Rattle.settings.specs.declared.Profile.the-variants.{General}
 use Rattle.settings.specs.Settings.{freshValues, valuesOf, kindRow, tilingRow}
 use Rattle.profiles.specs.declared.Numbered.{Numbered as ProfileNumbered}
 use Rattle.profiles.specs.Numbers.{profileNumber, profileWith}
 use Rattle.forms.specs.declared.Form.{Form}
-use Rattle.forms.specs.declared.Form.the-variants.{One, Two}
 use Rattle.forms.specs.declared.Numbered.{Numbered}
 
 -- the form byte
 abbrev pub formByte : Form → ℕ
-formByte One = 1
-formByte Two = 2
+formByte Form.One = 1
+formByte Form.Two = 2
 
 unfoldable pub formWith : ℕ → Numbered
 formWith byte = cond (eqb byte 1) (Numbered.Known Form.One) (cond (eqb byte 2) (Numbered.Known Form.Two) Numbered.Unknown)
@@ -30,34 +28,34 @@ ifKnown Numbered.Unknown some none = none
 
 -- a record's head: ID, group, and in form 2 the profile's number
 abbrev pub headSize : Form → ℕ
-headSize One = 2
-headSize Two = 3
+headSize Form.One = 2
+headSize Form.Two = 3
 
 abbrev pub profileBytes : Form → Profile → List ℕ
-profileBytes One profile = []
-profileBytes Two profile = profileNumber profile ∷ []
+profileBytes Form.One profile = []
+profileBytes Form.Two profile = profileNumber profile ∷ []
 
 abbrev pub headOf : Form → ℕ → ℕ → Profile → List ℕ
 headOf form id group profile = id ∷ group ∷ profileBytes form profile
 
 -- the profile that a record says: form 1 has no room for one, and its records are general
 abbrev pub profileIn : Form → List ℕ → ProfileNumbered
-profileIn One bytes = ProfileNumbered.Known General
-profileIn Two bytes = profileWith (getD bytes 2 0)
+profileIn Form.One bytes = ProfileNumbered.Known Profile.General
+profileIn Form.Two bytes = profileWith (getD bytes 2 0)
 
 -- so that it has room for no other
 abbrev pub holds : Form → Profile → Bool
-holds One profile = eqb (profileNumber profile) (profileNumber General)
-holds Two profile = true
+holds Form.One profile = eqb (profileNumber profile) (profileNumber Profile.General)
+holds Form.Two profile = true
 
 -- the rows that a form has a field for
 abbrev pub hasField : Form → ℕ → Bool
-hasField One row = not (eqb row kindRow || eqb row tilingRow)
-hasField Two row = true
+hasField Form.One row = not (eqb row kindRow || eqb row tilingRow)
+hasField Form.Two row = true
 
 -- what a form has no field for is not lost where it is fresh
 abbrev pub isFresh : ℕ → List ℕ → Bool
-isFresh row values = same (valuesOf row values) (valuesOf row (freshValues General))
+isFresh row values = same (valuesOf row values) (valuesOf row (freshValues Profile.General))
 
 abbrev pub keepsRow : Form → ℕ → List ℕ → Bool
 keepsRow form row values = hasField form row || isFresh row values

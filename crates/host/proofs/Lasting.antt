@@ -21,7 +21,6 @@ use Rattle.packet.specs.declared.Verdict.{Verdict}
 use Rattle.packet.proofs.Packets.{packet-verdict, packet-data}
 use Rattle.requests.specs.declared.Request.{Request}
 use Rattle.requests.specs.declared.Said.{Said}
-use Rattle.requests.specs.declared.Said.the-variants.{Ack, Nack, Nav, Report, Nothing}
 use Rattle.requests.specs.Request.{requestData, requestPacket, isRequest}
 use Rattle.host.specs.Heard.{saidTo}
 use Rattle.host.specs.Machine.{Happening, start, burst, mark, State, Move, idle, sendings, mostSendings, waits, begun, again, ending, heard, telling, step}
@@ -55,11 +54,11 @@ pushed-on s = go (ltb (sendings s) mostSendings) refl
 
 told : (s : State) (d : List ℕ) (w : Said) → Ends s (ending s d w) ⊎ Goes s (isNack w) (ending s d w)
 unfolding ending
-told s d Ack = inl (record { over = refl; none = refl; count = refl })
-told s d Nack = pushed-on s
-told s d Nav = inl (record { over = refl; none = refl; count = refl })
-told s d Report = inl (record { over = refl; none = refl; count = refl })
-told s d Nothing = inr (record { next = refl; sent = refl; few = λ h. omega arith })
+told s d Said.Ack = inl (record { over = refl; none = refl; count = refl })
+told s d Said.Nack = pushed-on s
+told s d Said.Nav = inl (record { over = refl; none = refl; count = refl })
+told s d Said.Report = inl (record { over = refl; none = refl; count = refl })
+told s d Said.Nothing = inr (record { next = refl; sent = refl; few = λ h. omega arith })
 
 -- what is wrong with a burst changes nothing of that
 telling-on : (s : State) (k : ℕ) (d : Damage) (m : Move) → Ends s m ⊎ Goes s k m → Ends s (telling d m) ⊎ Goes s k (telling d m)

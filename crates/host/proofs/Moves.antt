@@ -14,20 +14,19 @@ use Rattle.packet.specs.Reading.{readingOf}
 use Rattle.packet.specs.declared.MonitorId.{MonitorId}
 use Rattle.packet.specs.declared.GroupId.{GroupId}
 use Rattle.packet.specs.declared.Verdict.{Verdict}
-use Rattle.packet.specs.declared.Verdict.the-variants.{Empty, Damaged, Intact}
 use Rattle.packet.proofs.Verdict.{the-type}
 use Rattle.host.specs.declared.Host.{Host}
-use Rattle.host.specs.declared.Refusal.the-variants.{NoRoom, Busy, NotARequest}
-use Rattle.host.specs.declared.Outcome.the-variants.{Idle, Waiting, Refused}
+use Rattle.host.specs.declared.Refusal.{Refusal}
+use Rattle.host.specs.declared.Outcome.{Outcome}
 use Rattle.requests.specs.declared.Request.{Request}
-use Rattle.requests.specs.declared.Said.the-variants.{Nothing}
+use Rattle.requests.specs.declared.Said.{Said}
 use Rattle.requests.specs.Request.{isRequest}
 use Rattle.requests.specs.Said.{wordIn}
 use Rattle.host.specs.Heard.{saidBy, saidTo}
 use Rattle.host.specs.Machine.{Happening, start, burst, mark, State, quiet, begun, again, ending, heard, telling, step}
 use Rattle.host.specs.Calls.{stateOf, call}
 
-pub no-room : (out : List ℕ) (s : State) (h : Happening) → length out < longest → call out s h ≡ quiet s (Refused NoRoom)
+pub no-room : (out : List ℕ) (s : State) (h : Happening) → length out < longest → call out s h ≡ quiet s (Outcome.Refused Refusal.NoRoom)
 unfolding call
 no-room out s h short = rw (lt-leb _ _ short)
 
@@ -38,15 +37,15 @@ some n h = omega arith
 module _ (out : List ℕ) (host : Host) (room : longest ≤ length out) where
   -- nothing waits
   module _ (e : host .sendings ≡ 0) where
-    pub idle-burst : (b : List ℕ) → call out (stateOf host) (burst b) ≡ telling (damageIn (readingOf b .verdict)) (quiet (stateOf host) Idle)
+    pub idle-burst : (b : List ℕ) → call out (stateOf host) (burst b) ≡ telling (damageIn (readingOf b .verdict)) (quiet (stateOf host) Outcome.Idle)
     unfolding call step
     idle-burst b = rw (le-leb _ _ room, length-replicate, e)
 
-    pub idle-mark : call out (stateOf host) mark ≡ quiet (stateOf host) Idle
+    pub idle-mark : call out (stateOf host) mark ≡ quiet (stateOf host) Outcome.Idle
     unfolding call step
     idle-mark = rw (le-leb _ _ room, length-replicate, e)
 
-    pub not-started : (r : Request) → isRequest r ≡ false → call out (stateOf host) (start r) ≡ quiet (stateOf host) (Refused NotARequest)
+    pub not-started : (r : Request) → isRequest r ≡ false → call out (stateOf host) (start r) ≡ quiet (stateOf host) (Outcome.Refused Refusal.NotARequest)
     unfolding call step
     not-started r t = rw (le-leb _ _ room, length-replicate, e, t)
 
@@ -64,7 +63,7 @@ module _ (out : List ℕ) (host : Host) (room : longest ≤ length out) where
     unfolding call step
     mark-heard = rw (le-leb _ _ room, length-replicate, lt-ltb _ _ (some _ ne))
 
-    pub busy : (r : Request) → call out (stateOf host) (start r) ≡ quiet (stateOf host) (Refused Busy)
+    pub busy : (r : Request) → call out (stateOf host) (start r) ≡ quiet (stateOf host) (Outcome.Refused Refusal.Busy)
     unfolding call step
     busy r = rw (le-leb _ _ room, length-replicate, lt-ltb _ _ (some _ ne))
 
@@ -77,25 +76,25 @@ heard-is s b d v e f = rw (f, e)
 module _ (s : State) (d : List ℕ) where
   -- what says nothing to the request is ignored
   module _ (v : Verdict) where
-    ignored : saidBy (s .request) v d ≡ Nothing → ending s d (saidBy (s .request) v d) ≡ quiet s Waiting
+    ignored : saidBy (s .request) v d ≡ Said.Nothing → ending s d (saidBy (s .request) v d) ≡ quiet s Outcome.Waiting
     unfolding ending
     ignored e = rw e
 
-    pub not-intact : OneOf (0 ∷ 1 ∷ []) (tagOf the-type v) → ending s d (saidBy (s .request) v d) ≡ quiet s Waiting
+    pub not-intact : OneOf (0 ∷ 1 ∷ []) (tagOf the-type v) → ending s d (saidBy (s .request) v d) ≡ quiet s Outcome.Waiting
     unfolding saidBy
     not-intact h = ignored (go v h)
       where
-        go : (v : Verdict) → OneOf (0 ∷ 1 ∷ []) (tagOf the-type v) → saidBy (s .request) v d ≡ Nothing
-        go Empty h = refl
-        go (Damaged damage) h = refl
-        go (Intact i g n) h = absurd (⊎-elim (λ e. omega arith) (λ e. omega arith) h)
+        go : (v : Verdict) → OneOf (0 ∷ 1 ∷ []) (tagOf the-type v) → saidBy (s .request) v d ≡ Said.Nothing
+        go Verdict.Empty h = refl
+        go (Verdict.Damaged damage) h = refl
+        go (Verdict.Intact i g n) h = absurd (⊎-elim (λ e. omega arith) (λ e. omega arith) h)
 
-    module _ (id : MonitorId) (group : GroupId) (n : ℕ) (e : v ≡ Intact id group n) where
-      pub other-group : (group .0 ≡ 0 → ⊥) → ending s d (saidBy (s .request) v d) ≡ quiet s Waiting
+    module _ (id : MonitorId) (group : GroupId) (n : ℕ) (e : v ≡ Verdict.Intact id group n) where
+      pub other-group : (group .0 ≡ 0 → ⊥) → ending s d (saidBy (s .request) v d) ≡ quiet s Outcome.Waiting
       unfolding saidBy
       other-group h = ignored (rw (e, ne-eqb _ _ h))
 
-      pub other-id : group .0 ≡ 0 → (id .0 ≡ s .request .id .0 → ⊥) → ending s d (saidBy (s .request) v d) ≡ quiet s Waiting
+      pub other-id : group .0 ≡ 0 → (id .0 ≡ s .request .id .0 → ⊥) → ending s d (saidBy (s .request) v d) ≡ quiet s Outcome.Waiting
       unfolding saidBy
       other-id g h = ignored (rw (e, eq-eqb _ _ g, ne-eqb _ _ h))
 

@@ -8,7 +8,6 @@ use lib.ListN.{replicate}
 use Rattle.packet.specs.Answered.{isHeard}
 use Rattle.packet.specs.Reading.{readingOf}
 use Rattle.requests.specs.declared.Said.{Said}
-use Rattle.requests.specs.declared.Said.the-variants.{Ack, Nack, Nav, Report, Nothing}
 use Rattle.requests.specs.Request.{requestPacket, isRequest}
 use Rattle.host.specs.Heard.{saidTo}
 use Rattle.host.specs.Machine.{Happening, start, burst, mark, State, Move, idle, sendings, mostSendings, waits, begun, again, ending, heard, step}
@@ -32,11 +31,11 @@ again-alike s a = either (ltb (sendings s) mostSendings) (record { alike = ap (�
 
 told-alike : (s : State) (d : List ℕ) (w : Said) → Alike s → Next (ending s d w)
 unfolding ending
-told-alike s d Ack a = record { alike = refl }
-told-alike s d Nack a = again-alike s a
-told-alike s d Nav a = record { alike = refl }
-told-alike s d Report a = record { alike = refl }
-told-alike s d Nothing a = record { alike = a }
+told-alike s d Said.Ack a = record { alike = refl }
+told-alike s d Said.Nack a = again-alike s a
+told-alike s d Said.Nav a = record { alike = refl }
+told-alike s d Said.Report a = record { alike = refl }
+told-alike s d Said.Nothing a = record { alike = a }
 
 step-alike : (s : State) (h : Happening) → Alike s → Next (step s h)
 unfolding step heard begun

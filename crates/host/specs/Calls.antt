@@ -12,16 +12,15 @@ use Rattle.refusals.specs.Refusals.{noRoom}
 use Rattle.host.specs.declared.Host.{Host}
 use Rattle.host.specs.declared.Step.{Step}
 use Rattle.host.specs.declared.Refusal.{Refusal}
-use Rattle.host.specs.declared.Refusal.the-variants.{NoRoom, Busy, NotARequest}
-use Rattle.host.specs.declared.Outcome.the-variants.{Refused}
+use Rattle.host.specs.declared.Outcome.{Outcome}
 use Rattle.requests.specs.Request.{requestPacket}
 use Rattle.host.specs.Machine.{Happening, State, Move, quiet, step}
 
 -- 01's numbers
 abbrev pub refusalNumber : Refusal → ℕ
-refusalNumber NoRoom = noRoom
-refusalNumber Busy = 21
-refusalNumber NotARequest = 22
+refusalNumber Refusal.NoRoom = noRoom
+refusalNumber Refusal.Busy = 21
+refusalNumber Refusal.NotARequest = 22
 
 -- a state by value has the number of the packets; they are all the request's own
 abbrev pub hostOf : State → Host
@@ -52,4 +51,4 @@ Answers m out r out' = (r ≡ stepOf m) × (out' ≡ laidOver (bytesOf m) out)
 
 -- an output without room for any packet is refused first; then it is the machine's step
 unfoldable pub call : List ℕ → State → Happening → Move
-call out s h = cond (leb longest (length out)) (step s h) (quiet s (Refused NoRoom))
+call out s h = cond (leb longest (length out)) (step s h) (quiet s (Outcome.Refused Refusal.NoRoom))

@@ -4,14 +4,13 @@ use mathlib.Core.Bool.{Bool, cond, _&&_}
 use mathlib.Core.List.{List, [], _∷_}
 use lib.ListN.{length, drop, replicate}
 use lib.Dec.{ltb}
-use Rattle.tiling.specs.declared.Kind.the-variants.{FiveByFive}
-use Rattle.settings.specs.declared.Profile.the-variants.{General}
+use Rattle.tiling.specs.declared.Kind.{Kind}
+use Rattle.settings.specs.declared.Profile.{Profile}
 use Rattle.settings.specs.Settings.{mostValues}
 use Rattle.packet.specs.Answered.{isHeard}
 use Rattle.packet.specs.Packet.{monitorId, groupId, damageIn}
 use Rattle.packet.specs.Reading.{Reading, readingOf}
 use Rattle.packet.specs.declared.Damage.{Damage}
-use Rattle.packet.specs.declared.Damage.the-variants.{Nothing}
 use Rattle.requests.specs.declared.Request.{Request}
 use Rattle.host.specs.declared.Refusal.{Refusal}
 use Rattle.host.specs.declared.End.{End}
@@ -43,7 +42,7 @@ pub record Move : Type 0 where
 -- nothing waits, and a fixed blank stands in the place of a request
 abbrev pub idle : State
 idle = record {
-  request = record { model = record { profile = General; kind = FiveByFive }; id = monitorId 0; group = groupId 0; code = 0; values = replicate mostValues 0; count = 0 };
+  request = record { model = record { profile = Profile.General; kind = Kind.FiveByFive }; id = monitorId 0; group = groupId 0; code = 0; values = replicate mostValues 0; count = 0 };
   given = [];
 }
 
@@ -60,7 +59,7 @@ mostSendings = 3
 
 -- of no burst is anything told
 abbrev pub move : State → List (List ℕ) → Outcome → List ℕ → Move
-move s packets o vs = record { next = s; sent = packets; outcome = o; values = vs; damage = Nothing }
+move s packets o vs = record { next = s; sent = packets; outcome = o; values = vs; damage = Damage.Nothing }
 
 -- nothing is given out and nothing changes
 abbrev pub quiet : State → Outcome → Move

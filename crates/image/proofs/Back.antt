@@ -14,15 +14,15 @@ use Rattle.settings.specs.Settings.{setCode, freshValues, valuesOf, rowCount, v
 use Rattle.lists.specs.Lists.{each, laidOver}
 use Rattle.packet.specs.declared.MonitorId.{MonitorId}
 use Rattle.panels.specs.declared.Panel.{Panel}
-use Rattle.panels.specs.declared.Place.the-variants.{Nowhere}
+use Rattle.panels.specs.declared.Place.{Place}
 use Rattle.panels.specs.Wall.{Wall, modelOf, blank, placeFrom, mostPanels}
 use Rattle.panels.specs.WellFormed.{GoodPanel, Absent, GoodWall}
 use Rattle.panels.proofs.Formed.{absent-snoc, good-at}
-use Rattle.refusals.specs.declared.Refusal.the-variants.{Nothing}
+use Rattle.refusals.specs.declared.Refusal.{Refusal}
 use Rattle.forms.specs.declared.Form.{Form}
 use Rattle.forms.specs.Forms.{hasField, keeps}
 use Rattle.forms.proofs.Laws.{kept-profile, kept-fresh}
-use Rattle.image_write.specs.declared.Written.the-variants.{Bytes}
+use Rattle.image_write.specs.declared.Written.{Written}
 use Rattle.image_write.specs.Written.{field, fieldIn, fieldsOf, recordOf, recordsOf, setupOf, sizeOf, losesNothing, writtenOf, outputOf}
 use Rattle.image_read.specs.Fields.{fieldsIn}
 use Rattle.image_read.specs.Read.{Reading, recordRefusal, panelIn, readRecords, readOf}
@@ -100,7 +100,7 @@ module _ (form : Form) (values : List ℕ) where
       later false less ih = ih
 
 -- where an ID is absent nothing is found
-absent-nowhere : (i : MonitorId) (k : ℕ) (w : Wall) → Absent i w → placeFrom i k w ≡ Nowhere
+absent-nowhere : (i : MonitorId) (k : ℕ) (w : Wall) → Absent i w → placeFrom i k w ≡ Place.Nowhere
 unfolding placeFrom
 absent-nowhere i k [] a = refl
 absent-nowhere i k (p ∷ w) (n, a) = rw (ne-eqb (p .id .0) (i .0) n) (absent-nowhere i (suc k) w a)
@@ -119,7 +119,7 @@ module _ (p : Panel) (good : GoodPanel p) (form : Form) (kept : keeps form (p .p
           without-gives (valuesOf row (freshValues (p .profile))) row (entriesFrom form (p .values) 0 rowCount) (has-all form (p .values) row h none)
           ∙ sym (kept-fresh (p .profile) (p .values) form kept row none)
 
-  fields-back : fieldsIn form (p .profile) (flatten (fieldsOf form (p .values))) ≡ record { refusal = Nothing; values = p .values }
+  fields-back : fieldsIn form (p .profile) (flatten (fieldsOf form (p .values))) ≡ record { refusal = Refusal.Nothing; values = p .values }
   unfolding fieldsOf
   fields-back =
       let (own, first) = good-from form (p .values) (modelOf p) own-good 0 rowCount (omega arith) in
@@ -133,7 +133,7 @@ module _ (p : Panel) (good : GoodPanel p) (form : Form) (kept : keeps form (p .p
       panel-said form (p .id .0) (p .group .0) (p .profile) (flatten (fieldsOf form (p .values))) (kept-profile (p .profile) (p .values) form kept)
       ∙ ap (saidPanel (p .id .0) (p .group .0) (p .profile)) fields-back
 
-  record-back : (w : Wall) → Absent (p .id) w → recordRefusal form w (recordOf form p) ≡ Nothing
+  record-back : (w : Wall) → Absent (p .id) w → recordRefusal form w (recordOf form p) ≡ Refusal.Nothing
   unfolding recordOf saidRefusal
   record-back w a =
       refusal-said form (p .id .0) (p .group .0) (p .profile) (flatten (fieldsOf form (p .values))) (kept-profile (p .profile) (p .values) form kept) w
@@ -151,13 +151,13 @@ apart-snoc w (q ∷ v) p (a, apart) (n, b) = (absent-snoc (q .id) w p a (λ e. n
 
 module _ (form : Form) where
   records-back : (w v : Wall) → GoodWall v → losesNothing form v ≡ true → Apart w v
-      → readRecords form w (recordsOf form v) ≡ record { refusal = Nothing; wall = w ++ v }
+      → readRecords form w (recordsOf form v) ≡ record { refusal = Refusal.Nothing; wall = w ++ v }
   unfolding readRecords
-  records-back w [] good held a = ap {B = Reading} (λ (u : Wall). record { refusal = Nothing; wall = u }) (sym (append-nil w))
+  records-back w [] good held a = ap {B = Reading} (λ (u : Wall). record { refusal = Refusal.Nothing; wall = u }) (sym (append-nil w))
   records-back w (p ∷ v) (g, b, good) held (a, apart) =
       let (here, rest) = first-held form p v held in
       rw (record-back p g form here w a, panel-back p g form here)
-      (records-back (w ++ p ∷ []) v good rest (apart-snoc w v p apart b) ∙ ap {B = Reading} (λ (u : Wall). record { refusal = Nothing; wall = u }) (append-snoc w p v))
+      (records-back (w ++ p ∷ []) v good rest (apart-snoc w v p apart b) ∙ ap {B = Reading} (λ (u : Wall). record { refusal = Refusal.Nothing; wall = u }) (append-snoc w p v))
 
   -- The image of a good wall that the form holds is sound and reads as that wall.
   module _ (w : Wall) (good : GoodWall w) (few : length w ≤ mostPanels) (held : losesNothing form w ≡ true) where
@@ -166,7 +166,7 @@ module _ (form : Form) where
         let h′ : k < length w = omega (arith, length-map w (recordOf form)) in
         rw (record-at form w k h′) (omega (arith, record-length form (getD w k blank) (good-at w good k h′ .full), record-some form))
 
-    pub reads-back : readOf (setupOf form w) ≡ record { refusal = Nothing; wall = w }
+    pub reads-back : readOf (setupOf form w) ≡ record { refusal = Refusal.Nothing; wall = w }
     unfolding readOf
     reads-back =
         let records = recordsOf form w in
@@ -182,14 +182,14 @@ module _ (form : Form) where
   image-size w good =
       image-length form (recordsOf form w) ∙ rw (records-long form w good, length-map w (recordOf form)) (omega (arith, products form 0 (length w) .0))
 
-  pub front-is-image : (w : Wall) → GoodWall w → (out : List ℕ) (n : ℕ) → writtenOf form w out ≡ Bytes n → take n (outputOf form w out) ≡ setupOf form w
+  pub front-is-image : (w : Wall) → GoodWall w → (out : List ℕ) (n : ℕ) → writtenOf form w out ≡ Written.Bytes n → take n (outputOf form w out) ≡ setupOf form w
   unfolding laidOver
   front-is-image w good out n e =
       let (held, room, size) = was-written form w out n e in
       rw (size, is-written form w out held room .1) (take-at (setupOf form w) _ (sizeOf form w) (image-size w good))
 
   -- Reading what was written of a table gives that table.
-  pub written-back : (w : Wall) → GoodWall w → length w ≤ mostPanels → (out : List ℕ) (n : ℕ) → writtenOf form w out ≡ Bytes n
-      → readOf (take n (outputOf form w out)) ≡ record { refusal = Nothing; wall = w }
+  pub written-back : (w : Wall) → GoodWall w → length w ≤ mostPanels → (out : List ℕ) (n : ℕ) → writtenOf form w out ≡ Written.Bytes n
+      → readOf (take n (outputOf form w out)) ≡ record { refusal = Refusal.Nothing; wall = w }
   written-back w good few out n e =
       ap readOf (front-is-image w good out n e) ∙ reads-back w good few (was-written form w out n e .0)

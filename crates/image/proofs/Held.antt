@@ -4,10 +4,9 @@ use mathlib.Core.Bool.{Bool, true, false, cond}
 use mathlib.Core.List.{List, [], _∷_, _++_}
 use Prim.Native.Nat.{ℕ}
 use lib.ListN.{drop}
-use Rattle.settings.specs.declared.Profile.the-variants.{General}
+use Rattle.settings.specs.declared.Profile.{Profile}
 use Rattle.panels.specs.Wall.{Wall}
 use Rattle.forms.specs.declared.Form.{Form}
-use Rattle.forms.specs.declared.Form.the-variants.{One, Two}
 use Rattle.forms.specs.Forms.{headSize, keeps}
 use Rattle.forms.proofs.Laws.{keeps-fresh, two-keeps}
 use Rattle.image_write.specs.Written.{losesNothing}
@@ -19,8 +18,8 @@ use Rattle.image_read.proofs.Sound.{fields-gathered}
 
 panel-held : (form : Form) (bytes : List ℕ) → keeps form (panelIn form bytes .profile) (panelIn form bytes .values) ≡ true
 unfolding panelIn
-panel-held One bytes = keeps-fresh General _ One refl (λ row h none. fields-gathered One General (drop (headSize One) bytes) .fresh row none)
-panel-held Two bytes = two-keeps _ _
+panel-held Form.One bytes = keeps-fresh Profile.General _ Form.One refl (λ row h none. fields-gathered Form.One Profile.General (drop (headSize Form.One) bytes) .fresh row none)
+panel-held Form.Two bytes = two-keeps _ _
 
 either : (form : Form) (t : Bool) (a b : Reading) → losesNothing form (a .wall) ≡ true → losesNothing form (b .wall) ≡ true
     → losesNothing form (cond t a b .wall) ≡ true

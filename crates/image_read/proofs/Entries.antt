@@ -11,7 +11,6 @@ use lib.Seq.{take-at, drop-at, getD-set-other}
 use Rattle.settings.specs.declared.Profile.{Profile}
 use Rattle.models.specs.declared.Model.{Model}
 use Rattle.finding.specs.declared.Found.{Found}
-use Rattle.finding.specs.declared.Found.the-variants.{Set, Get, Nothing}
 use Rattle.settings.specs.Settings.{setCode, byteCount, valuesOf, valuesWith, rowCount, valueCount, kindRow, tilingRow}
 use Rattle.finding.specs.Found.{fieldBy}
 use Rattle.models.specs.Models.{kindFor, allowedFor, modelIn}
@@ -20,9 +19,8 @@ use Rattle.models.proofs.Laws.{allowed-many, kind-free}
 use Rattle.forms.specs.declared.Form.{Form}
 use Rattle.forms.specs.Forms.{hasField}
 use Rattle.panels.proofs.Values.{length-with, other-row}
-use Rattle.refusals.specs.declared.Refusal.the-variants.{Nothing as Sound}
+use Rattle.refusals.specs.declared.Refusal.{Refusal}
 use Rattle.image_record.specs.declared.Step.{Step}
-use Rattle.image_record.specs.declared.Step.the-variants.{Field, NotAllowed, Broken, End}
 use Rattle.image_read.specs.declared.Fields.{Fields}
 use Rattle.image_record.specs.Field.{valuesIn, misplaced, misfits, fieldOf, stepAt, behind}
 use Rattle.image_read.specs.Fields.{fieldsFrom}
@@ -33,9 +31,9 @@ use Rattle.image_read.proofs.Steps.{fields-step}
 
 -- the row of an entry's code
 rowFound : Found → ℕ
-rowFound (Set row) = row
-rowFound (Get row) = 0
-rowFound Nothing = 0
+rowFound (Found.Set row) = row
+rowFound (Found.Get row) = 0
+rowFound Found.Nothing = 0
 
 unfoldable pub rowOf : Entry → ℕ
 unfolding rowFound
@@ -133,8 +131,8 @@ module _ (form : Form) (profile : Profile) where
       go false t = absurd (has (rowOf e) (g .in-table) t .0 (sym (g .code)))
 
   pub all-taken : (es : List Entry) (seen : List Bool) (values : List ℕ) → GoodEntries (modelIn profile (stored es values)) es → KindFirst es → HasAll form es
-      → Unseen seen es → length values ≡ valueCount → fieldsFrom form profile seen values (bytesOf es) ≡ record { refusal = Sound; values = stored es values }
-  all-taken [] seen values good first has u full = fields-step form profile seen values (bytesOf []) End (unfold stepAt bytesOf flatten in refl)
+      → Unseen seen es → length values ≡ valueCount → fieldsFrom form profile seen values (bytesOf es) ≡ record { refusal = Refusal.Nothing; values = stored es values }
+  all-taken [] seen values good first has u full = fields-step form profile seen values (bytesOf []) Step.End (unfold stepAt bytesOf flatten in refl)
   all-taken (e ∷ es) seen values (g, without, good) (k, first) has (free, u) full =
       let n = count-of g in
       let left = e .code ∷ length (e .values) ∷ (e .values ++ bytesOf es) in
@@ -149,7 +147,7 @@ module _ (form : Form) (profile : Profile) where
         allowed = rw vs (judged-alike _ profile e es values (g .code) n k good full ∙ g .allowed);
       } in
       ap (fieldsFrom form profile seen values) (bytes-cons e es)
-      ∙ fields-step form profile seen values left (Field (rowOf e)) (stands-it form profile true stands-e)
+      ∙ fields-step form profile seen values left (Step.Field (rowOf e)) (stands-it form profile true stands-e)
       ∙ rw (vs, front-behind e (bytesOf es) (rowOf e) n)
       (all-taken es (seenWith (rowOf e) seen) (valuesWith (rowOf e) (e .values) values) good first (λ row h t. has row h t .1)
       (still-unseen _ g seen es without k good u) (length-with (rowOf e) (e .values) values n full))
@@ -170,22 +168,22 @@ were-unseen d seen (e ∷ es) h (free, u) =
 
 module _ (form : Form) (profile : Profile) where
   -- only where no byte is left the fields end
-  never-end : (seen : List Bool) (values left : List ℕ) → 0 < length left → stepAt form profile seen values left ≡ End → ⊥
+  never-end : (seen : List Bool) (values left : List ℕ) → 0 < length left → stepAt form profile seen values left ≡ Step.End → ⊥
   unfolding stepAt
   never-end seen values left h e = by-found (fieldBy (getD left 0 0)) (rw (ne-eqb (length left) 0 (λ z. omega arith)) at e)
     where
-      by-tests : (r : ℕ) (a b : Bool) → cond a Broken (cond b (Field r) (NotAllowed r)) ≡ End → ⊥
+      by-tests : (r : ℕ) (a b : Bool) → cond a Step.Broken (cond b (Step.Field r) (Step.NotAllowed r)) ≡ Step.End → ⊥
       by-tests r true b e = let z : _≡_ {A = ℕ} 0 1 = cc in omega arith
       by-tests r false true e = let z : _≡_ {A = ℕ} 0 1 = cc in omega arith
       by-tests r false false e = let z : _≡_ {A = ℕ} 0 1 = cc in omega arith
 
-      by-found : (f : Found) → fieldOf form profile f seen values left ≡ End → ⊥
-      by-found (Set r) e = by-tests r (misplaced form seen r || misfits r left) (allowedFor (modelIn profile values) r (valuesIn r left)) e
-      by-found (Get r) e = let z : _≡_ {A = ℕ} 0 1 = cc in omega arith
-      by-found Nothing e = let z : _≡_ {A = ℕ} 0 1 = cc in omega arith
+      by-found : (f : Found) → fieldOf form profile f seen values left ≡ Step.End → ⊥
+      by-found (Found.Set r) e = by-tests r (misplaced form seen r || misfits r left) (allowedFor (modelIn profile values) r (valuesIn r left)) e
+      by-found (Found.Get r) e = let z : _≡_ {A = ℕ} 0 1 = cc in omega arith
+      by-found Found.Nothing e = let z : _≡_ {A = ℕ} 0 1 = cc in omega arith
 
   pub no-fault : (es : List Entry) (seen : List Bool) (values : List ℕ) → length seen ≡ rowCount → length values ≡ valueCount
-      → fieldsFrom form profile seen values (bytesOf es) .refusal ≡ Sound
+      → fieldsFrom form profile seen values (bytesOf es) .refusal ≡ Refusal.Nothing
       → GoodEntries (modelIn profile (stored es values)) es × KindFirst es × HasAll form es × Unseen seen es
   no-fault [] seen values n full e = (tt, tt, (λ row h t. tt), tt)
   no-fault (e ∷ es) seen values n full sound = go (stepAt form profile seen values left) refl
@@ -197,15 +195,15 @@ module _ (form : Form) (profile : Profile) where
 
       go : (s : Step) → stepAt form profile seen values left ≡ s
           → ((row : ℕ) → length (e .values) ≡ byteCount row
-          → fieldsFrom form profile (seenWith row seen) (valuesWith row (e .values) values) (bytesOf es) .refusal ≡ Sound
+          → fieldsFrom form profile (seenWith row seen) (valuesWith row (e .values) values) (bytesOf es) .refusal ≡ Refusal.Nothing
           → GoodEntries (modelIn profile (stored es (valuesWith row (e .values) values))) es × KindFirst es × HasAll form es × Unseen (seenWith row seen) es)
-          → fieldsFrom form profile seen values left .refusal ≡ Sound
+          → fieldsFrom form profile seen values left .refusal ≡ Refusal.Nothing
           → GoodEntries (modelIn profile (stored (e ∷ es) values)) (e ∷ es) × KindFirst (e ∷ es) × HasAll form (e ∷ es) × Unseen seen (e ∷ es)
-      go (Field row) st ih sound =
+      go (Step.Field row) st ih sound =
           let t = stands form profile true seen values left row st in
           let vs = front-values e (bytesOf es) row (t .count) in
           let is-row = row-is e (t .in-table) (sym (t .code)) in
-          let next = fields-step form profile seen values left (Field row) st
+          let next = fields-step form profile seen values left (Step.Field row) st
           ∙ ap₂ (λ (v b : List ℕ). fieldsFrom form profile (seenWith row seen) (valuesWith row v values) b) vs (front-behind e (bytesOf es) row (t .count)) in
           let (good, first, has, u) = rw (← is-row) at (ih row (t .count) (ap (λ (f : Fields). f .refusal) (sym next) ∙ sound)) in
           let (without, k, u′) = were-unseen e seen es (rw (is-row, n) (t .in-table)) u in
@@ -217,10 +215,10 @@ module _ (form : Form) (profile : Profile) where
             (λ r h none. ((λ c. false≢true (sym none ∙ ap (hasField form) (sym (row-is e h (sym c)) ∙ is-row) ∙ t .has)), has r h none)),
             (rw is-row (t .free), u′),
           )
-      go (NotAllowed row) st ih sound =
-          let f = ap (λ (f : Fields). f .refusal) (fields-step form profile seen values left (NotAllowed row) st) in
+      go (Step.NotAllowed row) st ih sound =
+          let f = ap (λ (f : Fields). f .refusal) (fields-step form profile seen values left (Step.NotAllowed row) st) in
           let z : _≡_ {A = ℕ} 0 1 = cc in absurd (omega arith)
-      go Broken st ih sound =
-          let f = ap (λ (f : Fields). f .refusal) (fields-step form profile seen values left Broken st) in
+      go Step.Broken st ih sound =
+          let f = ap (λ (f : Fields). f .refusal) (fields-step form profile seen values left Step.Broken st) in
           let z : _≡_ {A = ℕ} 0 1 = cc in absurd (omega arith)
-      go End st ih sound = absurd (never-end seen values left (omega arith) st)
+      go Step.End st ih sound = absurd (never-end seen values left (omega arith) st)

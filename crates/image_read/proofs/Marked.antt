@@ -6,12 +6,11 @@ use Prim.Native.Nat.{ℕ}
 use lib.ListN.{drop}
 use Rattle.settings.specs.declared.Profile.{Profile}
 use Rattle.profiles.specs.declared.Numbered.{Numbered}
-use Rattle.profiles.specs.declared.Numbered.the-variants.{Known, Unknown}
 use Rattle.profiles.specs.Numbers.{ifKnown}
 use Rattle.panels.specs.Wall.{Wall}
 use Rattle.forms.specs.declared.Form.{Form}
 use Rattle.forms.specs.Forms.{headSize}
-use Rattle.refusals.specs.declared.Refusal.the-variants.{Record}
+use Rattle.refusals.specs.declared.Refusal.{Refusal}
 use Rattle.refusals.specs.Refusals.{isSound}
 use Rattle.image_record.specs.Head.{idIn, headIn}
 use Rattle.image_record.proofs.Heads.{Marks, head-alike}
@@ -30,9 +29,9 @@ module _ {seen : List Bool} {w : Wall} (m : Marks seen w) (form : Form) (bytes :
   unfolding panelBy recordRefusal read-with
   refusal-alike = rw (head-alike m form bytes) (go (headIn form (idIn w) bytes))
     where
-      go : (n : Numbered) → ifKnown n read-with noPanel .refusal ≡ ifKnown n (λ profile. read-with profile .refusal) Record
-      go (Known profile) = refl
-      go Unknown = refl
+      go : (n : Numbered) → ifKnown n read-with noPanel .refusal ≡ ifKnown n (λ profile. read-with profile .refusal) Refusal.Record
+      go (Numbered.Known profile) = refl
+      go Numbered.Unknown = refl
 
   pub panel-alike : isSound (recordRefusal form w bytes) ≡ true → panelBy form seen bytes .panel ≡ panelIn form bytes
   unfolding panelBy

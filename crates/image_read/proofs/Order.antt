@@ -9,7 +9,7 @@ use lib.Dec.{eqb}
 use lib.ListN.{length, replicate}
 use Rattle.settings.specs.declared.Profile.{Profile}
 use Rattle.models.specs.declared.Model.{Model}
-use Rattle.finding.specs.declared.Found.the-variants.{Set}
+use Rattle.finding.specs.declared.Found.{Found}
 use Rattle.settings.specs.Settings.{setCode, freshValues, valuesOf, rowCount, valueCount, kindRow, tilingRow}
 use Rattle.finding.specs.Found.{fieldBy}
 use Rattle.models.specs.Models.{modelIn}
@@ -20,7 +20,7 @@ use Rattle.panels.specs.Wall.{Wall}
 use Rattle.forms.specs.declared.Form.{Form}
 use Rattle.forms.specs.Forms.{hasField}
 use Rattle.image_read.specs.declared.Fields.{Fields}
-use Rattle.refusals.specs.declared.Refusal.the-variants.{Nothing as Sound}
+use Rattle.refusals.specs.declared.Refusal.{Refusal}
 use Rattle.image_whole.specs.Whole.{formOf, wholeRefusal, recordsIn}
 use Rattle.image_read.specs.Fields.{fieldsIn}
 use Rattle.refusals.specs.Refusals.{isSound}
@@ -41,7 +41,7 @@ without-permuted (twice p q) c w = without-permuted q c (without-permuted p c w)
 
 -- Set codes tell rows apart.
 pub codes-apart : {j k : ℕ} → j < rowCount → k < rowCount → setCode j ≡ setCode k → j ≡ k
-codes-apart hj hk e = let s : Set _ ≡ Set _ = sym (field-found hj) ∙ ap fieldBy e ∙ field-found hk in cc
+codes-apart hj hk e = let s : Found.Set _ ≡ Found.Set _ = sym (field-found hj) ∙ ap fieldBy e ∙ field-found hk in cc
 
 pub without-gives : (fresh : List ℕ) (row : ℕ) (es : List Entry) → Without (setCode row) es → givenOr fresh row es ≡ fresh
 without-gives fresh row [] w = refl
@@ -78,10 +78,10 @@ module _ (profile : Profile) where
   Readable form es = GoodEntries (modelIn profile (stored es (freshValues profile))) es × KindFirst es × HasAll form es
 
   good-read : (form : Form) (es : List Entry) → Readable form es
-      → fieldsIn form profile (bytesOf es) ≡ record { refusal = Sound; values = stored es (freshValues profile) }
+      → fieldsIn form profile (bytesOf es) ≡ record { refusal = Refusal.Nothing; values = stored es (freshValues profile) }
   good-read form es (good, first, has) = all-taken form profile es (replicate rowCount false) (freshValues profile) good first has (unseen _ es good) (fresh-count profile)
 
-  read-good : (form : Form) (es : List Entry) → fieldsIn form profile (bytesOf es) .refusal ≡ Sound → Readable form es
+  read-good : (form : Form) (es : List Entry) → fieldsIn form profile (bytesOf es) .refusal ≡ Refusal.Nothing → Readable form es
   read-good form es sound =
       let (good, first, has, u) = no-fault form profile es (replicate rowCount false) (freshValues profile) refl (fresh-count profile) sound in
       (good, first, has)
@@ -89,7 +89,7 @@ module _ (profile : Profile) where
   -- Good fields read as what they give each row, and as the same values where they give the same.
   pub given-read : (form : Form) (es : List Entry) (values : List ℕ) → GoodEntries (modelIn profile values) es → KindFirst es → HasAll form es
       → length values ≡ valueCount → ((row : ℕ) → row < rowCount → given profile row es ≡ valuesOf row values)
-      → fieldsIn form profile (bytesOf es) ≡ record { refusal = Sound; values = values }
+      → fieldsIn form profile (bytesOf es) ≡ record { refusal = Refusal.Nothing; values = values }
   given-read form es values good first has full rows =
       let same = stored-is (modelIn profile values) profile es values good full rows in
       rw same at (good-read form es (rw same good, first, has))
@@ -105,7 +105,7 @@ module _ (profile : Profile) where
       → fieldsIn g profile (bytesOf fs) ≡ fieldsIn f profile (bytesOf es)
   given-alike f g es fs good also rows =
       good-read g fs also
-      ∙ ap {B = Fields} (λ (v : List ℕ). record { refusal = Sound; values = v }) (stored-alike _ _ es fs (good .0) (also .0) rows)
+      ∙ ap {B = Fields} (λ (v : List ℕ). record { refusal = Refusal.Nothing; values = v }) (stored-alike _ _ es fs (good .0) (also .0) rows)
       ∙ sym (good-read f es good)
 
   -- Fields that are good for the panel that others make, and give each row the same, make that panel.
@@ -114,13 +114,13 @@ module _ (profile : Profile) where
   alike-read f g es fs good also first has rows =
       given-alike f g es fs good (rw (stored-alike _ _ es fs (good .0) also rows) also, first, has) rows
 
-  any-order : (f g : Form) (es fs : List Entry) → Reordered g profile es fs → fieldsIn f profile (bytesOf es) .refusal ≡ Sound
+  any-order : (f g : Form) (es fs : List Entry) → Reordered g profile es fs → fieldsIn f profile (bytesOf es) .refusal ≡ Refusal.Nothing
       → fieldsIn g profile (bytesOf fs) ≡ fieldsIn f profile (bytesOf es)
   any-order f g es fs (p, first, has) sound =
       let good = read-good f es sound in
       alike-read f g es fs good (good-permuted _ p (good .0)) first has (λ row h. permuted-given _ p (good .0) _ row)
 
-  by-given : (f g : Form) (es fs : List Entry) → GiveAlike g profile es fs → fieldsIn f profile (bytesOf es) .refusal ≡ Sound
+  by-given : (f g : Form) (es fs : List Entry) → GiveAlike g profile es fs → fieldsIn f profile (bytesOf es) .refusal ≡ Refusal.Nothing
       → fieldsIn g profile (bytesOf fs) ≡ fieldsIn f profile (bytesOf es)
   by-given f g es fs a sound = given-alike f g es fs (read-good f es sound) (read-good g fs (a .sound)) (a .rows)
 
@@ -134,7 +134,7 @@ module _ (profile : Profile) where
       go false e = refl
 
   pub left-out : (form : Form) (row : ℕ) (es : List Entry) → row < rowCount → hasField form row ≡ true → Without (setCode row) es
-      → (row ≡ tilingRow → Without (setCode kindRow) es) → fieldsIn form profile (bytesOf es) .refusal ≡ Sound
+      → (row ≡ tilingRow → Without (setCode kindRow) es) → fieldsIn form profile (bytesOf es) .refusal ≡ Refusal.Nothing
       → fieldsIn form profile (bytesOf (freshEntry profile row ∷ es)) ≡ fieldsIn form profile (bytesOf es)
   left-out form row es h field w k sound =
       let (good, first, has) = read-good form es sound in
@@ -147,7 +147,7 @@ module _ (profile : Profile) where
 -- Images, sound as a whole and each of its form, whose records have the same heads and fields that read alike read as the same
 -- wall, where there is no fault.
 module _ (P : Form → Profile → List Entry → List Entry → Type 0)
-    (read-alike : (profile : Profile) (f g : Form) (es fs : List Entry) → P g profile es fs → fieldsIn f profile (bytesOf es) .refusal ≡ Sound
+    (read-alike : (profile : Profile) (f g : Form) (es fs : List Entry) → P g profile es fs → fieldsIn f profile (bytesOf es) .refusal ≡ Refusal.Nothing
     → fieldsIn g profile (bytesOf fs) ≡ fieldsIn f profile (bytesOf es)) where
   record-same : (f g : Form) (w : Wall) (a b : List ℕ) → SameHead P f g a b → isSound (recordRefusal f w a) ≡ true
       → (recordRefusal g w b ≡ recordRefusal f w a) × (panelIn g b ≡ panelIn f a)
@@ -160,27 +160,27 @@ module _ (P : Form → Profile → List Entry → List Entry → Type 0)
             ∙ sym (ap (panelIn f) first ∙ panel-said f id group profile (bytesOf these) held),
       )
 
-  records-same : (f g : Form) (w : Wall) (xs ys : List (List ℕ)) → Forall₂ (SameHead P f g) xs ys → readRecords f w xs .refusal ≡ Sound
+  records-same : (f g : Form) (w : Wall) (xs ys : List (List ℕ)) → Forall₂ (SameHead P f g) xs ys → readRecords f w xs .refusal ≡ Refusal.Nothing
       → readRecords g w ys ≡ readRecords f w xs
   unfolding readRecords
   records-same f g w [] [] Forall₂·nil sound = refl
   records-same f g w (x ∷ xs) (y ∷ ys) (Forall₂·cons r rest) sound =
       go (isSound (recordRefusal f w x)) refl sound (records-same f g (wallWith f w x) xs ys rest)
     where
-      go : (t : Bool) → isSound (recordRefusal f w x) ≡ t → cond t (readRecords f (wallWith f w x) xs) (refused (recordRefusal f w x)) .refusal ≡ Sound
-          → (readRecords f (wallWith f w x) xs .refusal ≡ Sound → readRecords g (wallWith f w x) ys ≡ readRecords f (wallWith f w x) xs)
+      go : (t : Bool) → isSound (recordRefusal f w x) ≡ t → cond t (readRecords f (wallWith f w x) xs) (refused (recordRefusal f w x)) .refusal ≡ Refusal.Nothing
+          → (readRecords f (wallWith f w x) xs .refusal ≡ Refusal.Nothing → readRecords g (wallWith f w x) ys ≡ readRecords f (wallWith f w x) xs)
           → cond (isSound (recordRefusal g w y)) (readRecords g (wallWith g w y) ys) (refused (recordRefusal g w y))
           ≡ cond t (readRecords f (wallWith f w x) xs) (refused (recordRefusal f w x))
       go true e sound ih = let (refusal, panel) = record-same f g w x y r e in rw (refusal, panel, e) (ih sound)
       go false e sound ih = absurd (false≢true (sym e ∙ ap isSound sound))
 
   read-same : (image other : List ℕ) → isSound (wholeRefusal other) ≡ true → Forall₂ (SameHead P (formOf image) (formOf other)) (recordsIn image) (recordsIn other)
-      → readOf image .refusal ≡ Sound → readOf other ≡ readOf image
+      → readOf image .refusal ≡ Refusal.Nothing → readOf other ≡ readOf image
   unfolding readOf
   read-same image other fit r sound = go (isSound (wholeRefusal image)) refl sound
     where
       go : (t : Bool) → isSound (wholeRefusal image) ≡ t
-          → cond t (readRecords (formOf image) [] (recordsIn image)) (refused (wholeRefusal image)) .refusal ≡ Sound
+          → cond t (readRecords (formOf image) [] (recordsIn image)) (refused (wholeRefusal image)) .refusal ≡ Refusal.Nothing
           → cond (isSound (wholeRefusal other)) (readRecords (formOf other) [] (recordsIn other)) (refused (wholeRefusal other))
           ≡ cond t (readRecords (formOf image) [] (recordsIn image)) (refused (wholeRefusal image))
       go true e sound = rw fit (records-same (formOf image) (formOf other) [] (recordsIn image) (recordsIn other) r sound)
@@ -188,10 +188,10 @@ module _ (P : Form → Profile → List Entry → List Entry → Type 0)
 
 pub read-any-order : (image other : List ℕ) → isSound (wholeRefusal other) ≡ true
     → Forall₂ (SameHead Reordered (formOf image) (formOf other)) (recordsIn image) (recordsIn other)
-    → readOf image .refusal ≡ Sound → readOf other ≡ readOf image
+    → readOf image .refusal ≡ Refusal.Nothing → readOf other ≡ readOf image
 read-any-order = read-same Reordered any-order
 
 pub read-by-code : (image other : List ℕ) → isSound (wholeRefusal other) ≡ true
     → Forall₂ (SameHead GiveAlike (formOf image) (formOf other)) (recordsIn image) (recordsIn other)
-    → readOf image .refusal ≡ Sound → readOf other ≡ readOf image
+    → readOf image .refusal ≡ Refusal.Nothing → readOf other ≡ readOf image
 read-by-code = read-same GiveAlike by-given

@@ -8,7 +8,7 @@ use borrow.Author.Tests.{le-leb}
 use lib.Dec.{eqb}
 use lib.ListN.{length, length-append}
 use Rattle.settings.specs.declared.Profile.{Profile}
-use Rattle.profiles.specs.declared.Numbered.the-variants.{Known, Unknown}
+use Rattle.profiles.specs.declared.Numbered.{Numbered}
 use Rattle.profiles.specs.Numbers.{ifKnown}
 use Rattle.packet.specs.Packet.{monitorId, groupId}
 use Rattle.panels.specs.declared.Panel.{Panel}
@@ -17,7 +17,6 @@ use Rattle.forms.specs.declared.Form.{Form}
 use Rattle.forms.specs.Forms.{headSize, headOf, holds}
 use Rattle.forms.proofs.Laws.{head-length, profile-back, behind-head}
 use Rattle.refusals.specs.declared.Refusal.{Refusal}
-use Rattle.refusals.specs.declared.Refusal.the-variants.{Nothing as Sound, Record}
 use Rattle.image_record.specs.Head.{idIn, headFits, headIn}
 use Rattle.image_read.specs.declared.Fields.{Fields}
 use Rattle.image_read.specs.Fields.{fieldsIn}
@@ -27,7 +26,7 @@ use Rattle.refusals.proofs.Sound.{sound-nothing}
 
 unfoldable pub saidRefusal : Wall → ℕ → ℕ → Fields → Refusal
 saidRefusal w id group f =
-    cond (not (eqb id 0) && not (eqb group 0) && not (idIn w id)) (f .refusal) Record
+    cond (not (eqb id 0) && not (eqb group 0) && not (idIn w id)) (f .refusal) Refusal.Record
 
 unfoldable pub saidPanel : ℕ → ℕ → Profile → Fields → Panel
 saidPanel id group profile f = record { id = monitorId id; group = groupId group; profile = profile; values = f .values }
@@ -40,7 +39,7 @@ module _ (form : Form) (id group : ℕ) (profile : Profile) (rest : List ℕ) (h
       rw (le-leb _ _ long, profile-back id group profile form rest held, behind-head id group profile form rest)
       (go (not (eqb id 0) && not (eqb group 0) && not (idIn w id)))
     where
-      go : (t : Bool) → ifKnown (cond t (Known profile) Unknown) (λ p. fieldsIn form p rest .refusal) Record ≡ cond t (fieldsIn form profile rest .refusal) Record
+      go : (t : Bool) → ifKnown (cond t (Numbered.Known profile) Numbered.Unknown) (λ p. fieldsIn form p rest .refusal) Refusal.Record ≡ cond t (fieldsIn form profile rest .refusal) Refusal.Record
       go true = refl
       go false = refl
 
@@ -48,10 +47,10 @@ module _ (form : Form) (id group : ℕ) (profile : Profile) (rest : List ℕ) (h
   unfolding panelIn saidPanel
   panel-said = rw (profile-back id group profile form rest held, behind-head id group profile form rest)
 
-pub fields-sound : (w : Wall) (id group : ℕ) (f : Fields) → isSound (saidRefusal w id group f) ≡ true → f .refusal ≡ Sound
+pub fields-sound : (w : Wall) (id group : ℕ) (f : Fields) → isSound (saidRefusal w id group f) ≡ true → f .refusal ≡ Refusal.Nothing
 unfolding saidRefusal
 fields-sound w id group f e = go (not (eqb id 0) && not (eqb group 0) && not (idIn w id)) e
   where
-    go : (t : Bool) → isSound (cond t (f .refusal) Record) ≡ true → f .refusal ≡ Sound
+    go : (t : Bool) → isSound (cond t (f .refusal) Refusal.Record) ≡ true → f .refusal ≡ Refusal.Nothing
     go true e = sound-nothing _ e
     go false e = absurd (false≢true e)

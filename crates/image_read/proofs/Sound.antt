@@ -7,7 +7,6 @@ use native.Mathlib.Omega.{arith}
 use lib.ListN.{length, drop, length-append}
 use Rattle.settings.specs.declared.Profile.{Profile}
 use Rattle.profiles.specs.declared.Numbered.{Numbered}
-use Rattle.profiles.specs.declared.Numbered.the-variants.{Known, Unknown}
 use Rattle.profiles.specs.Numbers.{ifKnown}
 use Rattle.settings.specs.Settings.{freshValues, valuesOf}
 use Rattle.lists.specs.Lists.{each}
@@ -18,7 +17,7 @@ use Rattle.panels.proofs.Formed.{formed, empty-formed}
 use Rattle.panels.proofs.Values.{InRange}
 use Rattle.forms.specs.declared.Form.{Form}
 use Rattle.forms.specs.Forms.{headSize, profileIn, hasField}
-use Rattle.refusals.specs.declared.Refusal.the-variants.{Record}
+use Rattle.refusals.specs.declared.Refusal.{Refusal}
 use Rattle.refusals.specs.Refusals.{isSound}
 use Rattle.image_whole.specs.Whole.{formOf, countOf, recordIn, recordsIn, wholeRefusal}
 use Rattle.image_whole.proofs.Edges.{fits, record-next}
@@ -44,17 +43,17 @@ fields-gathered form profile left = at-last (run-gathers form profile _ _ left (
 
 -- a record that is not refused has a head that fits and a profile that is known
 pub head-of : (form : Form) (w : Wall) (bytes : List ℕ) → isSound (recordRefusal form w bytes) ≡ true
-    → (profile : Profile) × (headIn form (idIn w) bytes ≡ Known profile) × (profileIn form bytes ≡ Known profile)
+    → (profile : Profile) × (headIn form (idIn w) bytes ≡ Numbered.Known profile) × (profileIn form bytes ≡ Numbered.Known profile)
 unfolding recordRefusal
 head-of form w bytes e = go (headIn form (idIn w) bytes) refl e
   where
     go : (n : Numbered) → headIn form (idIn w) bytes ≡ n
-        → isSound (ifKnown n (λ profile. fieldsIn form profile (drop (headSize form) bytes) .refusal) Record) ≡ true
-        → (profile : Profile) × (headIn form (idIn w) bytes ≡ Known profile) × (profileIn form bytes ≡ Known profile)
-    go (Known profile) h e = (profile, h, head-known form (idIn w) bytes profile h .1)
-    go Unknown h e = absurd (false≢true e)
+        → isSound (ifKnown n (λ profile. fieldsIn form profile (drop (headSize form) bytes) .refusal) Refusal.Record) ≡ true
+        → (profile : Profile) × (headIn form (idIn w) bytes ≡ Numbered.Known profile) × (profileIn form bytes ≡ Numbered.Known profile)
+    go (Numbered.Known profile) h e = (profile, h, head-known form (idIn w) bytes profile h .1)
+    go Numbered.Unknown h e = absurd (false≢true e)
 
-pub panel-known : (form : Form) (bytes : List ℕ) (profile : Profile) → profileIn form bytes ≡ Known profile → panelIn form bytes ≡ panelWith form bytes profile
+pub panel-known : (form : Form) (bytes : List ℕ) (profile : Profile) → profileIn form bytes ≡ Numbered.Known profile → panelIn form bytes ≡ panelWith form bytes profile
 unfolding panelIn
 panel-known form bytes profile known = rw known
 

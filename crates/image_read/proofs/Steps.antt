@@ -6,9 +6,8 @@ use Prim.Native.Nat.{ℕ}
 use Rattle.settings.specs.declared.Profile.{Profile}
 use Rattle.settings.specs.Settings.{valuesWith}
 use Rattle.forms.specs.declared.Form.{Form}
-use Rattle.refusals.specs.declared.Refusal.the-variants.{Nothing as Sound, Field as BadField, Value as BadValue}
+use Rattle.refusals.specs.declared.Refusal.{Refusal}
 use Rattle.image_record.specs.declared.Step.{Step}
-use Rattle.image_record.specs.declared.Step.the-variants.{Field, NotAllowed, Broken, End}
 use Rattle.image_record.specs.Field.{valuesIn, behind, stepAt}
 use Rattle.image_record.specs.Run.{Run, afterStep, runFrom}
 use Rattle.image_record.proofs.OnTheWay.{seenWith}
@@ -18,10 +17,10 @@ use Rattle.image_read.specs.Fields.{refusalAt, fieldsFrom}
 
 -- what a step comes to
 abbrev pub afterField : Step → List ℕ → (ℕ → Fields) → Fields
-afterField (Field row) values more = more row
-afterField (NotAllowed row) values more = record { refusal = BadValue; values = values }
-afterField Broken values more = record { refusal = BadField; values = values }
-afterField End values more = record { refusal = Sound; values = values }
+afterField (Step.Field row) values more = more row
+afterField (Step.NotAllowed row) values more = record { refusal = Refusal.Value; values = values }
+afterField Step.Broken values more = record { refusal = Refusal.Field; values = values }
+afterField Step.End values more = record { refusal = Refusal.Nothing; values = values }
 
 module _ (form : Form) (profile : Profile) where
   pub fields-step : (seen : List Bool) (values left : List ℕ) (s : Step) → stepAt form profile seen values left ≡ s
@@ -35,7 +34,7 @@ module _ (form : Form) (profile : Profile) where
 
       go : (s : Step) → said (afterStep s seen values left (λ row. runFrom form profile (seenWith row seen) (valuesWith row (valuesIn row left) values) (behind row left)))
           ≡ afterField s values (λ row. said (runFrom form profile (seenWith row seen) (valuesWith row (valuesIn row left) values) (behind row left)))
-      go (Field row) = refl
-      go (NotAllowed row) = refl
-      go Broken = refl
-      go End = refl
+      go (Step.Field row) = refl
+      go (Step.NotAllowed row) = refl
+      go Step.Broken = refl
+      go Step.End = refl

@@ -11,7 +11,7 @@ use Rattle.settings.specs.declared.Profile.{Profile}
 use Rattle.settings.specs.Settings.{setCode, freshValues, valuesOf, rowCount, kindRow, tilingRow}
 use Rattle.forms.specs.declared.Form.{Form}
 use Rattle.forms.specs.Forms.{headOf, holds, hasField}
-use Rattle.refusals.specs.declared.Refusal.the-variants.{Nothing as Sound}
+use Rattle.refusals.specs.declared.Refusal.{Refusal}
 use Rattle.image_read.specs.Fields.{fieldsIn}
 
 -- a code, and the values behind it
@@ -62,7 +62,7 @@ given profile row es = givenOr (valuesOf row (freshValues profile)) row es
 
 -- the second fields have no fault in a record of the form, and give each row what the first give it
 pub record GiveAlike (form : Form) (profile : Profile) (these those : List Entry) : Type 0 where
-  pub sound : fieldsIn form profile (bytesOf those) .refusal ≡ Sound
+  pub sound : fieldsIn form profile (bytesOf those) .refusal ≡ Refusal.Nothing
   pub rows : (row : ℕ) → row < rowCount → given profile row those ≡ given profile row these
 
 -- a record of a form, whose head says ID, group and profile

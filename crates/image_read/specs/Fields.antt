@@ -7,18 +7,16 @@ use Rattle.settings.specs.declared.Profile.{Profile}
 use Rattle.settings.specs.Settings.{freshValues, rowCount}
 use Rattle.forms.specs.declared.Form.{Form}
 use Rattle.refusals.specs.declared.Refusal.{Refusal}
-use Rattle.refusals.specs.declared.Refusal.the-variants.{Nothing as Sound, Field as BadField, Value as BadValue}
 use Rattle.image_record.specs.declared.Step.{Step}
-use Rattle.image_record.specs.declared.Step.the-variants.{Field, NotAllowed, Broken, End}
 use Rattle.image_record.specs.Run.{runFrom}
 use Rattle.image_read.specs.declared.Fields.{Fields}
 
 -- what a run of fields stopped at: the end, or a fault; it does not stop at a field that can be taken
 abbrev pub refusalAt : Step → Refusal
-refusalAt (Field row) = Sound
-refusalAt (NotAllowed row) = BadValue
-refusalAt Broken = BadField
-refusalAt End = Sound
+refusalAt (Step.Field row) = Refusal.Nothing
+refusalAt (Step.NotAllowed row) = Refusal.Value
+refusalAt Step.Broken = Refusal.Field
+refusalAt Step.End = Refusal.Nothing
 
 unfoldable pub fieldsFrom : Form → Profile → List Bool → List ℕ → List ℕ → Fields
 fieldsFrom form profile seen values left =

@@ -11,7 +11,6 @@ use Rattle.panels.specs.Wall.{Wall, blank, tableOf}
 use Rattle.forms.specs.declared.Form.{Form}
 use Rattle.forms.specs.Forms.{headSize, profileIn}
 use Rattle.refusals.specs.declared.Refusal.{Refusal}
-use Rattle.refusals.specs.declared.Refusal.the-variants.{Nothing, Record}
 use Rattle.refusals.specs.Refusals.{isSound}
 use Rattle.image_whole.specs.Whole.{formOf, wholeRefusal, recordsIn}
 use Rattle.image_record.specs.Head.{idIn, headIn, headed}
@@ -29,7 +28,7 @@ refused r = record { refusal = r; wall = [] }
 -- 16, where the IDs seen before are those of the wall so far; then the fields' 17 and 18
 unfoldable pub recordRefusal : Form → Wall → List ℕ → Refusal
 recordRefusal form w bytes =
-    ifKnown (headIn form (idIn w) bytes) (λ profile. fieldsIn form profile (drop (headSize form) bytes) .refusal) Record
+    ifKnown (headIn form (idIn w) bytes) (λ profile. fieldsIn form profile (drop (headSize form) bytes) .refusal) Refusal.Record
 
 -- the panel of a record, once its profile is known
 abbrev pub panelWith : Form → List ℕ → Profile → Panel
@@ -40,7 +39,7 @@ panelIn form bytes = ifKnown (profileIn form bytes) (panelWith form bytes) blank
 
 -- records in order, each a panel at the end of the wall
 unfoldable pub readRecords : Form → Wall → List (List ℕ) → Reading
-readRecords form w [] = record { refusal = Nothing; wall = w }
+readRecords form w [] = record { refusal = Refusal.Nothing; wall = w }
 readRecords form w (bytes ∷ records) =
     let why = recordRefusal form w bytes in
     cond (isSound why) (readRecords form (w ++ panelIn form bytes ∷ []) records) (refused why)

@@ -9,12 +9,11 @@ use lib.Dec.{leb, eqb}
 use lib.ListN.{length, getD, set, replicate}
 use lib.Seq.{getD-set-same, getD-set-other}
 use Rattle.settings.specs.declared.Profile.{Profile}
-use Rattle.profiles.specs.declared.Numbered.the-variants.{Known, Unknown}
+use Rattle.profiles.specs.declared.Numbered.{Numbered}
 use Rattle.lists.proofs.Both.{both}
 use Rattle.packet.specs.Packet.{monitorId}
 use Rattle.panels.specs.declared.Panel.{Panel}
 use Rattle.panels.specs.declared.Place.{Place}
-use Rattle.panels.specs.declared.Place.the-variants.{At, Nowhere}
 use Rattle.panels.specs.Wall.{Wall, placeFrom, placeOf, ifThere}
 use Rattle.panels.specs.WellFormed.{GoodWall}
 use Rattle.panels.proofs.Formed.{nowhere-absent, good-snoc}
@@ -28,7 +27,7 @@ use Rattle.image_record.proofs.Steps.{none-seen}
 pub record HeadFits (w : Wall) (bytes : List ℕ) : Type 0 where
   pub named : getD bytes 0 0 ≡ 0 → ⊥
   pub grouped : getD bytes 1 0 ≡ 0 → ⊥
-  pub new : placeOf (monitorId (getD bytes 0 0)) w ≡ Nowhere
+  pub new : placeOf (monitorId (getD bytes 0 0)) w ≡ Place.Nowhere
 
 pub head-fits : (form : Form) (w : Wall) (bytes : List ℕ) → headFits form (idIn w) bytes ≡ true → HeadFits w bytes
 unfolding headFits
@@ -38,26 +37,26 @@ head-fits form w bytes e =
     let b = both (leb (headSize form) (length bytes)) _ ab .1 in
     record { named = eqb-false _ _ (not-true _ b); grouped = eqb-false _ _ (not-true _ c); new = nowhere _ (not-true _ d) }
   where
-    nowhere : (q : Place) → ifThere q true false ≡ false → q ≡ Nowhere
-    nowhere (At k) e = absurd (false≢true (sym e))
-    nowhere Nowhere e = refl
+    nowhere : (q : Place) → ifThere q true false ≡ false → q ≡ Place.Nowhere
+    nowhere (Place.At k) e = absurd (false≢true (sym e))
+    nowhere Place.Nowhere e = refl
 
 -- where a profile comes of it, the head fits and says that profile
-pub head-known : (form : Form) (seen : ℕ → Bool) (bytes : List ℕ) (profile : Profile) → headIn form seen bytes ≡ Known profile
-    → (headFits form seen bytes ≡ true) × (profileIn form bytes ≡ Known profile)
+pub head-known : (form : Form) (seen : ℕ → Bool) (bytes : List ℕ) (profile : Profile) → headIn form seen bytes ≡ Numbered.Known profile
+    → (headFits form seen bytes ≡ true) × (profileIn form bytes ≡ Numbered.Known profile)
 unfolding headIn
 head-known form seen bytes profile e = go (headFits form seen bytes) refl e
   where
-    go : (t : Bool) → headFits form seen bytes ≡ t → cond t (profileIn form bytes) Unknown ≡ Known profile
-        → (headFits form seen bytes ≡ true) × (profileIn form bytes ≡ Known profile)
+    go : (t : Bool) → headFits form seen bytes ≡ t → cond t (profileIn form bytes) Numbered.Unknown ≡ Numbered.Known profile
+        → (headFits form seen bytes ≡ true) × (profileIn form bytes ≡ Numbered.Known profile)
     go true f e = (f, e)
     go false f e = absurd (different e)
       where
-        different : Unknown ≡ Known profile → ⊥
+        different : Numbered.Unknown ≡ Numbered.Known profile → ⊥
         different e = let z : _≡_ {A = ℕ} 0 1 = cc in omega arith
 
 -- and is whole
-pub head-whole : (form : Form) (seen : ℕ → Bool) (bytes : List ℕ) (profile : Profile) → headIn form seen bytes ≡ Known profile → headSize form ≤ length bytes
+pub head-whole : (form : Form) (seen : ℕ → Bool) (bytes : List ℕ) (profile : Profile) → headIn form seen bytes ≡ Numbered.Known profile → headSize form ≤ length bytes
 unfolding headFits
 head-whole form seen bytes profile e =
     let (abc, _) = both _ _ (head-known form seen bytes profile e .0) in
@@ -78,13 +77,13 @@ there-snoc : (i k : ℕ) (w : Wall) (p : Panel)
 unfolding placeFrom
 there-snoc i k [] p = go (eqb (p .id .0) i)
   where
-    go : (t : Bool) → ifThere (cond t (At k) Nowhere) true false ≡ cond t true false
+    go : (t : Bool) → ifThere (cond t (Place.At k) Place.Nowhere) true false ≡ cond t true false
     go true = refl
     go false = refl
 there-snoc i k (q ∷ w) p = go (eqb (q .id .0) i) (eqb (p .id .0) i) _ _ (there-snoc i (suc k) w p)
   where
     go : (s t : Bool) (a b : Place) → ifThere a true false ≡ cond t true (ifThere b true false)
-        → ifThere (cond s (At k) a) true false ≡ cond t true (ifThere (cond s (At k) b) true false)
+        → ifThere (cond s (Place.At k) a) true false ≡ cond t true (ifThere (cond s (Place.At k) b) true false)
     go true true a b e = refl
     go true false a b e = refl
     go false t a b e = e
@@ -106,7 +105,7 @@ unfolding headIn headFits
 head-alike m form bytes = rw (m .alike (getD bytes 0 0))
 
 -- the panel of a record whose head fits, with values that are in range, is good behind the wall
-pub headed-good : (form : Form) (w : Wall) (bytes : List ℕ) (profile : Profile) {values : List ℕ} → headIn form (idIn w) bytes ≡ Known profile
+pub headed-good : (form : Form) (w : Wall) (bytes : List ℕ) (profile : Profile) {values : List ℕ} → headIn form (idIn w) bytes ≡ Numbered.Known profile
     → InRange profile values → GoodWall w → GoodWall (w ++ headed bytes profile values ∷ [])
 headed-good form w bytes profile {values} known i good =
     let h = head-fits form w bytes (head-known form (idIn w) bytes profile known .0) in

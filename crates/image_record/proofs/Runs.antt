@@ -11,7 +11,6 @@ use Rattle.settings.specs.declared.Profile.{Profile}
 use Rattle.settings.specs.Settings.{byteCount, valuesWith}
 use Rattle.forms.specs.declared.Form.{Form}
 use Rattle.image_record.specs.declared.Step.{Step}
-use Rattle.image_record.specs.declared.Step.the-variants.{Field, NotAllowed, Broken, End}
 use Rattle.image_record.specs.Field.{valuesIn, behind, stepAt}
 use Rattle.image_record.specs.Run.{Run, afterStep, ranFor, runFrom}
 use Rattle.image_record.proofs.OnTheWay.{seenWith}
@@ -34,26 +33,26 @@ module _ (form : Form) (profile : Profile) where
           ≡ ranFor form profile m (seenWith row seen) (valuesWith row (valuesIn row left) values) (behind row left))
           → afterStep s seen values left (λ row. ranFor form profile n (seenWith row seen) (valuesWith row (valuesIn row left) values) (behind row left))
           ≡ afterStep s seen values left (λ row. ranFor form profile m (seenWith row seen) (valuesWith row (valuesIn row left) values) (behind row left))
-      go (Field row) e ih = let less = shorter (stands form profile true seen values left row e) in ih row (omega arith) (omega arith)
-      go (NotAllowed row) e ih = refl
-      go Broken e ih = refl
-      go End e ih = refl
+      go (Step.Field row) e ih = let less = shorter (stands form profile true seen values left row e) in ih row (omega arith) (omega arith)
+      go (Step.NotAllowed row) e ih = refl
+      go Step.Broken e ih = refl
+      go Step.End e ih = refl
 
   -- one step of the run
   pub run-step : (seen : List Bool) (values left : List ℕ) (s : Step) → stepAt form profile seen values left ≡ s
       → runFrom form profile seen values left
       ≡ afterStep s seen values left (λ row. runFrom form profile (seenWith row seen) (valuesWith row (valuesIn row left) values) (behind row left))
   unfolding runFrom ranFor
-  run-step seen values left (Field row) e =
+  run-step seen values left (Step.Field row) e =
       let less = shorter (stands form profile true seen values left row e) in
       rw e (enough (length left) (suc (length (behind row left))) (seenWith row seen) (valuesWith row (valuesIn row left) values) (behind row left) less (omega arith))
-  run-step seen values left (NotAllowed row) e = rw e
-  run-step seen values left Broken e = rw e
-  run-step seen values left End e = rw e
+  run-step seen values left (Step.NotAllowed row) e = rw e
+  run-step seen values left Step.Broken e = rw e
+  run-step seen values left Step.End e = rw e
 
   -- what is so at the front of a run is so where it stops, if it stays so behind each field that is taken
   module _ (P : List Bool → List ℕ → List ℕ → Type 0)
-      (on : (seen : List Bool) (values left : List ℕ) (row : ℕ) → stepAt form profile seen values left ≡ Field row → P seen values left
+      (on : (seen : List Bool) (values left : List ℕ) (row : ℕ) → stepAt form profile seen values left ≡ Step.Field row → P seen values left
       → P (seenWith row seen) (valuesWith row (valuesIn row left) values) (behind row left)) where
     stays-for : (n : ℕ) (seen : List Bool) (values left : List ℕ) → P seen values left → let r = ranFor form profile n seen values left in P (r .seen) (r .values) (r .left)
     unfolding ranFor
@@ -66,10 +65,10 @@ module _ (form : Form) (profile : Profile) where
             → let r = ranFor form profile n (seenWith row seen) (valuesWith row (valuesIn row left) values) (behind row left) in P (r .seen) (r .values) (r .left))
             → let r = afterStep s seen values left (λ row. ranFor form profile n (seenWith row seen) (valuesWith row (valuesIn row left) values) (behind row left)) in
             P (r .seen) (r .values) (r .left)
-        go (Field row) e ih = ih row (on seen values left row e p)
-        go (NotAllowed row) e ih = p
-        go Broken e ih = p
-        go End e ih = p
+        go (Step.Field row) e ih = ih row (on seen values left row e p)
+        go (Step.NotAllowed row) e ih = p
+        go Step.Broken e ih = p
+        go Step.End e ih = p
 
     pub run-stays : (seen : List Bool) (values left : List ℕ) → P seen values left → let r = runFrom form profile seen values left in P (r .seen) (r .values) (r .left)
     unfolding runFrom
@@ -83,7 +82,7 @@ module _ (form : Form) (profile : Profile) where
   -- where it stops is no field that can be taken
   pub record Stopped (r : Run) : Type 0 where
     pub there : stepAt form profile (r .seen) (r .values) (r .left) ≡ r .step
-    pub no-field : (row : ℕ) → r .step ≡ Field row → ⊥
+    pub no-field : (row : ℕ) → r .step ≡ Step.Field row → ⊥
 
   stopped-for : (n : ℕ) (seen : List Bool) (values left : List ℕ) → length left < n → Stopped (ranFor form profile n seen values left)
   unfolding ranFor
@@ -94,10 +93,10 @@ module _ (form : Form) (profile : Profile) where
       go : (s : Step) → stepAt form profile seen values left ≡ s
           → ((row : ℕ) → length (behind row left) < n → Stopped (ranFor form profile n (seenWith row seen) (valuesWith row (valuesIn row left) values) (behind row left)))
           → Stopped (afterStep s seen values left (λ row. ranFor form profile n (seenWith row seen) (valuesWith row (valuesIn row left) values) (behind row left)))
-      go (Field row) e ih = let less = shorter (stands form profile true seen values left row e) in ih row (omega arith)
-      go (NotAllowed row) e ih = record { there = e; no-field = λ r f. let z : _≡_ {A = ℕ} 0 1 = cc in omega arith }
-      go Broken e ih = record { there = e; no-field = λ r f. let z : _≡_ {A = ℕ} 0 1 = cc in omega arith }
-      go End e ih = record { there = e; no-field = λ r f. let z : _≡_ {A = ℕ} 0 1 = cc in omega arith }
+      go (Step.Field row) e ih = let less = shorter (stands form profile true seen values left row e) in ih row (omega arith)
+      go (Step.NotAllowed row) e ih = record { there = e; no-field = λ r f. let z : _≡_ {A = ℕ} 0 1 = cc in omega arith }
+      go Step.Broken e ih = record { there = e; no-field = λ r f. let z : _≡_ {A = ℕ} 0 1 = cc in omega arith }
+      go Step.End e ih = record { there = e; no-field = λ r f. let z : _≡_ {A = ℕ} 0 1 = cc in omega arith }
 
   pub run-stopped : (seen : List Bool) (values left : List ℕ) → Stopped (runFrom form profile seen values left)
   unfolding runFrom

@@ -10,7 +10,6 @@ use lib.ListN.{length, getD, replicate, length-drop}
 use lib.Seq.{getD-set-same, getD-set-other}
 use Rattle.settings.specs.declared.Profile.{Profile}
 use Rattle.finding.specs.declared.Found.{Found}
-use Rattle.finding.specs.declared.Found.the-variants.{Set, Get, Nothing}
 use Rattle.settings.specs.Settings.{setCode, byteCount, rowCount, kindRow, tilingRow}
 use Rattle.finding.specs.Found.{fieldBy}
 use Rattle.models.specs.Models.{allowedFor, modelIn}
@@ -18,7 +17,6 @@ use Rattle.finding.proofs.Laws.{IsField, field-right, field-found}
 use Rattle.forms.specs.declared.Form.{Form}
 use Rattle.forms.specs.Forms.{hasField}
 use Rattle.image_record.specs.declared.Step.{Step}
-use Rattle.image_record.specs.declared.Step.the-variants.{Field, NotAllowed, Broken, End}
 use Rattle.image_record.specs.Field.{valuesIn, behind, misplaced, fieldOf, stepAt}
 use Rattle.image_record.proofs.OnTheWay.{seenWith}
 
@@ -69,7 +67,7 @@ pub record Stands (t : Bool) (form : Form) (profile : Profile) (seen : List Bool
 
 -- as the step says
 abbrev pub fieldStep : Bool → ℕ → Step
-fieldStep t row = cond t (Field row) (NotAllowed row)
+fieldStep t row = cond t (Step.Field row) (Step.NotAllowed row)
 
 module _ (form : Form) (profile : Profile) where
   pub stands : (t : Bool) (seen : List Bool) (values left : List ℕ) (row : ℕ) → stepAt form profile seen values left ≡ fieldStep t row
@@ -77,7 +75,7 @@ module _ (form : Form) (profile : Profile) where
   unfolding stepAt
   stands t seen values left row e = by-length (eqb (length left) 0) t e
     where
-      found-so : (r : ℕ) → fieldBy (getD left 0 0) ≡ Set r → (t : Bool) → misplaced form seen r ≡ false → ltb (length left) (2 + byteCount r) ≡ false
+      found-so : (r : ℕ) → fieldBy (getD left 0 0) ≡ Found.Set r → (t : Bool) → misplaced form seen r ≡ false → ltb (length left) (2 + byteCount r) ≡ false
           → eqb (getD left 1 0) (byteCount r) ≡ true → allowedFor (modelIn profile values) r (valuesIn r left) ≡ t → r ≡ row
           → Stands t form profile seen values left row
       found-so r found t ea eb ed eg same =
@@ -86,9 +84,9 @@ module _ (form : Form) (profile : Profile) where
           subst (Stands t form profile seen values left) same
           (record { in-table = h; code = sym code; has = has; free = new; whole = ltb-false _ _ eb; count = eqb-true _ _ ed; allowed = eg })
 
-      by-tests : (r : ℕ) → fieldBy (getD left 0 0) ≡ Set r → (a b d g t : Bool) → misplaced form seen r ≡ a → ltb (length left) (2 + byteCount r) ≡ b
+      by-tests : (r : ℕ) → fieldBy (getD left 0 0) ≡ Found.Set r → (a b d g t : Bool) → misplaced form seen r ≡ a → ltb (length left) (2 + byteCount r) ≡ b
           → eqb (getD left 1 0) (byteCount r) ≡ d → allowedFor (modelIn profile values) r (valuesIn r left) ≡ g
-          → cond (a || (b || not d)) Broken (cond g (Field r) (NotAllowed r)) ≡ fieldStep t row → Stands t form profile seen values left row
+          → cond (a || (b || not d)) Step.Broken (cond g (Step.Field r) (Step.NotAllowed r)) ≡ fieldStep t row → Stands t form profile seen values left row
       by-tests r found true b d g true ea eb ed eg e = let z : _≡_ {A = ℕ} 0 1 = cc in absurd (omega arith)
       by-tests r found true b d g false ea eb ed eg e = let z : _≡_ {A = ℕ} 0 1 = cc in absurd (omega arith)
       by-tests r found false true d g true ea eb ed eg e = let z : _≡_ {A = ℕ} 0 1 = cc in absurd (omega arith)
@@ -101,13 +99,13 @@ module _ (form : Form) (profile : Profile) where
       by-tests r found false false true false false ea eb ed eg e = found-so r found false ea eb ed eg cc
 
       by-found : (f : Found) (t : Bool) → fieldBy (getD left 0 0) ≡ f → fieldOf form profile f seen values left ≡ fieldStep t row → Stands t form profile seen values left row
-      by-found (Set r) t found e = by-tests r found _ _ _ _ t refl refl refl refl e
-      by-found (Get r) true found e = let z : _≡_ {A = ℕ} 0 1 = cc in absurd (omega arith)
-      by-found (Get r) false found e = let z : _≡_ {A = ℕ} 0 1 = cc in absurd (omega arith)
-      by-found Nothing true found e = let z : _≡_ {A = ℕ} 0 1 = cc in absurd (omega arith)
-      by-found Nothing false found e = let z : _≡_ {A = ℕ} 0 1 = cc in absurd (omega arith)
+      by-found (Found.Set r) t found e = by-tests r found _ _ _ _ t refl refl refl refl e
+      by-found (Found.Get r) true found e = let z : _≡_ {A = ℕ} 0 1 = cc in absurd (omega arith)
+      by-found (Found.Get r) false found e = let z : _≡_ {A = ℕ} 0 1 = cc in absurd (omega arith)
+      by-found Found.Nothing true found e = let z : _≡_ {A = ℕ} 0 1 = cc in absurd (omega arith)
+      by-found Found.Nothing false found e = let z : _≡_ {A = ℕ} 0 1 = cc in absurd (omega arith)
 
-      by-length : (n t : Bool) → cond n End (fieldOf form profile (fieldBy (getD left 0 0)) seen values left) ≡ fieldStep t row → Stands t form profile seen values left row
+      by-length : (n t : Bool) → cond n Step.End (fieldOf form profile (fieldBy (getD left 0 0)) seen values left) ≡ fieldStep t row → Stands t form profile seen values left row
       by-length true true e = let z : _≡_ {A = ℕ} 0 1 = cc in absurd (omega arith)
       by-length true false e = let z : _≡_ {A = ℕ} 0 1 = cc in absurd (omega arith)
       by-length false t e = by-found _ t refl e
@@ -123,11 +121,11 @@ module _ (form : Form) (profile : Profile) where
       simp (some, found) (rw (placed form (s .has) (s .free), long, eq-eqb (getD left 1 0) (byteCount row) (s .count), s .allowed))
 
   -- a broken field has a code at least
-  pub broken-some : (seen : List Bool) (values left : List ℕ) → stepAt form profile seen values left ≡ Broken → 0 < length left
+  pub broken-some : (seen : List Bool) (values left : List ℕ) → stepAt form profile seen values left ≡ Step.Broken → 0 < length left
   unfolding stepAt
   broken-some seen values left e = go (eqb (length left) 0) refl e
     where
-      go : (t : Bool) → eqb (length left) 0 ≡ t → cond t End (fieldOf form profile (fieldBy (getD left 0 0)) seen values left) ≡ Broken → 0 < length left
+      go : (t : Bool) → eqb (length left) 0 ≡ t → cond t Step.End (fieldOf form profile (fieldBy (getD left 0 0)) seen values left) ≡ Step.Broken → 0 < length left
       go true n e = let z : _≡_ {A = ℕ} 0 1 = cc in absurd (omega arith)
       go false n e = let some = eqb-false (length left) 0 n in omega arith
 

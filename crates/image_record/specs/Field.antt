@@ -7,14 +7,12 @@ use lib.Dec.{ltb, eqb}
 use lib.ListN.{length, getD, take, drop}
 use Rattle.settings.specs.declared.Profile.{Profile}
 use Rattle.finding.specs.declared.Found.{Found}
-use Rattle.finding.specs.declared.Found.the-variants.{Set, Get, Nothing}
 use Rattle.settings.specs.Settings.{byteCount, kindRow, tilingRow}
 use Rattle.finding.specs.Found.{fieldBy}
 use Rattle.models.specs.Models.{allowedFor, modelIn}
 use Rattle.forms.specs.declared.Form.{Form}
 use Rattle.forms.specs.Forms.{hasField}
 use Rattle.image_record.specs.declared.Step.{Step}
-use Rattle.image_record.specs.declared.Step.the-variants.{Field, NotAllowed, Broken, End}
 
 -- the values of a row's field at the front of the bytes that are left: behind set code and length
 abbrev pub valuesIn : ℕ → List ℕ → List ℕ
@@ -34,12 +32,12 @@ misplaced form seen row = not (hasField form row) || (getD seen row false || (eq
 
 -- the field of a code that was found: 17, then 18, by the profile and by the kind among the values so far
 abbrev pub fieldOf : Form → Profile → Found → List Bool → List ℕ → List ℕ → Step
-fieldOf form profile (Set row) seen values left =
-    cond (misplaced form seen row || misfits row left) Broken
-    (cond (allowedFor (modelIn profile values) row (valuesIn row left)) (Field row) (NotAllowed row))
-fieldOf form profile (Get row) seen values left = Broken
-fieldOf form profile Nothing seen values left = Broken
+fieldOf form profile (Found.Set row) seen values left =
+    cond (misplaced form seen row || misfits row left) Step.Broken
+    (cond (allowedFor (modelIn profile values) row (valuesIn row left)) (Step.Field row) (Step.NotAllowed row))
+fieldOf form profile (Found.Get row) seen values left = Step.Broken
+fieldOf form profile Found.Nothing seen values left = Step.Broken
 
 -- what stands at the front of the bytes that are left
 unfoldable pub stepAt : Form → Profile → List Bool → List ℕ → List ℕ → Step
-stepAt form profile seen values left = cond (eqb (length left) 0) End (fieldOf form profile (fieldBy (getD left 0 0)) seen values left)
+stepAt form profile seen values left = cond (eqb (length left) 0) Step.End (fieldOf form profile (fieldBy (getD left 0 0)) seen values left)

@@ -5,7 +5,6 @@ use mathlib.Core.List.{List}
 use lib.Dec.{leb, eqb}
 use lib.ListN.{length, getD}
 use Rattle.profiles.specs.declared.Numbered.{Numbered}
-use Rattle.profiles.specs.declared.Numbered.the-variants.{Unknown}
 use Rattle.settings.specs.declared.Profile.{Profile}
 use Rattle.packet.specs.Packet.{monitorId, groupId}
 use Rattle.panels.specs.declared.Panel.{Panel}
@@ -30,7 +29,7 @@ headFits form seen bytes = headStands form bytes && not (seen (getD bytes 0 0))
 
 -- the profile of a record whose head fits; any other, and one with an unknown profile, is refused by 16
 unfoldable pub headIn : Form → (ℕ → Bool) → List ℕ → Numbered
-headIn form seen bytes = cond (headFits form seen bytes) (profileIn form bytes) Unknown
+headIn form seen bytes = cond (headFits form seen bytes) (profileIn form bytes) Numbered.Unknown
 
 -- the panel of such a record, with these values
 abbrev pub headed : List ℕ → Profile → List ℕ → Panel

@@ -7,7 +7,6 @@ use Rattle.settings.specs.declared.Profile.{Profile}
 use Rattle.settings.specs.Settings.{valuesWith}
 use Rattle.forms.specs.declared.Form.{Form}
 use Rattle.image_record.specs.declared.Step.{Step}
-use Rattle.image_record.specs.declared.Step.the-variants.{Field, NotAllowed, Broken, End}
 use Rattle.image_record.specs.declared.Stop.{Stop}
 use Rattle.image_record.specs.Field.{valuesIn, behind, stepAt}
 
@@ -23,14 +22,14 @@ stopped step seen values left = record { step = step; seen = seen; values = valu
 
 -- what a step comes to: a field goes on, and anything else stops the walk
 abbrev pub afterStep : Step → List Bool → List ℕ → List ℕ → (ℕ → Run) → Run
-afterStep (Field row) seen values left more = more row
-afterStep (NotAllowed row) seen values left more = stopped (NotAllowed row) seen values left
-afterStep Broken seen values left more = stopped Broken seen values left
-afterStep End seen values left more = stopped End seen values left
+afterStep (Step.Field row) seen values left more = more row
+afterStep (Step.NotAllowed row) seen values left more = stopped (Step.NotAllowed row) seen values left
+afterStep Step.Broken seen values left more = stopped Step.Broken seen values left
+afterStep Step.End seen values left more = stopped Step.End seen values left
 
 -- field after field, n steps at most: a row that is taken is seen, its values stand at its place, and it is left behind
 unfoldable pub ranFor : Form → Profile → ℕ → List Bool → List ℕ → List ℕ → Run
-ranFor form profile zero seen values left = stopped End seen values left
+ranFor form profile zero seen values left = stopped Step.End seen values left
 ranFor form profile (suc n) seen values left =
     afterStep (stepAt form profile seen values left) seen values left
     (λ row. ranFor form profile n (set seen row true) (valuesWith row (valuesIn row left) values) (behind row left))

@@ -11,7 +11,6 @@ use Rattle.faults.specs.declared.Fault.{Fault}
 use Rattle.faults.specs.Lines.{lineOf, longestLine}
 use Rattle.faults.proofs.Laws.{line-short}
 use Rattle.image_record.specs.declared.Step.{Step}
-use Rattle.image_record.specs.declared.Step.the-variants.{Field, NotAllowed, Broken, End}
 use Rattle.image_record.specs.Field.{behind}
 use Rattle.image_record.specs.Run.{runFrom}
 use Rattle.image_record.proofs.OnTheWay.{seenWith}
@@ -29,12 +28,12 @@ faults-few form profile (suc n) seen values left = go (runFrom form profile seen
         → let run = runFrom form profile seen values left in
         length (keptBy s (run .values) (getD (run .left) 0 0)
         (λ row. keptFrom form profile n (seenWith row (run .seen)) (valuesWith row (valuesOf row (freshValues profile)) (run .values)) (behind row (run .left))) .faults) ≤ suc n
-    go (Field row) ih = omega arith
-    go (NotAllowed row) ih =
+    go (Step.Field row) ih = omega arith
+    go (Step.NotAllowed row) ih =
         let run = runFrom form profile seen values left in
         omega (arith, ih (seenWith row (run .seen)) (valuesWith row (valuesOf row (freshValues profile)) (run .values)) (behind row (run .left)))
-    go Broken ih = omega arith
-    go End ih = omega arith
+    go Step.Broken ih = omega arith
+    go Step.End ih = omega arith
 
 pub lines-short : (number : ℕ) (faults : List Fault) → length (linesOf number faults) ≤ longestLine * length faults
 lines-short number [] = rw (lines-none number) (omega arith)

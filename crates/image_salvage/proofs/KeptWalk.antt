@@ -11,9 +11,7 @@ use Rattle.settings.specs.declared.Profile.{Profile}
 use Rattle.settings.specs.Settings.{valuesWith}
 use Rattle.forms.specs.declared.Form.{Form}
 use Rattle.faults.specs.declared.Fault.{Fault}
-use Rattle.faults.specs.declared.Fault.the-variants.{Dropped, Broken, NotAllowed}
 use Rattle.image_record.specs.declared.Step.{Step}
-use Rattle.image_record.specs.declared.Step.the-variants.{Field, NotAllowed as NotAllowedStep, Broken as BrokenStep, End}
 use Rattle.image_record.specs.Field.{valuesIn, behind, stepAt}
 use Rattle.image_record.specs.Run.{afterStep, ranFor, runFrom}
 use Rattle.image_record.proofs.OnTheWay.{seenWith}
@@ -40,10 +38,10 @@ module _ (form : Form) (profile : Profile) where
           (es : List Entry) × Walked form profile (seenWith row seen) (valuesWith row (valuesIn row left) values) (behind row left) es [] (r .seen) (r .values) (r .left))
           → let r = afterStep s seen values left (λ row. ranFor form profile n (seenWith row seen) (valuesWith row (valuesIn row left) values) (behind row left)) in
           (es : List Entry) × Walked form profile seen values left es [] (r .seen) (r .values) (r .left)
-      go (Field row) e ih = let (es, a) = ih row in (entryAt row left ∷ es, took row (stands form profile true seen values left row e) a)
-      go (NotAllowedStep row) e ih = ([], stay)
-      go BrokenStep e ih = ([], stay)
-      go End e ih = ([], stay)
+      go (Step.Field row) e ih = let (es, a) = ih row in (entryAt row left ∷ es, took row (stands form profile true seen values left row e) a)
+      go (Step.NotAllowed row) e ih = ([], stay)
+      go Step.Broken e ih = ([], stay)
+      go Step.End e ih = ([], stay)
 
   run-walked : (seen : List Bool) (values left : List ℕ) → let r = runFrom form profile seen values left in
       (es : List Entry) × Walked form profile seen values left es [] (r .seen) (r .values) (r .left)
@@ -63,8 +61,8 @@ module _ (form : Form) (profile : Profile) where
     pub last : List Bool
     pub rest : List ℕ
     pub walk : Walked form profile seen values left es fs last (k .values) rest
-    pub ends : ((stepAt form profile last (k .values) rest ≡ End) × (k .faults ≡ fs))
-        ⊎ ((stepAt form profile last (k .values) rest ≡ BrokenStep) × (k .faults ≡ fs ++ Broken (getD rest 0 0) ∷ []))
+    pub ends : ((stepAt form profile last (k .values) rest ≡ Step.End) × (k .faults ≡ fs))
+        ⊎ ((stepAt form profile last (k .values) rest ≡ Step.Broken) × (k .faults ≡ fs ++ Fault.Broken (getD rest 0 0) ∷ []))
 
   -- where one row less is not seen at each fault, the runs are enough
   pub kept-walk : (n : ℕ) (seen : List Bool) (values left : List ℕ) → Gathering form profile seen values → unseen seen < n
@@ -78,8 +76,8 @@ module _ (form : Form) (profile : Profile) where
       go : (s : Step) → runFrom form profile seen values left .step ≡ s
           → ((s : List Bool) (v l : List ℕ) → Gathering form profile s v → unseen s < n → KeptWalk s v l (keptFrom form profile n s v l))
           → KeptWalk seen values left (keptFrom form profile (suc n) seen values left)
-      go (Field row) e ih = absurd (run-stopped form profile seen values left .no-field row e)
-      go (NotAllowedStep row) e ih =
+      go (Step.Field row) e ih = absurd (run-stopped form profile seen values left .no-field row e)
+      go (Step.NotAllowed row) e ih =
           let (es, a) = run-walked seen values left in
           let h = behind-run form profile n seen values left false row e in
           let on = run-gathers form profile seen values left g in
@@ -90,24 +88,24 @@ module _ (form : Form) (profile : Profile) where
           so (kept-passed form profile n seen values left row g e)
           (record {
             es = es ++ entryAt row (r .left) ∷ k .es;
-            fs = NotAllowed (getD (r .left) 0 0) ∷ k .fs;
+            fs = Fault.NotAllowed (getD (r .left) 0 0) ∷ k .fs;
             last = k .last;
             rest = k .rest;
             walk = walked-on a (told row h (k .walk));
-            ends = ⊎-elim (λ x. inl (x .0, ap (λ (fs : List Fault). NotAllowed (getD (r .left) 0 0) ∷ fs) (x .1)))
-                (λ x. inr (x .0, ap (λ (fs : List Fault). NotAllowed (getD (r .left) 0 0) ∷ fs) (x .1))) (k .ends);
+            ends = ⊎-elim (λ x. inl (x .0, ap (λ (fs : List Fault). Fault.NotAllowed (getD (r .left) 0 0) ∷ fs) (x .1)))
+                (λ x. inr (x .0, ap (λ (fs : List Fault). Fault.NotAllowed (getD (r .left) 0 0) ∷ fs) (x .1))) (k .ends);
           })
-      go BrokenStep e ih =
+      go Step.Broken e ih =
           let (es, a) = run-walked seen values left in
-          so (kept-step form profile n seen values left BrokenStep e)
+          so (kept-step form profile n seen values left Step.Broken e)
           (record { es = es; fs = []; last = _; rest = _; walk = a; ends = inr (run-stopped form profile seen values left .there ∙ e, refl) })
-      go End e ih =
+      go Step.End e ih =
           let (es, a) = run-walked seen values left in
-          so (kept-step form profile n seen values left End e)
+          so (kept-step form profile n seen values left Step.End e)
           (record { es = es; fs = []; last = _; rest = _; walk = a; ends = inl (run-stopped form profile seen values left .there ∙ e, refl) })
 
   -- a walk tells of no record that it is dropped
-  pub none-dropped : {s t : List Bool} {v l w m : List ℕ} {es : List Entry} {fs : List Fault} → Walked form profile s v l es fs t w m → List·Memᴰ Dropped fs → ⊥
+  pub none-dropped : {s t : List Bool} {v l w m : List ℕ} {es : List Entry} {fs : List Fault} → Walked form profile s v l es fs t w m → List·Memᴰ Fault.Dropped fs → ⊥
   none-dropped stay d = List·Memᴰ·not-nil d
   none-dropped (took row h a) d = none-dropped a d
   none-dropped (told row h a) d = ⊎-elim (λ e. let z : _≡_ {A = ℕ} 0 1 = cc in omega arith) (λ m. none-dropped a m) (List·Memᴰ·cases-cons d)

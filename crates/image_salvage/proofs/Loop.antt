@@ -12,10 +12,9 @@ use Rattle.settings.specs.Settings.{byteCount, freshValues, rowCount}
 use Rattle.lists.specs.Lists.{laidAt}
 use Rattle.forms.specs.declared.Form.{Form}
 use Rattle.faults.specs.declared.Fault.{Fault}
-use Rattle.faults.specs.declared.Fault.the-variants.{Broken as BrokenCode, NotAllowed as NotAllowedCode}
 use Rattle.faults.specs.Lines.{lineOf, longestLine}
 use Rattle.faults.proofs.Laws.{line-short}
-use Rattle.image_record.specs.declared.Step.the-variants.{Field, NotAllowed, Broken, End}
+use Rattle.image_record.specs.declared.Step.{Step}
 use Rattle.image_record.specs.Field.{behind}
 use Rattle.image_record.specs.Run.{Run, runFrom}
 use Rattle.image_record.proofs.OnTheWay.{seenWith}
@@ -89,10 +88,10 @@ module _ (form : Form) (profile : Profile) (number : ℕ) (bytes first : List �
       here : left seen values at k ≡ keptFrom form profile (suc (mostFaults - (k + 1))) seen values (drop at bytes)
       here = let n : mostFaults - k ≡ suc (mostFaults - (k + 1)) = omega arith in rw n
 
-      pub at-end : run .step ≡ End → Over lines (run .values) next
-      at-end e = ended (record { values = run .values; faults = [] }) (here ∙ kept-step form profile _ seen values (drop at bytes) End e) refl refl
+      pub at-end : run .step ≡ Step.End → Over lines (run .values) next
+      at-end e = ended (record { values = run .values; faults = [] }) (here ∙ kept-step form profile _ seen values (drop at bytes) Step.End e) refl refl
 
-      pub at-field : (row : ℕ) → run .step ≡ Field row → Over lines (run .values) next
+      pub at-field : (row : ℕ) → run .step ≡ Step.Field row → Over lines (run .values) next
       at-field row e = absurd (run-stopped form profile seen values (drop at bytes) .no-field row e)
 
       -- a line is laid, and its fault was the next
@@ -108,18 +107,18 @@ module _ (form : Form) (profile : Profile) (number : ℕ) (bytes first : List �
           let lines-are : linesOf number (left seen values at k .faults) ≡ lineOf number fault ++ linesOf number faults = rw e (lines-more number fault faults) in
           one-more (lineOf number fault) (subst (Laying from first text lines next) lines-are (t .laying)) (line-fits fault)
 
-      pub broken-inside : run .step ≡ Broken → there < length bytes
+      pub broken-inside : run .step ≡ Step.Broken → there < length bytes
       broken-inside e =
           let some = broken-some form profile (run .seen) (run .values) (run .left) (run-stopped form profile seen values (drop at bytes) .there ∙ e) in
           omega (arith, some, ap length run-behind, length-drop there bytes)
 
-      pub at-broken : run .step ≡ Broken → {after : List ℕ} {place : ℕ}
-          → after ≡ laidAt next (lineOf number (BrokenCode (getD bytes there 0))) lines → place ≡ next + length (lineOf number (BrokenCode (getD bytes there 0)))
+      pub at-broken : run .step ≡ Step.Broken → {after : List ℕ} {place : ℕ}
+          → after ≡ laidAt next (lineOf number (Fault.Broken (getD bytes there 0))) lines → place ≡ next + length (lineOf number (Fault.Broken (getD bytes there 0)))
           → Over after (run .values) place
       at-broken e {after} {place} laid placed =
-          let fault = BrokenCode (getD bytes there 0) in
+          let fault = Fault.Broken (getD bytes there 0) in
           let is : left seen values at k ≡ record { values = run .values; faults = fault ∷ [] } =
-          here ∙ kept-step form profile _ seen values (drop at bytes) Broken e ∙ ap {B = Kept} (λ (c : ℕ). record { values = run .values; faults = BrokenCode c ∷ [] }) code in
+          here ∙ kept-step form profile _ seen values (drop at bytes) Step.Broken e ∙ ap {B = Kept} (λ (c : ℕ). record { values = run .values; faults = Fault.Broken c ∷ [] }) code in
           let l = told fault [] (ap (λ (r : Kept). r .faults) is) in
           let (n, all) = all-laid (subst (Laying from first text _ _) (lines-none number) l) (omega (arith, t .enough)) in
           record {
@@ -129,19 +128,19 @@ module _ (form : Form) (profile : Profile) (number : ℕ) (bytes first : List �
             laid = laid ∙ all;
           }
 
-      pub passed : {row : ℕ} → run .step ≡ NotAllowed row → Stands false form profile (run .seen) (run .values) (run .left) row
+      pub passed : {row : ℕ} → run .step ≡ Step.NotAllowed row → Stands false form profile (run .seen) (run .values) (run .left) row
       passed {row} e = behind-run form profile k seen values (drop at bytes) false row e
 
-      pub passed-inside : {row : ℕ} → run .step ≡ NotAllowed row → there + 2 + byteCount row ≤ length bytes
+      pub passed-inside : {row : ℕ} → run .step ≡ Step.NotAllowed row → there + 2 + byteCount row ≤ length bytes
       passed-inside e = omega (arith, passed e .whole, ap length run-behind, length-drop there bytes, run-inside)
 
       -- one run more, where what the code has is what it should have
-      pub at-passed : (row : ℕ) → run .step ≡ NotAllowed row → {after : List ℕ} {place count : ℕ}
-          → after ≡ laidAt next (lineOf number (NotAllowedCode (getD bytes there 0))) lines
-          → place ≡ next + length (lineOf number (NotAllowedCode (getD bytes there 0))) → count ≡ byteCount row
+      pub at-passed : (row : ℕ) → run .step ≡ Step.NotAllowed row → {after : List ℕ} {place count : ℕ}
+          → after ≡ laidAt next (lineOf number (Fault.NotAllowed (getD bytes there 0))) lines
+          → place ≡ next + length (lineOf number (Fault.NotAllowed (getD bytes there 0))) → count ≡ byteCount row
           → Turn after (run .values) (seenWith row (run .seen)) (there + 2 + count) place (k + 1)
       at-passed row e {after} {place} {count} laid placed counted =
-          let fault = NotAllowedCode (getD bytes there 0) in
+          let fault = Fault.NotAllowed (getD bytes there 0) in
           let line = lineOf number fault in
           let seen-on = seenWith row (run .seen) in
           let rest : behind row (run .left) ≡ drop (there + 2 + byteCount row) bytes =
@@ -169,17 +168,17 @@ module _ (form : Form) (profile : Profile) (number : ℕ) (bytes first : List �
         line-is f laid placed =
             (laid ∙ ap (λ (j : ℕ). laidAt next (lineOf number (f (getD bytes j 0))) lines) stop-is, placed ∙ ap (λ (j : ℕ). next + length (lineOf number (f (getD bytes j 0)))) stop-is)
 
-        pub broken-over : run .step ≡ Broken → {after : List ℕ} {place : ℕ}
-            → after ≡ laidAt next (lineOf number (BrokenCode (getD bytes stop 0))) lines → place ≡ next + length (lineOf number (BrokenCode (getD bytes stop 0)))
+        pub broken-over : run .step ≡ Step.Broken → {after : List ℕ} {place : ℕ}
+            → after ≡ laidAt next (lineOf number (Fault.Broken (getD bytes stop 0))) lines → place ≡ next + length (lineOf number (Fault.Broken (getD bytes stop 0)))
             → Over after (run .values) place
-        broken-over e laid placed = let (l, p) = line-is BrokenCode laid placed in at-broken e l p
+        broken-over e laid placed = let (l, p) = line-is Fault.Broken laid placed in at-broken e l p
 
-        pub passed-turn : {row : ℕ} → run .step ≡ NotAllowed row → {after last : List ℕ} {marks : List Bool} {place count : ℕ}
-            → after ≡ laidAt next (lineOf number (NotAllowedCode (getD bytes stop 0))) lines
-            → place ≡ next + length (lineOf number (NotAllowedCode (getD bytes stop 0))) → count ≡ byteCount row → last ≡ run .values → marks ≡ run .seen
+        pub passed-turn : {row : ℕ} → run .step ≡ Step.NotAllowed row → {after last : List ℕ} {marks : List Bool} {place count : ℕ}
+            → after ≡ laidAt next (lineOf number (Fault.NotAllowed (getD bytes stop 0))) lines
+            → place ≡ next + length (lineOf number (Fault.NotAllowed (getD bytes stop 0))) → count ≡ byteCount row → last ≡ run .values → marks ≡ run .seen
             → Turn after last (seenWith row marks) (stop + 2 + count) place (k + 1)
         passed-turn {row} e {after} {last} {marks} {place} {count} laid placed counted last-is marks-is =
-            let (l, p) = line-is NotAllowedCode laid placed in
+            let (l, p) = line-is Fault.NotAllowed laid placed in
             subst (λ (v : List ℕ). Turn after v (seenWith row marks) (stop + 2 + count) place (k + 1)) (sym last-is)
             (subst (λ (m : List Bool). Turn after (run .values) (seenWith row m) (stop + 2 + count) place (k + 1)) (sym marks-is)
             (subst (λ (j : ℕ). Turn after (run .values) (seenWith row (run .seen)) (j + 2 + count) place (k + 1)) (sym stop-is) (at-passed row e l p counted)))

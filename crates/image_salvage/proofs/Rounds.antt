@@ -13,7 +13,6 @@ use Rattle.settings.specs.Settings.{freshValues, rowCount}
 use Rattle.lists.specs.Lists.{laidAt, laidOver}
 use Rattle.lists.proofs.Laid.{laid-over}
 use Rattle.profiles.specs.declared.Numbered.{Numbered}
-use Rattle.profiles.specs.declared.Numbered.the-variants.{Known, Unknown}
 use Rattle.profiles.specs.Numbers.{ifKnown}
 use Rattle.panels.specs.declared.Panel.{Panel}
 use Rattle.panels.specs.Wall.{Wall, blank, inPlaces, mostPanels}
@@ -21,7 +20,6 @@ use Rattle.panels.proofs.Laws.{none-held, one-held}
 use Rattle.forms.specs.declared.Form.{Form}
 use Rattle.forms.specs.Forms.{headSize}
 use Rattle.faults.specs.declared.Fault.{Fault}
-use Rattle.faults.specs.declared.Fault.the-variants.{Dropped}
 use Rattle.faults.specs.Lines.{longestLine}
 use Rattle.image_whole.specs.Whole.{formOf, countOf, recordIn, recordsIn}
 use Rattle.image_whole.proofs.Edges.{Fits, record-next, record-count}
@@ -37,30 +35,30 @@ use Rattle.image_salvage.proofs.Sound.{record-dropped, record-kept}
 
 module _ (form : Form) (number from : ℕ) (seen : List Bool) (bytes : List ℕ) where
   -- a record is kept where its head fits, and else dropped
-  kept-by : recordBy form number from seen bytes .kept ≡ true → (profile : Profile) × (headIn form (marked seen) bytes ≡ Known profile)
+  kept-by : recordBy form number from seen bytes .kept ≡ true → (profile : Profile) × (headIn form (marked seen) bytes ≡ Numbered.Known profile)
   unfolding recordBy
   kept-by e = go (headIn form (marked seen) bytes) refl e
     where
-      go : (n : Numbered) → headIn form (marked seen) bytes ≡ n → ifKnown n (λ (p : Profile). true) false ≡ true → (profile : Profile) × (headIn form (marked seen) bytes ≡ Known profile)
-      go (Known profile) h e = (profile, h)
-      go Unknown h e = absurd (false≢true e)
+      go : (n : Numbered) → headIn form (marked seen) bytes ≡ n → ifKnown n (λ (p : Profile). true) false ≡ true → (profile : Profile) × (headIn form (marked seen) bytes ≡ Numbered.Known profile)
+      go (Numbered.Known profile) h e = (profile, h)
+      go Numbered.Unknown h e = absurd (false≢true e)
 
-  dropped-by : recordBy form number from seen bytes .kept ≡ false → headIn form (marked seen) bytes ≡ Unknown
+  dropped-by : recordBy form number from seen bytes .kept ≡ false → headIn form (marked seen) bytes ≡ Numbered.Unknown
   unfolding recordBy
   dropped-by e = go (headIn form (marked seen) bytes) refl e
     where
-      go : (n : Numbered) → headIn form (marked seen) bytes ≡ n → ifKnown n (λ (p : Profile). true) false ≡ false → headIn form (marked seen) bytes ≡ Unknown
-      go (Known profile) h e = absurd (false≢true (sym e))
-      go Unknown h e = h
+      go : (n : Numbered) → headIn form (marked seen) bytes ≡ n → ifKnown n (λ (p : Profile). true) false ≡ false → headIn form (marked seen) bytes ≡ Numbered.Unknown
+      go (Numbered.Known profile) h e = absurd (false≢true (sym e))
+      go Numbered.Unknown h e = h
 
   -- its faults are few, and so its lines are short
   pub lines-few : length (linesOf number (faultsBy form seen bytes)) ≤ mostFaults * longestLine
   unfolding faultsBy
   lines-few = go (headIn form (marked seen) bytes)
     where
-      go : (n : Numbered) → length (linesOf number (ifKnown n (λ profile. keptOf form profile (drop (headSize form) bytes) .faults) (Dropped ∷ []))) ≤ mostFaults * longestLine
-      go (Known profile) = omega (arith, lines-short number (keptOf form profile (drop (headSize form) bytes) .faults), faults-few form profile mostFaults (replicate rowCount false) (freshValues profile) (drop (headSize form) bytes))
-      go Unknown = omega (arith, lines-short number (Dropped ∷ []))
+      go : (n : Numbered) → length (linesOf number (ifKnown n (λ profile. keptOf form profile (drop (headSize form) bytes) .faults) (Fault.Dropped ∷ []))) ≤ mostFaults * longestLine
+      go (Numbered.Known profile) = omega (arith, lines-short number (keptOf form profile (drop (headSize form) bytes) .faults), faults-few form profile mostFaults (replicate rowCount false) (freshValues profile) (drop (headSize form) bytes))
+      go Numbered.Unknown = omega (arith, lines-short number (Fault.Dropped ∷ []))
 
 module _ (image first : List ℕ) where
   abbrev form : Form
@@ -160,7 +158,7 @@ module _ (image first : List ℕ) where
       dropped-on e laid placed =
           let unknown = dropped-by form (k + 1) next seen bytes e in
           let is = here ∙ record-dropped form wall bytes _ (sym (head-alike (r .marks) form bytes) ∙ unknown) in
-          let faults : faultsBy form seen bytes ≡ Dropped ∷ [] = rw unknown in
+          let faults : faultsBy form seen bytes ≡ Fault.Dropped ∷ [] = rw unknown in
           record {
             few = more-suc;
             room = place-on placed;

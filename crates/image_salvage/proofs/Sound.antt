@@ -7,19 +7,17 @@ use native.Mathlib.Omega.{arith}
 use lib.ListN.{length, drop, length-append}
 use Rattle.settings.specs.declared.Profile.{Profile}
 use Rattle.profiles.specs.declared.Numbered.{Numbered}
-use Rattle.profiles.specs.declared.Numbered.the-variants.{Known, Unknown}
 use Rattle.panels.specs.Wall.{Wall, tableOf, mostPanels}
 use Rattle.panels.specs.WellFormed.{GoodWall, WellFormed}
 use Rattle.panels.proofs.Formed.{formed, empty-formed}
 use Rattle.panels.proofs.Values.{InRange}
 use Rattle.forms.specs.declared.Form.{Form}
 use Rattle.forms.specs.Forms.{headSize}
-use Rattle.faults.specs.declared.Fault.the-variants.{Dropped}
+use Rattle.faults.specs.declared.Fault.{Fault}
 use Rattle.refusals.specs.Refusals.{isSound}
 use Rattle.image_whole.specs.Whole.{formOf, recordsIn, wholeRefusal}
 use Rattle.image_whole.proofs.Edges.{fits, record-count}
 use Rattle.image_record.specs.declared.Step.{Step}
-use Rattle.image_record.specs.declared.Step.the-variants.{Field, NotAllowed, Broken, End}
 use Rattle.image_record.specs.Head.{idIn, headIn, headed}
 use Rattle.image_record.specs.Run.{runFrom}
 use Rattle.image_record.proofs.Gathering.{Gathering, none-gathered, passed-on}
@@ -47,29 +45,29 @@ module _ (form : Form) (profile : Profile) where
 
       go : (s : Step) → runFrom form profile seen values left .step ≡ s
           → ((seen : List Bool) (values left : List ℕ) → Gathering form profile seen values → Ranged n seen values left) → Ranged (suc n) seen values left
-      go (Field row) e ih = ranged (suc n) seen values left (kept-step form profile n seen values left (Field row) e) (on .inRange)
-      go (NotAllowed row) e ih =
+      go (Step.Field row) e ih = ranged (suc n) seen values left (kept-step form profile n seen values left (Step.Field row) e) (on .inRange)
+      go (Step.NotAllowed row) e ih =
           ranged (suc n) seen values left (kept-passed form profile n seen values left row g e)
           (ih _ _ _ (passed-on form profile on (behind-run form profile n seen values left false row e)))
-      go Broken e ih = ranged (suc n) seen values left (kept-step form profile n seen values left Broken e) (on .inRange)
-      go End e ih = ranged (suc n) seen values left (kept-step form profile n seen values left End e) (on .inRange)
+      go Step.Broken e ih = ranged (suc n) seen values left (kept-step form profile n seen values left Step.Broken e) (on .inRange)
+      go Step.End e ih = ranged (suc n) seen values left (kept-step form profile n seen values left Step.End e) (on .inRange)
 
   pub kept-in-range : (left : List ℕ) → InRange profile (keptOf form profile left .values)
   kept-in-range left = from-in-range mostFaults _ _ left (none-gathered form profile)
 
 -- a record is dropped or kept
-pub record-dropped : (form : Form) (w : Wall) (bytes : List ℕ) (records : List (List ℕ)) → headIn form (idIn w) bytes ≡ Unknown
-    → salvagedFrom form w (bytes ∷ records) ≡ behindFaults (Dropped ∷ []) (salvagedFrom form w records)
+pub record-dropped : (form : Form) (w : Wall) (bytes : List ℕ) (records : List (List ℕ)) → headIn form (idIn w) bytes ≡ Numbered.Unknown
+    → salvagedFrom form w (bytes ∷ records) ≡ behindFaults (Fault.Dropped ∷ []) (salvagedFrom form w records)
 unfolding salvagedFrom
 record-dropped form w bytes records e = rw e
 
-pub record-kept : (form : Form) (w : Wall) (bytes : List ℕ) (records : List (List ℕ)) (profile : Profile) → headIn form (idIn w) bytes ≡ Known profile
+pub record-kept : (form : Form) (w : Wall) (bytes : List ℕ) (records : List (List ℕ)) (profile : Profile) → headIn form (idIn w) bytes ≡ Numbered.Known profile
     → let kept = keptOf form profile (drop (headSize form) bytes) in
     salvagedFrom form w (bytes ∷ records) ≡ behindFaults (kept .faults) (salvagedFrom form (w ++ headed bytes profile (kept .values) ∷ []) records)
 unfolding salvagedFrom
 record-kept form w bytes records profile e = rw e
 
-pub kept-good : (form : Form) (w : Wall) (bytes : List ℕ) (profile : Profile) → headIn form (idIn w) bytes ≡ Known profile → GoodWall w
+pub kept-good : (form : Form) (w : Wall) (bytes : List ℕ) (profile : Profile) → headIn form (idIn w) bytes ≡ Numbered.Known profile → GoodWall w
     → GoodWall (w ++ headed bytes profile (keptOf form profile (drop (headSize form) bytes) .values) ∷ [])
 kept-good form w bytes profile e good = headed-good form w bytes profile e (kept-in-range form profile (drop (headSize form) bytes)) good
 
@@ -86,8 +84,8 @@ from-formed form w (bytes ∷ records) few good = go (headIn form (idIn w) bytes
 
     go : (n : Numbered) → headIn form (idIn w) bytes ≡ n → ((v : Wall) → length v + length records ≤ mostPanels → GoodWall v → Formed form v records)
         → Formed form w (bytes ∷ records)
-    go (Known profile) e ih = so (record-kept form w bytes records profile e) (ih _ (simp length-append (omega arith)) (kept-good form w bytes profile e good))
-    go Unknown e ih = so (record-dropped form w bytes records e) (ih w (omega arith) good)
+    go (Numbered.Known profile) e ih = so (record-kept form w bytes records profile e) (ih _ (simp length-append (omega arith)) (kept-good form w bytes profile e good))
+    go Numbered.Unknown e ih = so (record-dropped form w bytes records e) (ih w (omega arith) good)
 
 -- Whatever the image, what is kept of it is well-formed.
 pub salvage-formed : (image : List ℕ) → WellFormed (tableOf (salvageOf image .wall))

@@ -7,7 +7,6 @@ use native.Mathlib.Omega.{arith}
 use lib.ListN.{length, drop, replicate, length-append}
 use Rattle.settings.specs.Settings.{freshValues, rowCount}
 use Rattle.profiles.specs.declared.Numbered.{Numbered}
-use Rattle.profiles.specs.declared.Numbered.the-variants.{Known, Unknown}
 use Rattle.panels.specs.Wall.{Wall, mostPanels}
 use Rattle.forms.specs.declared.Form.{Form}
 use Rattle.forms.specs.Forms.{headSize}
@@ -43,14 +42,14 @@ from-each form w (bytes ∷ records) = go (headIn form (idIn w) bytes) refl (λ 
 
     go : (n : Numbered) → headIn form (idIn w) bytes ≡ n → ((v : Wall) → Each (length records) (salvagedFrom form v records .faults))
         → Each (suc (length records)) (salvagedFrom form w (bytes ∷ records) .faults)
-    go (Known profile) e ih =
+    go (Numbered.Known profile) e ih =
         let i = ih _ in
         so (record-kept form w bytes records profile e)
         (record {
           as-many = ap suc (i .as-many);
           few = (faults-few form profile mostFaults (replicate rowCount false) (freshValues profile) (drop (headSize form) bytes), i .few);
         })
-    go Unknown e ih = let i = ih w in so (record-dropped form w bytes records e) (record { as-many = ap suc (i .as-many); few = (omega arith, i .few) })
+    go Numbered.Unknown e ih = let i = ih w in so (record-dropped form w bytes records e) (record { as-many = ap suc (i .as-many); few = (omega arith, i .few) })
 
 lines-in : (number : ℕ) (faults : List (List Fault)) → Few faults → length (textFrom number faults) ≤ mostFaults * longestLine * length faults
 unfolding textFrom

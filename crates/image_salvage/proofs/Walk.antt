@@ -9,10 +9,8 @@ use Rattle.settings.specs.Settings.{freshValues, valuesOf, valuesWith}
 use Rattle.panels.proofs.Values.{with-own}
 use Rattle.forms.specs.declared.Form.{Form}
 use Rattle.faults.specs.declared.Fault.{Fault}
-use Rattle.faults.specs.declared.Fault.the-variants.{NotAllowed as NotAllowedCode}
 use Rattle.faults.specs.Lines.{lineOf}
 use Rattle.image_record.specs.declared.Step.{Step}
-use Rattle.image_record.specs.declared.Step.the-variants.{NotAllowed}
 use Rattle.image_record.specs.Field.{behind}
 use Rattle.image_record.specs.Run.{Run, runFrom}
 use Rattle.image_record.proofs.OnTheWay.{seenWith}
@@ -51,11 +49,11 @@ module _ (form : Form) (profile : Profile) (n : ℕ) (seen : List Bool) (values 
   behind-run b row e = stands form profile b (run .seen) (run .values) (run .left) row (run-stopped form profile seen values left .there ∙ e)
 
   -- a row that is not allowed was not seen, so it is fresh, and stays as it is
-  pub kept-passed : (row : ℕ) → Gathering form profile seen values → run .step ≡ NotAllowed row
+  pub kept-passed : (row : ℕ) → Gathering form profile seen values → run .step ≡ Step.NotAllowed row
       → keptFrom form profile (suc n) seen values left
-      ≡ telling (NotAllowedCode (getD (run .left) 0 0)) (keptFrom form profile n (seenWith row (run .seen)) (run .values) (behind row (run .left)))
+      ≡ telling (Fault.NotAllowed (getD (run .left) 0 0)) (keptFrom form profile n (seenWith row (run .seen)) (run .values) (behind row (run .left)))
   kept-passed row g e =
       let fresh = run-gathers form profile seen values left g .fresh row (behind-run false row e .free .new) in
       let same = ap (λ (vs : List ℕ). valuesWith row vs (run .values)) (sym fresh) ∙ with-own row (run .values) in
-      kept-step (NotAllowed row) e
-      ∙ ap (λ (vs : List ℕ). telling (NotAllowedCode (getD (run .left) 0 0)) (keptFrom form profile n (seenWith row (run .seen)) vs (behind row (run .left)))) same
+      kept-step (Step.NotAllowed row) e
+      ∙ ap (λ (vs : List ℕ). telling (Fault.NotAllowed (getD (run .left) 0 0)) (keptFrom form profile n (seenWith row (run .seen)) vs (behind row (run .left)))) same

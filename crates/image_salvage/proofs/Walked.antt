@@ -13,7 +13,6 @@ use Rattle.models.proofs.Laws.{allowed-many}
 use Rattle.panels.proofs.Values.{other-row}
 use Rattle.forms.specs.declared.Form.{Form}
 use Rattle.faults.specs.declared.Fault.{Fault}
-use Rattle.faults.specs.declared.Fault.the-variants.{NotAllowed}
 use Rattle.image_record.specs.Field.{valuesIn, behind}
 use Rattle.image_record.proofs.OnTheWay.{seenWith}
 use Rattle.image_record.proofs.Steps.{Stands}
@@ -32,7 +31,7 @@ pub data Walked (form : Form) (profile : Profile) : List Bool → List ℕ → L
       → Walked form profile s v l (entryAt row l ∷ es) fs s′ v′ l′
   told : {s s′ : List Bool} {v l v′ l′ : List ℕ} {es : List Entry} {fs : List Fault} (row : ℕ) → Stands false form profile s v l row
       → Walked form profile (seenWith row s) v (behind row l) es fs s′ v′ l′
-      → Walked form profile s v l (entryAt row l ∷ es) (NotAllowed (getD l 0 0) ∷ fs) s′ v′ l′
+      → Walked form profile s v l (entryAt row l ∷ es) (Fault.NotAllowed (getD l 0 0) ∷ fs) s′ v′ l′
 
 module _ {form : Form} {profile : Profile} where
   -- one walk behind the other

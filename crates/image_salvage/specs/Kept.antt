@@ -8,9 +8,7 @@ use Rattle.settings.specs.declared.Profile.{Profile}
 use Rattle.settings.specs.Settings.{freshValues, valuesOf, valuesWith, rowCount}
 use Rattle.forms.specs.declared.Form.{Form}
 use Rattle.faults.specs.declared.Fault.{Fault}
-use Rattle.faults.specs.declared.Fault.the-variants.{Broken as BrokenCode, NotAllowed as NotAllowedCode}
 use Rattle.image_record.specs.declared.Step.{Step}
-use Rattle.image_record.specs.declared.Step.the-variants.{Field, NotAllowed, Broken, End}
 use Rattle.image_record.specs.Field.{behind}
 use Rattle.image_record.specs.Run.{runFrom}
 
@@ -25,10 +23,10 @@ telling fault kept = record { values = kept .values; faults = fault ∷ kept .fa
 -- What the step at which a run of fields stopped comes to: a field that is not allowed is told and goes on, and a broken one is
 -- told and ends it. The code is the byte in the code's place. A run does not stop at a field that can be taken.
 abbrev pub keptBy : Step → List ℕ → ℕ → (ℕ → Kept) → Kept
-keptBy (Field row) values code more = record { values = values; faults = [] }
-keptBy (NotAllowed row) values code more = telling (NotAllowedCode code) (more row)
-keptBy Broken values code more = record { values = values; faults = BrokenCode code ∷ [] }
-keptBy End values code more = record { values = values; faults = [] }
+keptBy (Step.Field row) values code more = record { values = values; faults = [] }
+keptBy (Step.NotAllowed row) values code more = telling (Fault.NotAllowed code) (more row)
+keptBy Step.Broken values code more = record { values = values; faults = Fault.Broken code ∷ [] }
+keptBy Step.End values code more = record { values = values; faults = [] }
 
 -- run after run, n at most: the row that is not allowed is seen, and the fresh values stand at its place
 unfoldable pub keptFrom : Form → Profile → ℕ → List Bool → List ℕ → List ℕ → Kept

@@ -8,7 +8,6 @@ use Rattle.panels.specs.Wall.{Wall, tableOf, mostPanels}
 use Rattle.forms.specs.declared.Form.{Form}
 use Rattle.forms.specs.Forms.{headSize}
 use Rattle.faults.specs.declared.Fault.{Fault}
-use Rattle.faults.specs.declared.Fault.the-variants.{Dropped}
 use Rattle.faults.specs.Lines.{lineOf, longestLine}
 use Rattle.refusals.specs.Refusals.{isSound}
 use Rattle.image_whole.specs.Whole.{formOf, wholeRefusal, recordsIn}
@@ -33,7 +32,7 @@ salvagedFrom form w (bytes ∷ records) =
     ifKnown (headIn form (idIn w) bytes) (λ profile.
     let kept = keptOf form profile (drop (headSize form) bytes) in
     behindFaults (kept .faults) (salvagedFrom form (w ++ headed bytes profile (kept .values) ∷ []) records))
-    (behindFaults (Dropped ∷ []) (salvagedFrom form w records))
+    (behindFaults (Fault.Dropped ∷ []) (salvagedFrom form w records))
 
 -- nothing of an image that 11 to 15 refuse
 unfoldable pub salvageOf : List ℕ → Salvage

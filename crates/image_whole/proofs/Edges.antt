@@ -17,7 +17,7 @@ use Rattle.lists.proofs.Both.{both}
 use Rattle.lists.proofs.Each.{in-each, length-each}
 use Rattle.forms.specs.declared.Numbered.{Numbered}
 use Rattle.forms.specs.Forms.{formWith, ifKnown}
-use Rattle.refusals.specs.declared.Refusal.the-variants.{Nothing, TooShort, OtherForm, TooMany, NoStarts, Starts}
+use Rattle.refusals.specs.declared.Refusal.{Refusal}
 use Rattle.image_whole.specs.Whole.{lastByte, countOf, startsAt, edge, rises, startsFit, wholeRefusal, recordIn, recordsIn}
 use Rattle.refusals.specs.Refusals.{isSound}
 
@@ -33,7 +33,7 @@ fits image e = go _ _ _ _ _ refl refl refl refl refl e
   where
     go : (a : Bool) (b : Numbered) (c d f : Bool) → ltb (length image) 2 ≡ a → formWith (lastByte image) ≡ b → ltb mostPanels (countOf image) ≡ c
         → ltb (length image) (2 * countOf image + 2) ≡ d → startsFit image ≡ f
-        → isSound (cond a TooShort (ifKnown b (λ form. cond c TooMany (cond d NoStarts (cond f Nothing Starts))) OtherForm)) ≡ true → Fits image
+        → isSound (cond a Refusal.TooShort (ifKnown b (λ form. cond c Refusal.TooMany (cond d Refusal.NoStarts (cond f Refusal.Nothing Refusal.Starts))) Refusal.OtherForm)) ≡ true → Fits image
     go true b c d f ea eb ec ed ef e = absurd (false≢true e)
     go false Numbered.Unknown c d f ea eb ec ed ef e = absurd (false≢true e)
     go false (Numbered.Known form) true d f ea eb ec ed ef e = absurd (false≢true e)

@@ -10,7 +10,6 @@ use Rattle.lists.specs.Lists.{each}
 use Rattle.forms.specs.declared.Form.{Form}
 use Rattle.forms.specs.Forms.{formWith, ifKnown}
 use Rattle.refusals.specs.declared.Refusal.{Refusal}
-use Rattle.refusals.specs.declared.Refusal.the-variants.{Nothing, TooShort, OtherForm, TooMany, NoStarts, Starts}
 
 -- n starts of two bytes, then n, then the form byte
 abbrev pub lastByte : List ℕ → ℕ
@@ -48,10 +47,10 @@ startsFit image = eqb (edge image 0) 0 && rises image 0 (countOf image)
 -- 11 to 15, in this order
 unfoldable pub wholeRefusal : List ℕ → Refusal
 wholeRefusal image =
-    cond (ltb (length image) 2) TooShort
+    cond (ltb (length image) 2) Refusal.TooShort
     (ifKnown (formWith (lastByte image))
-    (λ form. cond (ltb mostPanels (countOf image)) TooMany
-    (cond (ltb (length image) (2 * countOf image + 2)) NoStarts (cond (startsFit image) Nothing Starts))) OtherForm)
+    (λ form. cond (ltb mostPanels (countOf image)) Refusal.TooMany
+    (cond (ltb (length image) (2 * countOf image + 2)) Refusal.NoStarts (cond (startsFit image) Refusal.Nothing Refusal.Starts))) Refusal.OtherForm)
 
 -- record k runs from its start to the next one, the last to the first byte of the starts
 abbrev pub recordIn : List ℕ → ℕ → List ℕ

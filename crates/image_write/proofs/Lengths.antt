@@ -9,7 +9,6 @@ use lib.Seq.{take-all}
 use Rattle.panels.proofs.Values.{length-values}
 use Rattle.settings.specs.Settings.{settings, byteCount, valueCount, rowCount, valuesOf}
 use Rattle.forms.specs.declared.Form.{Form}
-use Rattle.forms.specs.declared.Form.the-variants.{One, Two}
 use Rattle.forms.specs.Forms.{headSize, headOf, hasField}
 use Rattle.forms.proofs.Laws.{head-length, head-some}
 use Rattle.lists.specs.Lists.{startOf, each}
@@ -38,8 +37,8 @@ fieldBytes form row = cond (hasField form row) (2 + byteCount row) 0
 
 bytes-of-all : (form : Form) → length {A = ℕ} (flatten (each (λ row. replicate (fieldBytes form row) 0) rowCount)) ≡ fieldsSize form
 unfolding settings flatten
-bytes-of-all One = refl
-bytes-of-all Two = refl
+bytes-of-all Form.One = refl
+bytes-of-all Form.Two = refl
 
 -- all fields of a panel
 module _ (form : Form) (values : List ℕ) where
@@ -84,8 +83,8 @@ starts-count records =
 -- a record is its head and its fields
 pub record-parts : (form : Form) → recordSize form ≡ headSize form + fieldsSize form
 unfolding settings
-record-parts One = refl
-record-parts Two = refl
+record-parts Form.One = refl
+record-parts Form.Two = refl
 
 module _ (form : Form) where
   pub image-length : (records : List (List ℕ)) → length (imageOf form records) ≡ length (flatten records) + 2 * length records + 2
@@ -132,8 +131,8 @@ abbrev pub Products : ℕ → ℕ → ℕ → Type 0
 Products size k n = ((size + 2) * n ≡ size * n + 2 * n) × (k < n → size * k + size ≤ size * n) × (k ≤ n → size * k ≤ size * n) × (size * n ≤ 43 * n) × (size ≤ 43)
 
 pub products : (form : Form) (k n : ℕ) → Products (recordSize form) k n
-products One k n = (omega arith, (λ h. omega arith), (λ h. omega arith), omega arith, omega arith)
-products Two k n = (omega arith, (λ h. omega arith), (λ h. omega arith), omega arith, omega arith)
+products Form.One k n = (omega arith, (λ h. omega arith), (λ h. omega arith), omega arith, omega arith)
+products Form.Two k n = (omega arith, (λ h. omega arith), (λ h. omega arith), omega arith, omega arith)
 
 -- how many bytes were written, none on a refusal
 abbrev pub bytesWritten : Written → ℕ

@@ -6,19 +6,17 @@ use lib.Dec.{leb}
 use lib.ListN.{length}
 use Rattle.settings.specs.Settings.{setCode, byteCount, valuesOf, rowCount}
 use Rattle.forms.specs.declared.Form.{Form}
-use Rattle.forms.specs.declared.Form.the-variants.{One, Two}
 use Rattle.forms.specs.Forms.{formByte, headOf, hasField, keeps}
 use Rattle.lists.specs.Lists.{startOf, each, laidOver}
 use Rattle.panels.specs.declared.Panel.{Panel}
 use Rattle.panels.specs.Wall.{Wall, mostPanels}
 use Rattle.refusals.specs.Refusals.{noRoom, wouldLose}
 use Rattle.image_write.specs.declared.Written.{Written}
-use Rattle.image_write.specs.declared.Written.the-variants.{Bytes, WouldLose, NoRoom}
 
 -- the bytes of a record with all fields of its form, 01's and 02's (A2, A6), and of a panel in all, with the two of its start
 abbrev pub recordSize : Form → ℕ
-recordSize One = 33
-recordSize Two = 43
+recordSize Form.One = 33
+recordSize Form.Two = 43
 
 abbrev pub panelSize : Form → ℕ
 panelSize form = recordSize form + 2
@@ -75,7 +73,7 @@ losesNothing form (p ∷ w) = keeps form (p .profile) (p .values) && losesNothin
 
 -- what writing answers: 31 comes before 19
 unfoldable pub writtenOf : Form → Wall → List ℕ → Written
-writtenOf form w out = cond (losesNothing form w) (cond (leb (sizeOf form w) (length out)) (Bytes (sizeOf form w)) NoRoom) WouldLose
+writtenOf form w out = cond (losesNothing form w) (cond (leb (sizeOf form w) (length out)) (Written.Bytes (sizeOf form w)) Written.NoRoom) Written.WouldLose
 
 -- its number, 0 where the image is written
 abbrev pub refusalNumber : Written → ℕ

@@ -7,7 +7,6 @@ use borrow.Author.Tests.{ne-eqb}
 use lib.ListN.{length}
 use Rattle.lists.proofs.Both.{both}
 use Rattle.tiling.specs.declared.Kind.{Kind}
-use Rattle.tiling.specs.declared.Kind.the-variants.{FiveByFive, FifteenByTen}
 use Rattle.tiling.specs.Walls.{upTo}
 use Rattle.tiling.specs.Kinds.{kindNumber, inWall}
 use Rattle.settings.specs.declared.Profile.{Profile}
@@ -25,8 +24,8 @@ fresh-allowed model {row} h = by-kind (model .kind)
     by kind profile k = allowedFor (record { profile = profile; kind = kind }) k (valuesOf k (freshValues profile))
 
     by-kind : (kind : Kind) → by kind (model .profile) row ≡ true
-    by-kind FiveByFive = alike-by (by FiveByFive) (λ profile k. true) rowCount refl refl (model .profile) h
-    by-kind FifteenByTen = alike-by (by FifteenByTen) (λ profile k. true) rowCount refl refl (model .profile) h
+    by-kind Kind.FiveByFive = alike-by (by Kind.FiveByFive) (λ profile k. true) rowCount refl refl (model .profile) h
+    by-kind Kind.FifteenByTen = alike-by (by Kind.FifteenByTen) (λ profile k. true) rowCount refl refl (model .profile) h
 
 pub allowed-many : (model : Model) (row : ℕ) (vs : List ℕ) → allowedFor model row vs ≡ true → length vs ≡ byteCount row
 allowed-many model row vs e = ranges-many (model .profile) row vs (both _ _ e .0)
@@ -41,5 +40,5 @@ kind-free m n {row} vs e ne = rw (ne-eqb row tilingRow ne, e)
 
 pub kind-allowed : (model : Model) (kind : Kind) → allowedFor model kindRow (kindNumber kind ∷ []) ≡ true
 unfolding settings within allAllowed
-kind-allowed model FiveByFive = refl
-kind-allowed model FifteenByTen = refl
+kind-allowed model Kind.FiveByFive = refl
+kind-allowed model Kind.FifteenByTen = refl

@@ -8,17 +8,17 @@ use borrow.Author.Tests.{le-ltb, lt-ltb, ltb-false, eq-eqb, ne-eqb, eqb-true, eq
 use lib.Dec.{eqb}
 use lib.ListN.{length}
 use Rattle.packet.specs.Packet.{shortest, longest, isIntact, damageOf, damageNumber, verdictOf, damageIn}
-use Rattle.packet.specs.declared.Damage.the-variants.{Nothing, TooShort, TooLong, Size, Checksum}
-use Rattle.packet.specs.declared.Verdict.the-variants.{Damaged}
+use Rattle.packet.specs.declared.Damage.{Damage}
+use Rattle.packet.specs.declared.Verdict.{Verdict}
 use Rattle.packet.proofs.Packets.{Sound, sound, intact-verdict}
 
-pub undamaged : (b : List ℕ) → Sound b → damageOf b ≡ Nothing
+pub undamaged : (b : List ℕ) → Sound b → damageOf b ≡ Damage.Nothing
 unfolding damageOf
 undamaged b s = rw (ne-eqb (length b) 0 (λ z. omega arith), le-ltb _ _ (s .least), le-ltb _ _ (s .most), eq-eqb _ _ (s .size), eq-eqb _ _ (s .sum))
 
 -- none of the tests holds
 all-passed : (short long size sum : Bool)
-    → cond short TooShort (cond long TooLong (cond (not size) Size (cond (not sum) Checksum Nothing))) ≡ Nothing
+    → cond short Damage.TooShort (cond long Damage.TooLong (cond (not size) Damage.Size (cond (not sum) Damage.Checksum Damage.Nothing))) ≡ Damage.Nothing
     → (short ≡ false) × (long ≡ false) × (size ≡ true) × (sum ≡ true)
 all-passed true long size sum e = absurd (omega (arith, ap damageNumber e))
 all-passed false true size sum e = absurd (omega (arith, ap damageNumber e))
@@ -28,17 +28,17 @@ all-passed false false true true e = (refl, refl, refl, refl)
 
 -- a burst that is not empty
 module _ (b : List ℕ) (some : length b ≡ 0 → ⊥) where
-  pub passed : damageOf b ≡ Nothing → Sound b
+  pub passed : damageOf b ≡ Damage.Nothing → Sound b
   unfolding damageOf
   passed e =
       let t = all-passed _ _ _ _ (rw (ne-eqb _ _ some) at e) in
       record { least = ltb-false _ _ (t .0); most = ltb-false _ _ (t .1); size = eqb-true _ _ (t .2); sum = eqb-true _ _ (t .3) }
 
-  pub damaged-verdict : isIntact b ≡ false → verdictOf b ≡ Damaged (damageOf b)
+  pub damaged-verdict : isIntact b ≡ false → verdictOf b ≡ Verdict.Damaged (damageOf b)
   unfolding verdictOf
   damaged-verdict e = rw (ne-eqb _ _ some, e)
 
-  pub not-intact : (damageOf b ≡ Nothing → ⊥) → isIntact b ≡ false
+  pub not-intact : (damageOf b ≡ Damage.Nothing → ⊥) → isIntact b ≡ false
   not-intact h = go (isIntact b) refl
     where
       go : (t : Bool) → isIntact b ≡ t → isIntact b ≡ false
@@ -46,7 +46,7 @@ module _ (b : List ℕ) (some : length b ≡ 0 → ⊥) where
       go false e = e
 
 -- over 40 bytes
-pub too-long : (b : List ℕ) → longest < length b → damageOf b ≡ TooLong
+pub too-long : (b : List ℕ) → longest < length b → damageOf b ≡ Damage.TooLong
 unfolding damageOf
 too-long b h = rw (ne-eqb (length b) 0 (λ z. omega arith), le-ltb (length b) shortest (omega arith), lt-ltb _ _ h)
 

@@ -8,14 +8,13 @@ use borrow.Author.Tests.{leb-true, le-leb, eqb-true, eq-eqb, ne-eqb}
 use lib.Dec.{eqb}
 use lib.ListN.{length, getD, length-append}
 use lib.Seq.{take-append-seam}
-use Rattle.packet.specs.declared.Written.the-variants.{Bytes}
+use Rattle.packet.specs.declared.Written.{Written}
 use Rattle.lists.specs.Lists.{laidOver}
 use Rattle.xor.specs.Xor.{xorAll}
 use Rattle.packet.specs.Packet.{monitorId, groupId, isIntact, damageOf, verdictOf, dataOf, packetOf, mostData, longest, shortest, writtenOf, outputOf}
 use Rattle.packet.specs.declared.MonitorId.{MonitorId}
 use Rattle.packet.specs.declared.GroupId.{GroupId}
 use Rattle.packet.specs.declared.Verdict.{Verdict}
-use Rattle.packet.specs.declared.Verdict.the-variants.{Intact}
 use Rattle.xor.proofs.Laws.{⊕-self, ⊕-zero, xorAll-append}
 
 pub record Sound (burst : List ℕ) : Type 0 where
@@ -42,19 +41,19 @@ unfolding isIntact
 intact burst s = rw (le-leb _ _ (s .least), le-leb _ _ (s .most), eq-eqb _ _ (s .size), eq-eqb _ _ (s .sum))
 
 pub intact-verdict : (burst : List ℕ) → isIntact burst ≡ true
-    → verdictOf burst ≡ Intact (monitorId (getD burst 1 0)) (groupId (getD burst 2 0)) (length burst - shortest)
+    → verdictOf burst ≡ Verdict.Intact (monitorId (getD burst 1 0)) (groupId (getD burst 2 0)) (length burst - shortest)
 unfolding verdictOf
 intact-verdict burst e = let s = sound burst e in rw (ne-eqb (length burst) 0 (λ z. omega arith), e)
 
 -- no other burst has such a verdict
-pub verdict-intact : (burst : List ℕ) (i : MonitorId) (g : GroupId) (n : ℕ) → verdictOf burst ≡ Intact i g n → isIntact burst ≡ true
+pub verdict-intact : (burst : List ℕ) (i : MonitorId) (g : GroupId) (n : ℕ) → verdictOf burst ≡ Verdict.Intact i g n → isIntact burst ≡ true
 unfolding verdictOf
 verdict-intact burst i g n e = go (eqb (length burst) 0) (isIntact burst) refl e
   where
     packet : Verdict
-    packet = Intact (monitorId (getD burst 1 0)) (groupId (getD burst 2 0)) (length burst - shortest)
+    packet = Verdict.Intact (monitorId (getD burst 1 0)) (groupId (getD burst 2 0)) (length burst - shortest)
 
-    go : (z t : Bool) → isIntact burst ≡ t → cond z Verdict.Empty (cond t packet (Verdict.Damaged (damageOf burst))) ≡ Intact i g n → isIntact burst ≡ true
+    go : (z t : Bool) → isIntact burst ≡ t → cond z Verdict.Empty (cond t packet (Verdict.Damaged (damageOf burst))) ≡ Verdict.Intact i g n → isIntact burst ≡ true
     go z true is e = is
     go true false is e = let never : _≡_ {A = ℕ} 0 1 = cc in absurd (omega arith)
     go false false is e = let never : _≡_ {A = ℕ} 0 1 = cc in absurd (omega arith)
@@ -74,11 +73,11 @@ module _ (id : MonitorId) (group : GroupId) (d : List ℕ) (short : length d ≤
     sum = xorAll-append ((length d + shortest) ∷ id .0 ∷ group .0 ∷ d) _ ∙ (unfold xorAll in rw ⊕-zero (⊕-self _));
   })
 
-  pub packet-verdict : verdictOf (packetOf id group d) ≡ Intact id group (length d)
+  pub packet-verdict : verdictOf (packetOf id group d) ≡ Verdict.Intact id group (length d)
   unfolding packetOf
   packet-verdict =
       let n : length (packetOf id group d) - shortest ≡ length d = rw packet-length (omega arith) in
-      intact-verdict _ packet-intact ∙ ap (Intact id group) n
+      intact-verdict _ packet-intact ∙ ap (Verdict.Intact id group) n
 
   pub packet-data : dataOf (packetOf id group d) ≡ d
   unfolding packetOf dataOf
@@ -88,7 +87,7 @@ module _ (id : MonitorId) (group : GroupId) (d : List ℕ) (short : length d ≤
 
 -- An output with room for any packet gets it, where its data fits.
 module _ (out : List ℕ) (id : MonitorId) (group : GroupId) (d : List ℕ) (room : longest ≤ length out) (short : length d ≤ mostData) where
-  pub packet-written : writtenOf out d ≡ Bytes (length d + shortest)
+  pub packet-written : writtenOf out d ≡ Written.Bytes (length d + shortest)
   unfolding writtenOf
   packet-written = simp (le-leb _ _ room, le-leb _ _ short)
 

@@ -10,8 +10,8 @@ use lib.Seq.{set-split, split-at}
 use Rattle.xor.specs.Xor.{_⊕_, xorAll}
 use Rattle.packet.specs.Packet.{isIntact, damageOf, verdictOf}
 use Rattle.packet.specs.Spoiled.{Spoiling, changed, lost, added, spoiled, Spoils}
-use Rattle.packet.specs.declared.Damage.the-variants.{Nothing}
-use Rattle.packet.specs.declared.Verdict.the-variants.{Damaged}
+use Rattle.packet.specs.declared.Damage.{Damage}
+use Rattle.packet.specs.declared.Verdict.{Verdict}
 use Rattle.xor.proofs.Laws.{xor-assoc, ⊕-comm, ⊕-zero-eq, xorAll-append}
 use Rattle.packet.proofs.Packets.{Sound, sound}
 use Rattle.packet.proofs.Damages.{passed, not-intact, damaged-verdict}
@@ -47,8 +47,8 @@ module _ (s : Spoiling) (b : List ℕ) (e : isIntact b ≡ true) (h : Spoils s b
   some : length (spoiled s b) ≡ 0 → ⊥
   some z = omega (arith, sound b e, length-spoiled s b h)
 
-  pub spoiled-told : damageOf (spoiled s b) ≡ Nothing → ⊥
+  pub spoiled-told : damageOf (spoiled s b) ≡ Damage.Nothing → ⊥
   spoiled-told none = not-sound s b (sound b e) h (passed _ some none)
 
-  pub spoiled-damaged : verdictOf (spoiled s b) ≡ Damaged (damageOf (spoiled s b))
+  pub spoiled-damaged : verdictOf (spoiled s b) ≡ Verdict.Damaged (damageOf (spoiled s b))
   spoiled-damaged = damaged-verdict _ some (not-intact _ some spoiled-told)

@@ -2,12 +2,11 @@
 use Prim.Native.Nat.{ℕ}
 use mathlib.Core.List.{List, [], _∷_}
 use Rattle.packet.specs.declared.Control.{Control}
-use Rattle.packet.specs.declared.Control.the-variants.{Ack, Nack, Nav}
 
 abbrev pub controlByte : Control → ℕ
-controlByte Ack = 0x06
-controlByte Nack = 0x15
-controlByte Nav = 0x18
+controlByte Control.Ack = 0x06
+controlByte Control.Nack = 0x15
+controlByte Control.Nav = 0x18
 
 abbrev pub controlData : Control → List ℕ
 controlData c = 0x00 ∷ controlByte c ∷ []

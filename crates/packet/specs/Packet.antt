@@ -11,11 +11,8 @@ use Rattle.xor.specs.Xor.{xorAll}
 use Rattle.packet.specs.declared.MonitorId.{MonitorId}
 use Rattle.packet.specs.declared.GroupId.{GroupId}
 use Rattle.packet.specs.declared.Damage.{Damage}
-use Rattle.packet.specs.declared.Damage.the-variants.{Nothing, TooShort, TooLong, Size, Checksum}
 use Rattle.packet.specs.declared.Verdict.{Verdict}
-use Rattle.packet.specs.declared.Verdict.the-variants.{Empty, Damaged, Intact}
 use Rattle.packet.specs.declared.Written.{Written}
-use Rattle.packet.specs.declared.Written.the-variants.{Bytes, TooLong as DataTooLong, NoRoom}
 
 abbrev pub monitorId : ℕ → MonitorId
 monitorId i = record { 0 = i }
@@ -43,30 +40,30 @@ isIntact burst = leb shortest (length burst) && leb (length burst) longest && eq
 
 -- What is wrong with a burst: the first that holds, in 02's order (A3). An empty burst has no damage.
 unfoldable pub damageOf : List ℕ → Damage
-damageOf burst = cond (eqb (length burst) 0) Nothing
-    (cond (ltb (length burst) shortest) TooShort
-    (cond (ltb longest (length burst)) TooLong
-    (cond (not (eqb (getD burst 0 0) (length burst))) Size (cond (not (eqb (xorAll burst) 0)) Checksum Nothing))))
+damageOf burst = cond (eqb (length burst) 0) Damage.Nothing
+    (cond (ltb (length burst) shortest) Damage.TooShort
+    (cond (ltb longest (length burst)) Damage.TooLong
+    (cond (not (eqb (getD burst 0 0) (length burst))) Damage.Size (cond (not (eqb (xorAll burst) 0)) Damage.Checksum Damage.Nothing))))
 
 -- its number, 0 for none
 abbrev pub damageNumber : Damage → ℕ
-damageNumber Nothing = 0
-damageNumber TooShort = 1
-damageNumber TooLong = 2
-damageNumber Size = 3
-damageNumber Checksum = 4
+damageNumber Damage.Nothing = 0
+damageNumber Damage.TooShort = 1
+damageNumber Damage.TooLong = 2
+damageNumber Damage.Size = 3
+damageNumber Damage.Checksum = 4
 
 -- size, monitor ID, group, data, checksum: of an intact burst the ID, the group and the count of its data bytes; of a damaged one
 -- what is wrong
 unfoldable pub verdictOf : List ℕ → Verdict
-verdictOf burst = cond (eqb (length burst) 0) Empty
-    (cond (isIntact burst) (Intact (monitorId (getD burst 1 0)) (groupId (getD burst 2 0)) (length burst - shortest)) (Damaged (damageOf burst)))
+verdictOf burst = cond (eqb (length burst) 0) Verdict.Empty
+    (cond (isIntact burst) (Verdict.Intact (monitorId (getD burst 1 0)) (groupId (getD burst 2 0)) (length burst - shortest)) (Verdict.Damaged (damageOf burst)))
 
 -- the damage that a verdict says
 abbrev pub damageIn : Verdict → Damage
-damageIn Empty = Nothing
-damageIn (Damaged damage) = damage
-damageIn (Intact id group n) = Nothing
+damageIn Verdict.Empty = Damage.Nothing
+damageIn (Verdict.Damaged damage) = damage
+damageIn (Verdict.Intact id group n) = Damage.Nothing
 
 -- the bytes from behind the head to the one before the checksum, of an intact burst; otherwise none
 unfoldable pub dataOf : List ℕ → List ℕ
@@ -78,7 +75,7 @@ packetOf id group d = let bytes = (length d + shortest) ∷ id .0 ∷ group .0 �
 
 -- what writing answers: the output has room for any packet, and a packet for the data
 unfoldable pub writtenOf : List ℕ → List ℕ → Written
-writtenOf out d = cond (leb longest (length out)) (cond (leb (length d) mostData) (Bytes (length d + shortest)) DataTooLong) NoRoom
+writtenOf out d = cond (leb longest (length out)) (cond (leb (length d) mostData) (Written.Bytes (length d + shortest)) Written.TooLong) Written.NoRoom
 
 -- its number, 0 where the packet is written; data that fits no packet has none
 abbrev pub refusalNumber : Written → Option ℕ

@@ -17,7 +17,7 @@ use Rattle.models.proofs.Laws.{kind-allowed}
 use Rattle.packet.specs.declared.MonitorId.{MonitorId}
 use Rattle.packet.specs.declared.GroupId.{GroupId}
 use Rattle.panels.specs.declared.Panel.{Panel}
-use Rattle.panels.specs.declared.Place.the-variants.{At, Nowhere}
+use Rattle.panels.specs.declared.Place.{Place}
 use Rattle.panels.specs.Wall.{Wall, blank, freshPanel, tableOf, placeFrom, mostPanels}
 use Rattle.panels.specs.WellFormed.{GoodPanel, Absent, GoodWall, WellFormed}
 use Rattle.panels.proofs.Laws.{panels-of-table}
@@ -29,13 +29,13 @@ formed w few good =
     record { held = ap tableOf e; few = subst (λ (v : Wall). length v ≤ mostPanels) e few; good = subst GoodWall e good }
 
 -- nothing is found exactly where the ID is absent
-pub nowhere-absent : (i : MonitorId) (k : ℕ) (w : Wall) → placeFrom i k w ≡ Nowhere → Absent i w
+pub nowhere-absent : (i : MonitorId) (k : ℕ) (w : Wall) → placeFrom i k w ≡ Place.Nowhere → Absent i w
 unfolding placeFrom
 nowhere-absent i k [] e = tt
 nowhere-absent i k (p ∷ w) e = go (eqb (p .id .0) (i .0)) refl e (nowhere-absent i (suc k) w)
   where
-    go : (t : Bool) → eqb (p .id .0) (i .0) ≡ t → cond t (At k) (placeFrom i (suc k) w) ≡ Nowhere
-        → (placeFrom i (suc k) w ≡ Nowhere → Absent i w) → Absent i (p ∷ w)
+    go : (t : Bool) → eqb (p .id .0) (i .0) ≡ t → cond t (Place.At k) (placeFrom i (suc k) w) ≡ Place.Nowhere
+        → (placeFrom i (suc k) w ≡ Place.Nowhere → Absent i w) → Absent i (p ∷ w)
     go true s n ih = let z : _≡_ {A = ℕ} 0 1 = cc in absurd (omega arith)
     go false s n ih = (eqb-false _ _ s, ih n)
 

@@ -15,7 +15,6 @@ use Rattle.packet.specs.declared.GroupId.{GroupId}
 use Rattle.panels.specs.declared.Panel.{Panel}
 use Rattle.panels.specs.declared.Table.{Table}
 use Rattle.panels.specs.declared.Place.{Place}
-use Rattle.panels.specs.declared.Place.the-variants.{At, Nowhere}
 use Rattle.panels.specs.Wall.{Wall, blank, inPlaces, tableOf, panelsOf, SamePanels, placeFrom, mostPanels}
 use Rattle.panels.specs.WellFormed.{WellFormed}
 use Rattle.lists.proofs.Places.{getD-inside}
@@ -116,7 +115,7 @@ unfoldable pub placeAfter : MonitorId → ℕ → Wall → Place
 placeAfter i k w = placeFrom i k (drop k w)
 
 pub place-step : (i : MonitorId) (w : Wall) (k : ℕ) → k < length w
-    → placeAfter i k w ≡ cond (eqb (getD w k blank .id .0) (i .0)) (At k) (placeAfter i (k + 1) w)
+    → placeAfter i k w ≡ cond (eqb (getD w k blank .id .0) (i .0)) (Place.At k) (placeAfter i (k + 1) w)
 unfolding placeAfter placeFrom
 place-step i w k h = rw (drop-cons w k blank, add-one)
 
@@ -156,8 +155,8 @@ replaced {t} f k h p =
 
 -- What is found is a place of the wall with that ID; where nothing is found no place has it.
 abbrev pub IsPlace : MonitorId → ℕ → Wall → Place → Type 0
-IsPlace i k w (At m) = (j : ℕ) × (m ≡ k + j) × (j < length w) × (getD w j blank .id .0 ≡ i .0)
-IsPlace i k w Nowhere = (j : ℕ) → j < length w → getD w j blank .id .0 ≡ i .0 → ⊥
+IsPlace i k w (Place.At m) = (j : ℕ) × (m ≡ k + j) × (j < length w) × (getD w j blank .id .0 ≡ i .0)
+IsPlace i k w Place.Nowhere = (j : ℕ) → j < length w → getD w j blank .id .0 ≡ i .0 → ⊥
 
 place-from : (i : MonitorId) (k : ℕ) (w : Wall) → IsPlace i k w (placeFrom i k w)
 unfolding placeFrom
@@ -169,17 +168,17 @@ place-from i k (p ∷ w) = go (eqb (p .id .0) (i .0)) refl (placeFrom i (suc k) 
     skip none e zero h = eqb-false _ _ e
     skip none e (suc j) h = none j (le-of-suc-le-suc h)
 
-    go : (t : Bool) → eqb (p .id .0) (i .0) ≡ t → (q : Place) → IsPlace i (suc k) w q → IsPlace i k (p ∷ w) (cond t (At k) q)
+    go : (t : Bool) → eqb (p .id .0) (i .0) ≡ t → (q : Place) → IsPlace i (suc k) w q → IsPlace i k (p ∷ w) (cond t (Place.At k) q)
     go true e q ih = (0, sym (add-zero k), omega arith, eqb-true _ _ e)
-    go false e (At m) (j, n, h, same) = (suc j, omega arith, omega arith, same)
-    go false e Nowhere none = skip none e
+    go false e (Place.At m) (j, n, h, same) = (suc j, omega arith, omega arith, same)
+    go false e Place.Nowhere none = skip none e
 
 -- of the whole wall
-pub place-there : (i : MonitorId) (w : Wall) (k : ℕ) → placeFrom i 0 w ≡ At k → (k < length w) × (getD w k blank .id .0 ≡ i .0)
+pub place-there : (i : MonitorId) (w : Wall) (k : ℕ) → placeFrom i 0 w ≡ Place.At k → (k < length w) × (getD w k blank .id .0 ≡ i .0)
 place-there i w k e =
     let (j, n, h, same) = subst (IsPlace i 0 w) e (place-from i 0 w) in
     let n′ : j ≡ k = omega arith in
     (omega arith, rw (← n′) same)
 
-pub place-nowhere : (i : MonitorId) (w : Wall) → placeFrom i 0 w ≡ Nowhere → (j : ℕ) → j < length w → getD w j blank .id .0 ≡ i .0 → ⊥
+pub place-nowhere : (i : MonitorId) (w : Wall) → placeFrom i 0 w ≡ Place.Nowhere → (j : ℕ) → j < length w → getD w j blank .id .0 ≡ i .0 → ⊥
 place-nowhere i w e = subst (IsPlace i 0 w) e (place-from i 0 w)

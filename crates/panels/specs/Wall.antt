@@ -6,7 +6,6 @@ use mathlib.Core.Path.{_≡_}
 use lib.Dec.{eqb}
 use lib.ListN.{length, getD, take, set, replicate}
 use Rattle.settings.specs.declared.Profile.{Profile}
-use Rattle.settings.specs.declared.Profile.the-variants.{General, Phoenix}
 use Rattle.tiling.specs.declared.Kind.{Kind}
 use Rattle.tiling.specs.Kinds.{kindNumber}
 use Rattle.models.specs.declared.Model.{Model}
@@ -19,9 +18,7 @@ use Rattle.packet.specs.Packet.{monitorId, groupId}
 use Rattle.panels.specs.declared.Panel.{Panel}
 use Rattle.panels.specs.declared.Table.{Table}
 use Rattle.panels.specs.declared.Place.{Place}
-use Rattle.panels.specs.declared.Place.the-variants.{At, Nowhere}
 use Rattle.panels.specs.declared.Seen.{Seen}
-use Rattle.panels.specs.declared.Seen.the-variants.{Phoenix as PhoenixSeen, General as GeneralSeen}
 
 abbrev pub Wall : Type 0
 Wall = List Panel
@@ -41,15 +38,15 @@ modelOf p = modelIn (p .profile) (p .values)
 
 -- a Phoenix panel's video, with its tint's sign; of another panel nothing is said
 abbrev pub videoBy : Profile → List ℕ → Seen
-videoBy General values = GeneralSeen
-videoBy Phoenix values = PhoenixSeen (videoIn (valuesOf videoRow values))
+videoBy Profile.General values = Seen.General
+videoBy Profile.Phoenix values = Seen.Phoenix (videoIn (valuesOf videoRow values))
 
 unfoldable pub videoOf : Panel → Seen
 videoOf p = videoBy (p .profile) (p .values)
 
 -- what stands in a place that no panel has
 unfoldable pub blank : Panel
-blank = record { id = monitorId 0; group = groupId 0; profile = General; values = replicate valueCount 0 }
+blank = record { id = monitorId 0; group = groupId 0; profile = Profile.General; values = replicate valueCount 0 }
 
 -- a wall in the places of a table
 unfoldable pub inPlaces : Wall → List Panel
@@ -71,12 +68,12 @@ SamePanels w v = (map (λ p. p .id) w ≡ map (λ p. p .id) v) × (map (λ p. p 
 
 -- the place of the first panel, counted from k, that has the ID
 unfoldable pub placeFrom : MonitorId → ℕ → Wall → Place
-placeFrom i k [] = Nowhere
-placeFrom i k (p ∷ w) = cond (eqb (p .id .0) (i .0)) (At k) (placeFrom i (suc k) w)
+placeFrom i k [] = Place.Nowhere
+placeFrom i k (p ∷ w) = cond (eqb (p .id .0) (i .0)) (Place.At k) (placeFrom i (suc k) w)
 
 abbrev pub placeOf : MonitorId → Wall → Place
 placeOf i w = placeFrom i 0 w
 
 abbrev pub ifThere : {A : Type 0} → Place → A → A → A
-ifThere (At k) a b = a
-ifThere Nowhere a b = b
+ifThere (Place.At k) a b = a
+ifThere Place.Nowhere a b = b

@@ -3,18 +3,16 @@ use Prim.Native.Nat.{ℕ}
 use mathlib.Core.Bool.{cond}
 use lib.Dec.{eqb}
 use Rattle.settings.specs.declared.Profile.{Profile}
-use Rattle.settings.specs.declared.Profile.the-variants.{General, Phoenix}
 use Rattle.profiles.specs.declared.Numbered.{Numbered}
-use Rattle.profiles.specs.declared.Numbered.the-variants.{Known, Unknown}
 
 abbrev pub profileNumber : Profile → ℕ
-profileNumber General = 0
-profileNumber Phoenix = 1
+profileNumber Profile.General = 0
+profileNumber Profile.Phoenix = 1
 
 unfoldable pub profileWith : ℕ → Numbered
-profileWith n = cond (eqb n 0) (Known General) (cond (eqb n 1) (Known Phoenix) Unknown)
+profileWith n = cond (eqb n 0) (Numbered.Known Profile.General) (cond (eqb n 1) (Numbered.Known Profile.Phoenix) Numbered.Unknown)
 
 -- what comes of the profile that a number has, and what comes where it has none
 abbrev pub ifKnown : {A : Type 0} → Numbered → (Profile → A) → A → A
-ifKnown (Known profile) some none = some profile
-ifKnown Unknown some none = none
+ifKnown (Numbered.Known profile) some none = some profile
+ifKnown Numbered.Unknown some none = none

@@ -11,16 +11,13 @@ use Rattle.settings.specs.Settings.{getCode, rowCount, mostValues}
 use Rattle.finding.specs.Found.{foundBy}
 use Rattle.models.specs.Models.{allowedFor}
 use Rattle.finding.specs.declared.Found.{Found}
-use Rattle.finding.specs.declared.Found.the-variants.{Set, Get, Nothing as NoSetting}
 use Rattle.lists.proofs.Both.{both}
 use Rattle.settings.proofs.Laws.{byte-count-few}
 use Rattle.finding.proofs.Laws.{IsFound, found-right}
 use Rattle.models.proofs.Laws.{allowed-many}
 use Rattle.packet.specs.Control.{controlByte}
 use Rattle.packet.specs.declared.Control.{Control}
-use Rattle.packet.specs.declared.Control.the-variants.{Ack as AckWord, Nack as NackWord, Nav as NavWord}
 use Rattle.requests.specs.declared.Said.{Said}
-use Rattle.requests.specs.declared.Said.the-variants.{Ack, Nack, Nav, Report, Nothing}
 use Rattle.lists.specs.Lists.{same}
 use Rattle.requests.specs.Said.{isControl, isReport, endedBy, wordIn}
 
@@ -45,7 +42,7 @@ report-some model k [] h = absurd (omega arith)
 report-some model k (c ∷ values) h = refl
 
 pub word-found : (model : Model) (code : ℕ) (d : List ℕ) (f : Found)
-    → isControl NackWord d ≡ false → isControl NavWord d ≡ false → foundBy code ≡ f → wordIn model code d ≡ endedBy model f d
+    → isControl Control.Nack d ≡ false → isControl Control.Nav d ≡ false → foundBy code ≡ f → wordIn model code d ≡ endedBy model f d
 unfolding wordIn
 word-found model code d f nack nav e = rw (nack, nav, e)
 
@@ -60,26 +57,26 @@ report-fits model row (c ∷ values) h e =
     let most = byte-count-few h in
     (omega arith, omega arith)
 
-only-report : (t : Bool) {x : Said} → (x ≡ Report → ⊥) → cond t Report x ≡ Report → t ≡ true
+only-report : (t : Bool) {x : Said} → (x ≡ Said.Report → ⊥) → cond t Said.Report x ≡ Said.Report → t ≡ true
 only-report true h e = refl
 only-report false h e = absurd (h e)
 
 -- Data that is taken for a report has the code and at most seven values.
-pub report-length : (model : Model) (code : ℕ) (d : List ℕ) → wordIn model code d ≡ Report → Fits d
+pub report-length : (model : Model) (code : ℕ) (d : List ℕ) → wordIn model code d ≡ Said.Report → Fits d
 unfolding wordIn endedBy
 report-length model code d e =
-    by-found (foundBy code) (found-right code) (by-word (isControl NackWord d) (isControl NavWord d) (endedBy model (foundBy code) d) e)
+    by-found (foundBy code) (found-right code) (by-word (isControl Control.Nack d) (isControl Control.Nav d) (endedBy model (foundBy code) d) e)
   where
-    by-word : (a b : Bool) (s : Said) → cond a Nack (cond b Nav s) ≡ Report → s ≡ Report
+    by-word : (a b : Bool) (s : Said) → cond a Said.Nack (cond b Said.Nav s) ≡ Said.Report → s ≡ Said.Report
     by-word true b s e = let z : _≡_ {A = ℕ} 0 1 = cc in absurd (omega arith)
     by-word false true s e = let z : _≡_ {A = ℕ} 0 1 = cc in absurd (omega arith)
     by-word false false s e = e
 
-    no-ack : (t : Bool) → cond t Ack Nothing ≡ Report → ⊥
+    no-ack : (t : Bool) → cond t Said.Ack Said.Nothing ≡ Said.Report → ⊥
     no-ack true e = let z : _≡_ {A = ℕ} 0 1 = cc in omega arith
     no-ack false e = let z : _≡_ {A = ℕ} 0 1 = cc in omega arith
 
-    by-found : (f : Found) → IsFound code f → endedBy model f d ≡ Report → Fits d
-    by-found (Set row) h e = absurd (no-ack (isControl AckWord d) e)
-    by-found (Get row) h e = report-fits model row d (h .0) (only-report (isReport model row d) (λ z. let y : _≡_ {A = ℕ} 0 1 = cc in omega arith) e)
-    by-found NoSetting h e = let z : _≡_ {A = ℕ} 0 1 = cc in absurd (omega arith)
+    by-found : (f : Found) → IsFound code f → endedBy model f d ≡ Said.Report → Fits d
+    by-found (Found.Set row) h e = absurd (no-ack (isControl Control.Ack d) e)
+    by-found (Found.Get row) h e = report-fits model row d (h .0) (only-report (isReport model row d) (λ z. let y : _≡_ {A = ℕ} 0 1 = cc in omega arith) e)
+    by-found Found.Nothing h e = let z : _≡_ {A = ℕ} 0 1 = cc in absurd (omega arith)

@@ -6,8 +6,8 @@ use mathlib.Core.List.{List, _∷_}
 use lib.ListN.{take}
 use lib.Dec.{leb, eqb}
 use Rattle.lists.specs.Lists.{same}
-use Rattle.settings.specs.declared.Profile.the-variants.{Phoenix}
-use Rattle.tiling.specs.declared.Kind.the-variants.{FiveByFive}
+use Rattle.settings.specs.declared.Profile.{Profile}
+use Rattle.tiling.specs.declared.Kind.{Kind}
 use Rattle.tiling.specs.Kinds.{largest}
 use Rattle.settings.specs.Settings.{setCode, byteCount, mostValues, powerRow, videoRow, off}
 use Rattle.finding.specs.Found.{foundBy}
@@ -16,7 +16,6 @@ use Rattle.models.specs.declared.Model.{Model}
 use Rattle.profiles.specs.declared.Video.{Video}
 use Rattle.profiles.specs.Video.{bytesOf}
 use Rattle.finding.specs.declared.Found.{Found}
-use Rattle.finding.specs.declared.Found.the-variants.{Set, Get, Nothing}
 use Rattle.packet.specs.declared.MonitorId.{MonitorId}
 use Rattle.packet.specs.declared.GroupId.{GroupId}
 use Rattle.packet.specs.Packet.{packetOf}
@@ -36,7 +35,7 @@ requestPacket r = packetOf (r .id) (r .group) (requestData r)
 -- the set of a Phoenix panel's video, for which the kind does not count
 unfoldable pub videoRequest : MonitorId → GroupId → Video → Request
 videoRequest i g v =
-    record { model = record { profile = Phoenix; kind = FiveByFive }; id = i; group = g; code = setCode videoRow; values = bytesOf v; count = byteCount videoRow }
+    record { model = record { profile = Profile.Phoenix; kind = Kind.FiveByFive }; id = i; group = g; code = setCode videoRow; values = bytesOf v; count = byteCount videoRow }
 
 -- power off: the set 0x18 with the one value 1
 unfoldable pub isPowerOff : Request → Bool
@@ -48,9 +47,9 @@ maySet model row vs = allowedFor model row (filled row (largest (model .kind)) v
 
 -- a set to a group 0 to 254 with allowed values; a get, which has no values, where an answer is due
 unfoldable pub isTaken : Request → Found → Bool
-isTaken r (Set row) = not (eqb (r .group .0) 255) && maySet (r .model) row (valuesOf r)
-isTaken r (Get row) = eqb (r .count) 0 && isHeard (r .id) (r .group)
-isTaken r Nothing = false
+isTaken r (Found.Set row) = not (eqb (r .group .0) 255) && maySet (r .model) row (valuesOf r)
+isTaken r (Found.Get row) = eqb (r .count) 0 && isHeard (r .id) (r .group)
+isTaken r Found.Nothing = false
 
 -- a request from the table: no more values than any row has, and one of these two
 unfoldable pub isRequest : Request → Bool

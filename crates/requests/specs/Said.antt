@@ -10,12 +10,9 @@ use Rattle.settings.specs.Settings.{getCode}
 use Rattle.finding.specs.Found.{foundBy}
 use Rattle.models.specs.Models.{allowedFor}
 use Rattle.finding.specs.declared.Found.{Found}
-use Rattle.finding.specs.declared.Found.the-variants.{Set, Get, Nothing as NoSetting}
 use Rattle.packet.specs.Control.{controlData}
 use Rattle.packet.specs.declared.Control.{Control}
-use Rattle.packet.specs.declared.Control.the-variants.{Ack as AckWord, Nack as NackWord, Nav as NavWord}
 use Rattle.requests.specs.declared.Said.{Said}
-use Rattle.requests.specs.declared.Said.the-variants.{Ack, Nack, Nav, Report, Nothing}
 
 -- the data of a control word
 unfoldable pub isControl : Control → List ℕ → Bool
@@ -28,10 +25,10 @@ isReport model k (c ∷ values) = eqb c (getCode k) && allowedFor model k values
 
 -- an ACK ends a set, a report a get
 unfoldable pub endedBy : Model → Found → List ℕ → Said
-endedBy model (Set row) d = cond (isControl AckWord d) Ack Nothing
-endedBy model (Get row) d = cond (isReport model row d) Report Nothing
-endedBy model NoSetting d = Nothing
+endedBy model (Found.Set row) d = cond (isControl Control.Ack d) Said.Ack Said.Nothing
+endedBy model (Found.Get row) d = cond (isReport model row d) Said.Report Said.Nothing
+endedBy model Found.Nothing d = Said.Nothing
 
 -- what data says to a host that asked a panel of this model with this code
 unfoldable pub wordIn : Model → ℕ → List ℕ → Said
-wordIn model code d = cond (isControl NackWord d) Nack (cond (isControl NavWord d) Nav (endedBy model (foundBy code) d))
+wordIn model code d = cond (isControl Control.Nack d) Said.Nack (cond (isControl Control.Nav d) Said.Nav (endedBy model (foundBy code) d))

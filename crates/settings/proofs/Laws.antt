@@ -10,7 +10,6 @@ use lib.Dec.{eqb, leb, ltb}
 use lib.ListN.{length, getD, drop, List·getD-map}
 use lib.Seq.{drop-cons, drop-length, getD-drop, getD-take}
 use Rattle.settings.specs.declared.Profile.{Profile}
-use Rattle.settings.specs.declared.Profile.the-variants.{General, Phoenix}
 use Rattle.settings.specs.Settings.{Range, Setting, settings, setting, setCode, byteCount, place, within, allAllowed, inRanges, valuesOf, allowedByRow, freshValues, rowCount, mostValues, valueCount, videoRow, row}
 use Rattle.settings.specs.Private.Numbers.{allowedValues, rangesOf, firstRange}
 use Rattle.lists.specs.Lists.{each}
@@ -28,10 +27,10 @@ unfolding settings
 codes-rise {row} h = ltb-true _ _ (alike (λ k. ltb (setCode k) (setCode (suc k))) (λ k. true) (rowCount - 1) refl {k = row} (omega arith))
 
 -- A rule that holds at every place of either profile's table, by two tests.
-pub alike-by : {A : Type 0} (f g : Profile → ℕ → A) (n : ℕ) → each (f General) n ≡ each (g General) n → each (f Phoenix) n ≡ each (g Phoenix) n
+pub alike-by : {A : Type 0} (f g : Profile → ℕ → A) (n : ℕ) → each (f Profile.General) n ≡ each (g Profile.General) n → each (f Profile.Phoenix) n ≡ each (g Profile.Phoenix) n
     → (profile : Profile) {k : ℕ} → k < n → f profile k ≡ g profile k
-alike-by f g n e d General h = alike (f General) (g General) n e h
-alike-by f g n e d Phoenix h = alike (f Phoenix) (g Phoenix) n d h
+alike-by f g n e d Profile.General h = alike (f Profile.General) (g Profile.General) n e h
+alike-by f g n e d Profile.Phoenix h = alike (f Profile.Phoenix) (g Profile.Phoenix) n d h
 
 -- The sizes that the table is named by are its own.
 pub row-count : length settings ≡ rowCount
@@ -52,8 +51,8 @@ byte-count-some h = ltb-true 0 _ (alike (λ k. ltb 0 (byteCount k)) (λ k. true)
 
 pub fresh-count : (profile : Profile) → length (freshValues profile) ≡ valueCount
 unfolding settings freshValues flatten
-fresh-count General = refl
-fresh-count Phoenix = refl
+fresh-count Profile.General = refl
+fresh-count Profile.Phoenix = refl
 
 unfoldable pub listed : ℕ → List ℕ → Bool
 listed v [] = false
@@ -65,31 +64,31 @@ unfolding settings within allAllowed listed
 colour-temperatures profile h =
     alike-by (λ profile v. inRanges profile 4 (v ∷ [])) (λ profile v. listed v (0 ∷ 1 ∷ 3 ∷ 4 ∷ 5 ∷ 6 ∷ 9 ∷ 10 ∷ 13 ∷ [])) 256 refl refl profile h
 
-allowed-of-row : (row : ℕ) → getD (allowedByRow General) row [] ≡ setting row .allowed General
+allowed-of-row : (row : ℕ) → getD (allowedByRow Profile.General) row [] ≡ setting row .allowed Profile.General
 unfolding allowedByRow
-allowed-of-row row = List·getD-map (λ (s : Setting). s .allowed General) settings row noSetting
+allowed-of-row row = List·getD-map (λ (s : Setting). s .allowed Profile.General) settings row noSetting
 
 -- Both profiles have as many values in a row.
 pub as-many : (profile : Profile) (row : ℕ) → length (setting row .allowed profile) ≡ byteCount row
-as-many General row = refl
-as-many Phoenix row =
-    sym (List·getD-map (λ (s : Setting). length (s .allowed Phoenix)) settings row noSetting)
-    ∙ unfold settings in List·getD-map (λ (s : Setting). length (s .allowed General)) settings row noSetting
+as-many Profile.General row = refl
+as-many Profile.Phoenix row =
+    sym (List·getD-map (λ (s : Setting). length (s .allowed Profile.Phoenix)) settings row noSetting)
+    ∙ unfold settings in List·getD-map (λ (s : Setting). length (s .allowed Profile.General)) settings row noSetting
 
 -- Places: a row's values are among the 20, no two rows' overlap, and what is allowed there is what the row allows.
 pub place-fits : (row : ℕ) → place row + byteCount row ≤ valueCount
 unfolding settings allowedByRow flatten
-place-fits row = rw (← allowed-of-row row) (flat-fits (allowedByRow General) row)
+place-fits row = rw (← allowed-of-row row) (flat-fits (allowedByRow Profile.General) row)
 
 pub value-of : (row k : ℕ) (values : List ℕ) → k < byteCount row → getD (valuesOf row values) k 0 ≡ getD values (place row + k) 0
 value-of row k values h = rw (getD-take, getD-drop)
 
 pub places-apart : (j k : ℕ) → j < k → place j + byteCount j ≤ place k
-places-apart j k h = rw (← allowed-of-row j) (flat-apart (allowedByRow General) j k h)
+places-apart j k h = rw (← allowed-of-row j) (flat-apart (allowedByRow Profile.General) j k h)
 
-pub at-place : (row k : ℕ) → k < byteCount row → getD (setting row .allowed General) k [] ≡ rangesOf (place row + k)
+pub at-place : (row k : ℕ) → k < byteCount row → getD (setting row .allowed Profile.General) k [] ≡ rangesOf (place row + k)
 unfolding allowedValues
-at-place row k h = sym (in-flat (allowedByRow General) row k [] (rw (allowed-of-row row) h) ∙ rw (allowed-of-row row))
+at-place row k h = sym (in-flat (allowedByRow Profile.General) row k [] (rw (allowed-of-row row) h) ∙ rw (allowed-of-row row))
 
 -- Every value byte has a first range.
 pub first-and-more : {p : ℕ} → p < valueCount → rangesOf p ≡ firstRange p ∷ drop 1 (rangesOf p)
@@ -97,11 +96,11 @@ unfolding settings allowedByRow allowedValues flatten
 first-and-more h = alike rangesOf (λ p. firstRange p ∷ drop 1 (rangesOf p)) valueCount refl h
 
 -- But for the video, a Phoenix panel's rows are a general panel's.
-pub all-else : {row : ℕ} → row < rowCount → (row ≡ videoRow → ⊥) → setting row .allowed Phoenix ≡ setting row .allowed General
+pub all-else : {row : ℕ} → row < rowCount → (row ≡ videoRow → ⊥) → setting row .allowed Profile.Phoenix ≡ setting row .allowed Profile.General
 unfolding settings
 all-else {row} h ne =
     rw (ne-eqb row videoRow ne) at
-    (alike (λ k. cond (eqb k videoRow) [] (setting k .allowed Phoenix)) (λ k. cond (eqb k videoRow) [] (setting k .allowed General)) rowCount refl h)
+    (alike (λ k. cond (eqb k videoRow) [] (setting k .allowed Profile.Phoenix)) (λ k. cond (eqb k videoRow) [] (setting k .allowed Profile.General)) rowCount refl h)
 
 -- Values are allowed only where there are as many as the row has.
 other-count : (rs : List (List Range)) (vs : List ℕ) → (length vs ≡ length rs → ⊥) → allAllowed rs vs ≡ false

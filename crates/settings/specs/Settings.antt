@@ -6,7 +6,6 @@ use lib.ListN.{length, getD, take, drop, replicate}
 use lib.Dec.{leb}
 use Rattle.lists.specs.Lists.{startOf, laidAt}
 use Rattle.settings.specs.declared.Profile.{Profile}
-use Rattle.settings.specs.declared.Profile.the-variants.{General, Phoenix}
 
 -- the values from low to high
 pub record Range : Type 0 where
@@ -31,12 +30,12 @@ row s g a f = record { set = s; get = g; allowed = λ profile. a; fresh = λ pro
 -- 000, 5.1.2 and 5.1.3, brightness, colour, contrast, sharpness, tint, black level, gamma; with a table of its own for Phoenix
 -- 2.0: sharpness 0 to 10, and a tint of -50 to 50, whose bytes are 206 to 255 below 0
 abbrev pub videoAllowed : Profile → List (List Range)
-videoAllowed General = replicate 6 (0 to 100) ++ 1 to 5 ∷ []
-videoAllowed Phoenix = replicate 3 (0 to 100) ++ 0 to 10 ∷ (0 to 50 ++ 206 to 255) ∷ 0 to 100 ∷ 1 to 5 ∷ []
+videoAllowed Profile.General = replicate 6 (0 to 100) ++ 1 to 5 ∷ []
+videoAllowed Profile.Phoenix = replicate 3 (0 to 100) ++ 0 to 10 ∷ (0 to 50 ++ 206 to 255) ∷ 0 to 100 ∷ 1 to 5 ∷ []
 
 abbrev pub videoFresh : Profile → List ℕ
-videoFresh General = replicate 6 50 ++ 3 ∷ []
-videoFresh Phoenix = replicate 3 50 ++ 5 ∷ 0 ∷ 50 ∷ 3 ∷ []
+videoFresh Profile.General = replicate 6 50 ++ 3 ∷ []
+videoFresh Profile.Phoenix = replicate 3 50 ++ 5 ∷ 0 ∷ 50 ∷ 3 ∷ []
 
 -- 0x00 is no command's code (01, "Answering a burst", step 4), and stands where a row has no get code
 abbrev pub noCode : ℕ
@@ -95,7 +94,7 @@ getCode k = setting k .get
 
 -- as many for either profile
 abbrev pub byteCount : ℕ → ℕ
-byteCount k = length (setting k .allowed General)
+byteCount k = length (setting k .allowed Profile.General)
 
 -- A panel's value bytes are those of all settings, in the order of the rows.
 unfoldable pub allowedByRow : Profile → List (List (List Range))
@@ -107,7 +106,7 @@ freshValues profile = flatten (map (λ (s : Setting). s .fresh profile) settings
 
 -- where row k's values begin among them
 abbrev pub place : ℕ → ℕ
-place k = startOf (allowedByRow General) k
+place k = startOf (allowedByRow Profile.General) k
 
 -- v is in one of the ranges
 unfoldable pub within : List Range → ℕ → Bool

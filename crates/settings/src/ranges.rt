@@ -3,7 +3,7 @@ ghost use mathlib.Core.Path.{_≡_};
 ghost use Prim.Native.Nat.{_<_};
 ghost use lib.ListN.{drop};
 ghost use mathlib.Core.Bool.{_||_};
-ghost use Rattle.settings.specs.declared.Profile.the-variants.{General, Phoenix};
+ghost use Rattle.settings.specs.declared.Profile.{Profile};
 ghost use Rattle.settings.specs.Settings.{within, inRanges, rowCount, valueCount, videoRow};
 ghost use Rattle.settings.specs.Private.Numbers.{inRange, rangeOf, rangesOf, firstRange, isMore};
 use crate::MORE_COUNT;
@@ -59,7 +59,7 @@ fn allowed_at(p: usize, range: Span, v: u8) -> bool
 // by itself: most rows have no other.
 fn general_allowed(row: usize, values: &[u8]) -> bool
     requires { ⌜ row < rowCount ⌝ }
-    ensures { λ r. ⌜ r ≡ inRanges General row (now (values .entry)) ⌝ }
+    ensures { λ r. ⌜ r ≡ inRanges Profile.General row (now (values .entry)) ⌝ }
 {
     let at = crate::values_at(row);
     let first = at.1 as usize;
@@ -93,7 +93,7 @@ fn video_allowed_at(k: usize, range: Span, below: More, v: u8) -> bool
 
 // Whether these bytes may be a Phoenix panel's video.
 fn video_allowed(values: &[u8]) -> bool
-    ensures { λ r. ⌜ r ≡ inRanges Phoenix videoRow (now (values .entry)) ⌝ }
+    ensures { λ r. ⌜ r ≡ inRanges Profile.Phoenix videoRow (now (values .entry)) ⌝ }
 {
     if values.len() != MOST_VALUES {
         return false;

@@ -12,28 +12,26 @@ use Rattle.profiles.specs.Numbers.{profileWith, ifKnown}
 use Rattle.packet.specs.declared.MonitorId.{MonitorId}
 use Rattle.packet.specs.declared.GroupId.{GroupId}
 use Rattle.panels.specs.declared.Place.{Place}
-use Rattle.panels.specs.declared.Place.the-variants.{At, Nowhere}
 use Rattle.table_calls.specs.declared.Refusal.{Refusal}
-use Rattle.table_calls.specs.declared.Refusal.the-variants.{Nothing, Full, IdZero, IdTaken, GroupZero, UnknownProfile, NoPanel, UnknownKind}
 use Rattle.table_calls.specs.declared.Changed.{Changed}
 use Rattle.panels.specs.Wall.{ifThere, Wall, freshPanel, tableOf, placeOf, mostPanels}
 
 -- 01's number, 0 where nothing was refused
 abbrev pub refusalNumber : Refusal → ℕ
-refusalNumber Nothing = 0
-refusalNumber Full = 1
-refusalNumber IdZero = 2
-refusalNumber IdTaken = 3
-refusalNumber GroupZero = 4
-refusalNumber UnknownProfile = 5
-refusalNumber NoPanel = 6
-refusalNumber UnknownKind = 7
+refusalNumber Refusal.Nothing = 0
+refusalNumber Refusal.Full = 1
+refusalNumber Refusal.IdZero = 2
+refusalNumber Refusal.IdTaken = 3
+refusalNumber Refusal.GroupZero = 4
+refusalNumber Refusal.UnknownProfile = 5
+refusalNumber Refusal.NoPanel = 6
+refusalNumber Refusal.UnknownKind = 7
 
 unfoldable pub addRefusal : Wall → MonitorId → GroupId → ℕ → ℕ → Refusal
 addRefusal w i g n k =
-    cond (leb mostPanels (length w)) Full
-    (cond (eqb (i .0) 0) IdZero (ifThere (placeOf i w) IdTaken
-    (cond (eqb (g .0) 0) GroupZero (ifKnown (profileWith n) (λ profile. ifKind (kindWith k) (λ kind. Nothing) UnknownKind) UnknownProfile))))
+    cond (leb mostPanels (length w)) Refusal.Full
+    (cond (eqb (i .0) 0) Refusal.IdZero (ifThere (placeOf i w) Refusal.IdTaken
+    (cond (eqb (g .0) 0) Refusal.GroupZero (ifKnown (profileWith n) (λ profile. ifKind (kindWith k) (λ kind. Refusal.Nothing) Refusal.UnknownKind) Refusal.UnknownProfile))))
 
 -- the fresh panel of a profile and a kind, if there are such
 abbrev pub freshOf : Numbered → KindNumbered → MonitorId → GroupId → Wall
@@ -48,11 +46,11 @@ addedTo w i g n k = record { refusal = addRefusal w i g n k; table = tableOf (ad
 
 -- later panels move up
 abbrev pub without : Place → Wall → Wall
-without (At k) w = take k w ++ drop (suc k) w
-without Nowhere w = w
+without (Place.At k) w = take k w ++ drop (suc k) w
+without Place.Nowhere w = w
 
 unfoldable pub removed : Wall → MonitorId → Wall
 removed w i = without (placeOf i w) w
 
 abbrev pub removedFrom : Wall → MonitorId → Changed
-removedFrom w i = record { refusal = ifThere (placeOf i w) Nothing NoPanel; table = tableOf (removed w i) }
+removedFrom w i = record { refusal = ifThere (placeOf i w) Refusal.Nothing Refusal.NoPanel; table = tableOf (removed w i) }

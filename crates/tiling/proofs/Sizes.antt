@@ -5,18 +5,17 @@ use Prim.Native.Nat.{ℕ, _*_, _≤_, _<_}
 use native.Mathlib.Omega.{arith}
 use native.Mathlib.Nat.{mul-comm}
 use Rattle.tiling.specs.declared.Kind.{Kind}
-use Rattle.tiling.specs.declared.Kind.the-variants.{FiveByFive, FifteenByTen}
 use Rattle.tiling.specs.Walls.{byteOf, heightOf, widthOf, upTo}
 use Rattle.tiling.specs.Kinds.{widest, highest, largest}
 use Rattle.tiling.proofs.Walls.{in-bounds, byte-fits, panels-fit}
 
 pub some-wide : (kind : Kind) → 0 < widest kind
-some-wide FiveByFive = omega arith
-some-wide FifteenByTen = omega arith
+some-wide Kind.FiveByFive = omega arith
+some-wide Kind.FifteenByTen = omega arith
 
 pub largest-few : (kind : Kind) → largest kind ≤ 150
-largest-few FiveByFive = omega arith
-largest-few FifteenByTen = omega arith
+largest-few Kind.FiveByFive = omega arith
+largest-few Kind.FifteenByTen = omega arith
 
 -- a wall's byte, and the number of its panels, are bytes
 pub byte-few : (kind : Kind) (v h : ℕ) → upTo (highest kind) v ≡ true → upTo (widest kind) h ≡ true → byteOf (widest kind) v h ≤ 150

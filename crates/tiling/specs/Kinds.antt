@@ -3,17 +3,14 @@ use Prim.Native.Nat.{ℕ, _*_}
 use mathlib.Core.Bool.{Bool, cond, _&&_}
 use lib.Dec.{eqb}
 use Rattle.tiling.specs.declared.Kind.{Kind}
-use Rattle.tiling.specs.declared.Kind.the-variants.{FiveByFive, FifteenByTen}
 use Rattle.tiling.specs.declared.Numbered.{Numbered}
 use Rattle.tiling.specs.declared.Coded.{Coded}
-use Rattle.tiling.specs.declared.Coded.the-variants.{Byte, NoWall}
 use Rattle.tiling.specs.declared.Size.{Size}
-use Rattle.tiling.specs.declared.Size.the-variants.{HighWide, Nothing}
 use Rattle.tiling.specs.Walls.{byteOf, heightOf, widthOf, upTo}
 
 abbrev pub kindNumber : Kind → ℕ
-kindNumber FiveByFive = 0
-kindNumber FifteenByTen = 1
+kindNumber Kind.FiveByFive = 0
+kindNumber Kind.FifteenByTen = 1
 
 unfoldable pub kindWith : ℕ → Numbered
 kindWith n = cond (eqb n 0) (Numbered.Known Kind.FiveByFive) (cond (eqb n 1) (Numbered.Known Kind.FifteenByTen) Numbered.Unknown)
@@ -24,12 +21,12 @@ ifKnown (Numbered.Known kind) some none = some kind
 ifKnown Numbered.Unknown some none = none
 
 abbrev pub widest : Kind → ℕ
-widest FiveByFive = 5
-widest FifteenByTen = 15
+widest Kind.FiveByFive = 5
+widest Kind.FifteenByTen = 15
 
 abbrev pub highest : Kind → ℕ
-highest FiveByFive = 5
-highest FifteenByTen = 10
+highest Kind.FiveByFive = 5
+highest Kind.FifteenByTen = 10
 
 -- the byte of the largest wall, and how many panels stand in it
 abbrev pub largest : Kind → ℕ
@@ -37,11 +34,11 @@ largest kind = widest kind * highest kind
 
 -- the byte of a height and a width that the kind has
 unfoldable pub codedAs : Kind → ℕ → ℕ → Coded
-codedAs kind v h = cond (upTo (highest kind) v && upTo (widest kind) h) (Byte (byteOf (widest kind) v h)) NoWall
+codedAs kind v h = cond (upTo (highest kind) v && upTo (widest kind) h) (Coded.Byte (byteOf (widest kind) v h)) Coded.NoWall
 
 -- the height and the width that a byte says: exactly the bytes from 1 to the largest are walls
 unfoldable pub sizeIn : Kind → ℕ → Size
-sizeIn kind byte = cond (upTo (largest kind) byte) (HighWide (heightOf (widest kind) byte) (widthOf (widest kind) byte)) Nothing
+sizeIn kind byte = cond (upTo (largest kind) byte) (Size.HighWide (heightOf (widest kind) byte) (widthOf (widest kind) byte)) Size.Nothing
 
 -- a wall's positions run from 1 to H times V, from left to right and then down (002, 8.6.2, note 1)
 unfoldable pub inWall : Kind → ℕ → ℕ → Bool

@@ -7,7 +7,6 @@ use Rattle.packet.specs.Packet.{groupId}
 use Rattle.packet.specs.Control.{controlData}
 use Rattle.packet.proofs.Packets.{packet-length}
 use Rattle.answers.specs.declared.Answer.{Answer}
-use Rattle.answers.specs.declared.Answer.the-variants.{Silence, Word, Report}
 use Rattle.answers.specs.declared.Reply.{Reply}
 use Rattle.answers.specs.Reply.{sentBy, sentBytes, mostReported}
 
@@ -17,9 +16,9 @@ unfolding sentBytes
 sent-few r n = go (r .answer)
   where
     go : (a : Answer) → length (sentBy a (r .id) (take (r .count) (r .bytes))) ≤ 12
-    go Silence = omega arith
-    go (Word c) = omega (arith, packet-length (r .id) (groupId 0) (controlData c) (omega arith))
-    go Report =
+    go Answer.Silence = omega arith
+    go (Answer.Word c) = omega (arith, packet-length (r .id) (groupId 0) (controlData c) (omega arith))
+    go Answer.Report =
         let d = take (r .count) (r .bytes) in
         let few : length d ≤ mostReported = simp length-take (omega arith) in
         omega (arith, packet-length (r .id) (groupId 0) d (omega arith))

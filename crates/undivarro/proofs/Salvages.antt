@@ -11,11 +11,11 @@ use lib.Seq.{take-at}
 use Rattle.lists.specs.Lists.{laidOver}
 use Rattle.lists.proofs.Both.{both}
 use Rattle.lists.proofs.Laid.{length-laid, laid-over}
-use Rattle.packet.specs.declared.Damage.the-variants.{Nothing}
+use Rattle.packet.specs.declared.Damage.{Damage}
 use Rattle.panels.specs.Wall.{Wall, panelsOf}
 use Rattle.panels.specs.WellFormed.{WellFormed}
 use Rattle.panels.proofs.Laws.{panels-of-table}
-use Rattle.forms.specs.declared.Form.the-variants.{Two}
+use Rattle.forms.specs.declared.Form.{Form}
 use Rattle.image_whole.specs.Whole.{wholeRefusal}
 use Rattle.image_write.specs.Written.{setupOf, sizeOf}
 use Rattle.image_salvage.specs.declared.Salvaged.{Salvaged}
@@ -48,14 +48,14 @@ module _ (image : List ℕ) (s : Salvaged) (is : s ≡ salvagedAs image) where
     pub count-told : s .told ≡ length (take (s .told) text)
     count-told = ap (λ (r : Salvaged). r .told) is ∙ ap length (sym front-told)
 
-  module _ (lines out : List ℕ) (room : Bool) (is-room : room ≡ (leb linesCap (length lines) && leb (sizeOf Two (panelsOf (s .table))) (length out)))
+  module _ (lines out : List ℕ) (room : Bool) (is-room : room ≡ (leb linesCap (length lines) && leb (sizeOf Form.Two (panelsOf (s .table))) (length out)))
       (n : ℕ) (is-refusal : n ≡ refusalFor (s .refusal) true room) where
-    number : n ≡ refusalFor (wholeRefusal image) true (leb linesCap (length lines) && leb (sizeOf Two (salvageOf image .wall)) (length out))
+    number : n ≡ refusalFor (wholeRefusal image) true (leb linesCap (length lines) && leb (sizeOf Form.Two (salvageOf image .wall)) (length out))
     number =
         is-refusal ∙ ap (λ (r : Salvaged). refusalFor (r .refusal) true room) is
-        ∙ ap (refusalFor (wholeRefusal image) true) (is-room ∙ ap (λ (w : Wall). leb linesCap (length lines) && leb (sizeOf Two w) (length out)) wall-kept)
+        ∙ ap (refusalFor (wholeRefusal image) true) (is-room ∙ ap (λ (w : Wall). leb linesCap (length lines) && leb (sizeOf Form.Two w) (length out)) wall-kept)
 
-    pub room-kept : n ≡ 0 → (linesCap ≤ length lines) × (sizeOf Two (salvageOf image .wall) ≤ length out)
+    pub room-kept : n ≡ 0 → (linesCap ≤ length lines) × (sizeOf Form.Two (salvageOf image .wall) ≤ length out)
     room-kept z =
         let (a, b) = both _ _ (all-there (wholeRefusal image) true _ (sym number ∙ z) .1) in
         (leb-true _ _ a, leb-true _ _ b)
@@ -64,6 +64,6 @@ module _ (image : List ℕ) (s : Salvaged) (is : s ≡ salvagedAs image) where
     unfolding afterSalvage
     salvage-refused h = sym (rw (sym number, ne-eqb n 0 h))
 
-    pub salvage-given : n ≡ 0 → given (textOf (salvageOf image)) (setupOf Two (salvageOf image .wall)) Nothing lines out ≡ afterSalvage image lines out
+    pub salvage-given : n ≡ 0 → given (textOf (salvageOf image)) (setupOf Form.Two (salvageOf image .wall)) Damage.Nothing lines out ≡ afterSalvage image lines out
     unfolding afterSalvage
     salvage-given z = sym (rw (sym number, eq-eqb n 0 z))

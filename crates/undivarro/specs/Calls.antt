@@ -6,7 +6,6 @@ use mathlib.Core.List.{List, []}
 use lib.Dec.{leb, eqb}
 use lib.ListN.{length, replicate}
 use Rattle.packet.specs.declared.Damage.{Damage}
-use Rattle.packet.specs.declared.Damage.the-variants.{Nothing}
 use Rattle.packet.specs.Packet.{longest, damageIn, damageNumber}
 use Rattle.packet.specs.Reading.{Reading, readingOf}
 use Rattle.lists.specs.Lists.{laidOver}
@@ -14,7 +13,6 @@ use Rattle.answers.specs.Reply.{sentBytes}
 use Rattle.answers.specs.Played.{answered}
 use Rattle.refusals.specs.declared.Refusal.{Refusal}
 use Rattle.forms.specs.declared.Form.{Form}
-use Rattle.forms.specs.declared.Form.the-variants.{One, Two}
 use Rattle.image_write.specs.Written.{setupOf, sizeOf, losesNothing}
 use Rattle.refusals.specs.Refusals.{isSound, refusalNumber, noRoom, wouldLose}
 use Rattle.image_read.specs.Read.{readOf}
@@ -58,19 +56,19 @@ unfoldable pub afterMove : Form → List ℕ → List ℕ → After
 afterMove form image out = afterReading form image (readingOf []) (replicate longest 0) out
 
 abbrev pub afterPlay : List ℕ → List ℕ → List ℕ → List ℕ → After
-afterPlay image burst = afterReading Two image (readingOf burst)
+afterPlay image burst = afterReading Form.Two image (readingOf burst)
 
 abbrev pub afterRead : List ℕ → List ℕ → After
-afterRead = afterMove Two
+afterRead = afterMove Form.Two
 
 abbrev pub afterBack : List ℕ → List ℕ → After
-afterBack = afterMove One
+afterBack = afterMove Form.One
 
 -- What is kept of an image that passes 11 to 15, in form 2, and the text of its lines (02, A7). There is room where the lines'
 -- buffer has it for those of any image, and the output for the image of what is kept.
 unfoldable pub afterSalvage : List ℕ → List ℕ → List ℕ → After
 afterSalvage image lines out =
     let s = salvageOf image in
-    let room = leb linesCap (length lines) && leb (sizeOf Two (s .wall)) (length out) in
+    let room = leb linesCap (length lines) && leb (sizeOf Form.Two (s .wall)) (length out) in
     let n = refusalFor (wholeRefusal image) true room in
-    cond (eqb n 0) (given (textOf s) (setupOf Two (s .wall)) Nothing lines out) (refused n lines out)
+    cond (eqb n 0) (given (textOf s) (setupOf Form.Two (s .wall)) Damage.Nothing lines out) (refused n lines out)

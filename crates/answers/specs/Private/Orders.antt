@@ -3,13 +3,12 @@ use Prim.Native.Nat.{ℕ}
 use mathlib.Core.Bool.{Bool}
 use mathlib.Core.List.{List, [], _∷_}
 use lib.ListN.{getD, set}
-use Rattle.settings.specs.declared.Profile.the-variants.{General, Phoenix}
+use Rattle.settings.specs.declared.Profile.{Profile}
 use Rattle.settings.specs.Settings.{inRanges}
 use Rattle.packet.specs.declared.Damage.{Damage}
 use Rattle.panels.specs.declared.Table.{Table}
 use Rattle.panels.specs.Wall.{Wall, blank, tableOf}
 use Rattle.answers.specs.declared.Order.{Order}
-use Rattle.answers.specs.declared.Order.the-variants.{Report, Store, NotAvailable}
 use Rattle.answers.specs.declared.Reply.{Reply}
 use Rattle.answers.specs.declared.Played.{Played}
 use Rattle.answers.specs.Played.{Outcome}
@@ -17,13 +16,13 @@ use Rattle.answers.specs.Judged.{Command, getOf, setOf, unavailable, jud
 
 -- What a command asks of every panel: a report of a row, values to be stored in a row, or nothing.
 abbrev pub orderOf : Command → Order
-orderOf (getOf row) = Report row
-orderOf (setOf row values) = Store row
-orderOf unavailable = NotAvailable
+orderOf (getOf row) = Order.Report row
+orderOf (setOf row values) = Order.Store row
+orderOf unavailable = Order.NotAvailable
 
 -- For each profile, by its number, whether its ranges allow the values of a set.
 abbrev pub allowedBy : ℕ → List ℕ → List Bool
-allowedBy row values = inRanges General row values ∷ inRanges Phoenix row values ∷ []
+allowedBy row values = inRanges Profile.General row values ∷ inRanges Profile.Phoenix row values ∷ []
 
 -- what an undamaged burst leaves
 abbrev pub undamaged : Table → Reply → Played

@@ -5,7 +5,7 @@ use mathlib.Core.List.{List, [], _∷_}
 use Prim.Native.Nat.{ℕ, _<_}
 use borrow.Author.Tests.{ne-eqb}
 use Rattle.lists.proofs.Each.{alike}
-use Rattle.finding.specs.declared.Found.the-variants.{Nothing}
+use Rattle.finding.specs.declared.Found.{Found}
 use Rattle.settings.specs.Settings.{settings}
 use Rattle.finding.specs.Found.{foundFrom, foundBy}
 use Rattle.settings.proofs.Laws.{listed}
@@ -30,9 +30,9 @@ none-listed code [] none = refl
 none-listed code (k ∷ ks) none = rw (ne-eqb k code (λ e. none .1 (sym e))) (none-listed code ks (none .0))
 
 -- `foundBy` tried on every byte
-no-more : {code : ℕ} → code < 256 → NoneOf code codes → Nothing ≡ foundBy code
+no-more : {code : ℕ} → code < 256 → NoneOf code codes → Found.Nothing ≡ foundBy code
 unfolding settings foundFrom listed
-no-more {code} h none = sym (rw (none-listed code codes none) at (alike (λ k. cond (listed k codes) Nothing (foundBy k)) (λ k. Nothing) 256 refl h))
+no-more {code} h none = sym (rw (none-listed code codes none) at (alike (λ k. cond (listed k codes) Found.Nothing (foundBy k)) (λ k. Found.Nothing) 256 refl h))
 
 pub find-setting-spec : {M : Type 1} → statement M
 unfolding settings foundFrom

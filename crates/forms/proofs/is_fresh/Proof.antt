@@ -11,7 +11,7 @@ use lib.Dec.{eqb}
 use lib.ListN.{length, getD, take, drop}
 use lib.Seq.{drop-cons}
 use Rattle.lists.specs.Lists.{same}
-use Rattle.settings.specs.declared.Profile.the-variants.{General}
+use Rattle.settings.specs.declared.Profile.{Profile}
 use Rattle.settings.specs.Settings.{byteCount, place, freshValues, valueCount}
 use Rattle.settings.proofs.Laws.{place-fits, fresh-count}
 use Rattle.forms.specs.Forms.{isFresh}
@@ -28,7 +28,7 @@ step a b end at h ha hb =
     let n : end - at ≡ suc (end - (at + 1)) = omega arith in
     rw (n, drop-cons a at 0 (omega arith), drop-cons b at 0 (omega arith), add-one)
 
-whole : (row first count : ℕ) (a b : List ℕ) → first ≡ place row → count ≡ byteCount row → b ≡ freshValues General → isFresh row a ≡ rest a b (first + count) first
+whole : (row first count : ℕ) (a b : List ℕ) → first ≡ place row → count ≡ byteCount row → b ≡ freshValues Profile.General → isFresh row a ≡ rest a b (first + count) first
 unfolding rest
 whole row first count a b e n f = let m : first + count - first ≡ count = omega arith in rw (m, e, n, f)
 
@@ -61,7 +61,7 @@ turn : (c : tie.In-loop Inv-loop μ-loop) → let loop = c .before in
     rest a b (end loop) at ≡ eqb (getD a at 0) (getD b at 0) && rest a b (end loop) (at + 1)
 turn c =
     let loop = c .before in
-    step _ _ _ _ (omega arith) (omega (arith, ends loop)) (omega (arith, ends loop, ap length (loop .before .before .before .fresh .ensures), fresh-count General))
+    step _ _ _ _ (omega arith) (omega (arith, ends loop)) (omega (arith, ends loop, ap length (loop .before .before .before .fresh .ensures), fresh-count Profile.General))
 
 fresh-requires : tie.Need-fresh-requires Inv-loop μ-loop
 fresh-requires c κs = search needs

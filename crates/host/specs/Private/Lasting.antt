@@ -9,7 +9,6 @@ use Rattle.host.specs.declared.Step.{Step}
 use Rattle.requests.specs.declared.Request.{Request}
 use Rattle.host.specs.declared.Outcome.{Outcome}
 use Rattle.requests.specs.declared.Said.{Said}
-use Rattle.requests.specs.declared.Said.the-variants.{Ack, Nack, Nav, Report, Nothing}
 use Rattle.host.specs.Heard.{saidTo}
 use Rattle.host.specs.Machine.{Happening, start, burst, mark, State, Move, waits, step}
 use Rattle.host.specs.Calls.{stateOf, stepOf}
@@ -30,11 +29,11 @@ lasts s [] = waits s
 lasts s (h ∷ hs) = waits s && lasts (step s h .next) hs
 
 abbrev pub isNack : Said → ℕ
-isNack Ack = 0
-isNack Nack = 1
-isNack Nav = 0
-isNack Report = 0
-isNack Nothing = 0
+isNack Said.Ack = 0
+isNack Said.Nack = 1
+isNack Said.Nav = 0
+isNack Said.Report = 0
+isNack Said.Nothing = 0
 
 -- how many NACKs and marks a request meets
 unfoldable pub pushes : Request → Happening → ℕ

@@ -7,7 +7,7 @@ use Rattle.profiles.specs.Numbers.{ifKnown}
 use Rattle.panels.specs.Wall.{blank}
 use Rattle.forms.specs.declared.Form.{Form}
 use Rattle.forms.specs.Forms.{headSize}
-use Rattle.refusals.specs.declared.Refusal.the-variants.{Record}
+use Rattle.refusals.specs.declared.Refusal.{Refusal}
 use Rattle.image_record.specs.Head.{marked, headIn}
 use Rattle.image_read.specs.declared.ReadPanel.{ReadPanel}
 use Rattle.image_read.specs.Fields.{fieldsIn}
@@ -15,7 +15,7 @@ use Rattle.image_read.specs.Read.{panelWith}
 
 -- 16 and no panel
 abbrev pub noPanel : ReadPanel
-noPanel = record { refusal = Record; panel = blank }
+noPanel = record { refusal = Refusal.Record; panel = blank }
 
 -- the panel of a record whose head fits, with the refusal of its fields
 unfoldable pub panelBy : Form → List Bool → List ℕ → ReadPanel

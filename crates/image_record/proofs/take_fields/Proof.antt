@@ -13,7 +13,6 @@ use lib.ListN.{length, take, drop, length-take, length-drop}
 use lib.Seq.{take-all, drop-drop}
 use Rattle.settings.specs.Settings.{byteCount, valuesWith}
 use Rattle.image_record.specs.declared.Step.{Step}
-use Rattle.image_record.specs.declared.Step.the-variants.{Field, NotAllowed, Broken, End}
 use Rattle.image_record.specs.declared.Stop.{Stop}
 use Rattle.image_record.specs.Field.{stepAt, valuesIn, behind}
 use Rattle.image_record.specs.Run.{Run, stopped, afterStep, runFrom, stopOf}
@@ -37,10 +36,10 @@ start c = c .before .before
 -- anything but a field that can be taken stops the run
 stops : (s : Step) → OneOf (1 ∷ 2 ∷ 3 ∷ []) (tagOf the-type s) → (seen : List Bool) (values left : List ℕ) (more : ℕ → Run)
     → afterStep s seen values left more ≡ stopped s seen values left
-stops (Field row) h seen values left more = absurd (⊎-elim (λ e. omega arith) (λ h. ⊎-elim (λ e. omega arith) (λ e. omega arith) h) h)
-stops (NotAllowed row) h seen values left more = refl
-stops Broken h seen values left more = refl
-stops End h seen values left more = refl
+stops (Step.Field row) h seen values left more = absurd (⊎-elim (λ e. omega arith) (λ h. ⊎-elim (λ e. omega arith) (λ e. omega arith) h) h)
+stops (Step.NotAllowed row) h seen values left more = refl
+stops Step.Broken h seen values left more = refl
+stops Step.End h seen values left more = refl
 
 -- what the step says of the bytes that are left
 stepped : (c : tie.After-step-at Inv-loop μ-loop) (s : Step) → c .step-at .result ≡ s → let loop = c .before .before .before .before in
@@ -160,7 +159,7 @@ loop-again c =
     let n = counted .byte-count .ensures in
     let taken = c .store .ensures ∙ ap (λ (vs : List ℕ). valuesWith row vs (loop .loop .values)) (part counted) in
     let rest : behind row (drop at left) ≡ drop (at + 2 + byteCount row) left = drop-drop (2 + byteCount row) at left ∙ ap (λ (k : ℕ). drop k left) (sym (add-assoc at 2 (byteCount row))) in
-    (omega (arith, n, room known), comes-to call (Field row) (known .before .step .given .1) ∙ rw (rest, n, taken))
+    (omega (arith, n, room known), comes-to call (Step.Field row) (known .before .step .given .1) ∙ rw (rest, n, taken))
 
 pub take-fields-spec : {M : Type 1} → statement M
 take-fields-spec =

@@ -8,7 +8,6 @@ use Rattle.panels.specs.Wall.{blank}
 use Rattle.forms.specs.declared.Form.{Form}
 use Rattle.forms.specs.Forms.{headSize}
 use Rattle.faults.specs.declared.Fault.{Fault}
-use Rattle.faults.specs.declared.Fault.the-variants.{Dropped}
 use Rattle.image_record.specs.Head.{marked, headIn, headed}
 use Rattle.image_salvage.specs.declared.KeptRecord.{KeptRecord}
 use Rattle.image_salvage.specs.Kept.{keptOf}
@@ -16,7 +15,7 @@ use Rattle.image_salvage.specs.Salvaged.{linesOf}
 
 unfoldable pub faultsBy : Form → List Bool → List ℕ → List Fault
 faultsBy form seen bytes =
-    ifKnown (headIn form (marked seen) bytes) (λ profile. keptOf form profile (drop (headSize form) bytes) .faults) (Dropped ∷ [])
+    ifKnown (headIn form (marked seen) bytes) (λ profile. keptOf form profile (drop (headSize form) bytes) .faults) (Fault.Dropped ∷ [])
 
 unfoldable pub recordBy : Form → ℕ → ℕ → List Bool → List ℕ → KeptRecord
 recordBy form number from seen bytes = record {

@@ -11,7 +11,7 @@ use Rattle.panels.specs.Wall.{Wall, panelsOf}
 use Rattle.panels.specs.WellFormed.{GoodWall}
 use Rattle.forms.specs.declared.Form.{Form}
 use Rattle.forms.specs.Forms.{formByte}
-use Rattle.image_write.specs.declared.Written.the-variants.{Bytes}
+use Rattle.image_write.specs.declared.Written.{Written}
 use Rattle.image_write.specs.Written.{highLow, recordsOf, imageOf, setupOf, recordOf, sizeOf, losesNothing, writtenOf, outputOf, recordSize, panelSize}
 use Rattle.lists.proofs.Laid.{length-laid, laid-over, laid-two, laid-then}
 use Rattle.image_write.proofs.Lengths.{records-long, starts-are, starts-count, products}
@@ -148,7 +148,7 @@ returns-3 c =
     let room = enough else2 in
     let (answer, after) = is-written form w out (all-held else1) room in
     let held = starts .starts .ensures ∙ ap₂ (λ (m : ℕ) (l : List ℕ). laidAt (recordSize form * m) (starts-of form m) l) n (records .records .ensures) in (
-      ap Bytes size ∙ sym answer,
+      ap Written.Bytes size ∙ sym answer,
       ap₂ (λ (e m : ℕ). set (set (starts .starts .last .1 .0) e m) (e + 1) (c .byte-of .result)) (ends else2 .0) n
           ∙ ap₂ (λ (l : List ℕ) (b : ℕ). set (set l (panelSize form * length w) (length w)) (panelSize form * length w + 1) b) held (c .byte-of .ensures)
           ∙ image-laid form w (s .pre .good) out room ∙ sym after,

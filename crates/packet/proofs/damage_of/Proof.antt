@@ -8,7 +8,7 @@ use lib.Dec.{eqb}
 use lib.ListN.{length, getD}
 use Rattle.xor.specs.Xor.{xorAll}
 use Rattle.packet.specs.Packet.{damageOf}
-use Rattle.packet.specs.declared.Damage.the-variants.{Nothing, Size, Checksum}
+use Rattle.packet.specs.declared.Damage.{Damage}
 use Rattle.packet.proofs.damage_of.Statement.{statement}
 use Rattle.packet.proofs.damage_of.Tie as tie
 
@@ -26,7 +26,7 @@ returns-3 c = rw (ne-eqb _ _ (c .before .before .if1 .left), le-ltb _ _ (c .befo
 
 -- past the tests of its length
 fits : (c : tie.Else3) → let b = c .before .before .before .before .args .burst .now in
-    damageOf b ≡ cond (not (eqb (getD b 0 0) (length b))) Size (cond (not (eqb (xorAll b) 0)) Checksum Nothing)
+    damageOf b ≡ cond (not (eqb (getD b 0 0) (length b))) Damage.Size (cond (not (eqb (xorAll b) 0)) Damage.Checksum Damage.Nothing)
 unfolding damageOf
 fits c = rw (ne-eqb _ _ (c .before .before .if1 .left), le-ltb _ _ (c .before .if2 .left), le-ltb _ _ (c .if3 .left))
 

@@ -9,8 +9,7 @@ use types.Run.{OneOf}
 use denote.Enum.Declared.{tagOf}
 use Rattle.packet.specs.Packet.{verdictOf}
 use Rattle.packet.specs.declared.Damage.{Damage}
-use Rattle.packet.specs.declared.Damage.the-variants.{Nothing}
-use Rattle.packet.specs.declared.Verdict.the-variants.{Damaged}
+use Rattle.packet.specs.declared.Verdict.{Verdict}
 use Rattle.packet.proofs.Damage.{the-type}
 use Rattle.packet.proofs.Packets.{Sound, intact, intact-verdict}
 use Rattle.packet.proofs.Damages.{passed, not-intact, damaged-verdict}
@@ -23,11 +22,11 @@ whole c =
     let on = c .before .before in
     passed _ (on .before .if1 .left) (sym (on .damage-of .ensures) ∙ c .enum-told .given .1)
 
-none-left : OneOf (1 ∷ 2 ∷ 3 ∷ 4 ∷ []) (tagOf the-type Nothing) → ⊥
+none-left : OneOf (1 ∷ 2 ∷ 3 ∷ 4 ∷ []) (tagOf the-type Damage.Nothing) → ⊥
 none-left h = ⊎-elim (λ e. omega arith) (λ r. ⊎-elim (λ e. omega arith) (λ r. ⊎-elim (λ e. omega arith) (λ e. omega arith) r) r) h
 
 -- the other arm has a damage
-some-damage : (d : Damage) → OneOf (1 ∷ 2 ∷ 3 ∷ 4 ∷ []) (tagOf the-type d) → d ≡ Nothing → ⊥
+some-damage : (d : Damage) → OneOf (1 ∷ 2 ∷ 3 ∷ 4 ∷ []) (tagOf the-type d) → d ≡ Damage.Nothing → ⊥
 some-damage d h e = none-left (subst (λ d. OneOf (1 ∷ 2 ∷ 3 ∷ 4 ∷ []) (tagOf the-type d)) e h)
 
 returns : tie.Need-returns
@@ -44,7 +43,7 @@ returns-2 : tie.Need-returns-2
 returns-2 c =
     let some = c .before .before .if1 .left in
     let is = c .before .damage-of .ensures in
-    ap Damaged is ∙ sym (damaged-verdict _ some (not-intact _ some (λ e. some-damage _ (c .match .keys2) (is ∙ e))))
+    ap Verdict.Damaged is ∙ sym (damaged-verdict _ some (not-intact _ some (λ e. some-damage _ (c .match .keys2) (is ∙ e))))
 
 shared-slice-read-t6 : tie.Need-shared-slice-read-t6
 shared-slice-read-t6 c = omega (arith, whole (c .before))

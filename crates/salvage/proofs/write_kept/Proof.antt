@@ -5,7 +5,7 @@ use native.Mathlib.Omega.{arith}
 use lib.ListN.{length}
 use Rattle.lists.specs.Lists.{laidOver}
 use Rattle.panels.specs.Wall.{panelsOf}
-use Rattle.forms.specs.declared.Form.the-variants.{Two}
+use Rattle.forms.specs.declared.Form.{Form}
 use Rattle.image_write.specs.declared.Written.{Written}
 use Rattle.image_write.specs.Written.{setupOf, sizeOf}
 use Rattle.image_write.proofs.Lengths.{bytesWritten}
@@ -14,17 +14,17 @@ use borrow.Author.Needs.{needs}
 use Rattle.salvage.proofs.write_kept.Statement.{statement}
 use Rattle.salvage.proofs.write_kept.Tie as tie
 
-room : (c : tie.Start) → sizeOf Two (panelsOf (c .args .t)) ≤ length (c .args .out .now)
+room : (c : tie.Start) → sizeOf Form.Two (panelsOf (c .args .t)) ≤ length (c .args .out .now)
 room c = omega (arith, c .pre .0 .few, c .pre .1)
 
 -- what was written, whatever the match told
 laid : (c : tie.After-write-image) (s : Written) → c .write-image .result ≡ s
     → let a = c .before .before .before .args in
-    (bytesWritten s ≡ sizeOf Two (panelsOf (a .t))) × (c .write-image .last .1 .1 .0 ≡ laidOver (setupOf Two (panelsOf (a .t))) (a .out .now))
+    (bytesWritten s ≡ sizeOf Form.Two (panelsOf (a .t))) × (c .write-image .last .1 .1 .0 ≡ laidOver (setupOf Form.Two (panelsOf (a .t))) (a .out .now))
 laid c s e =
     let start = c .before .before .before in
     let w = panelsOf (start .args .t) in
-    let f = is-written Two w _ (two-holds w) (room start) in
+    let f = is-written Form.Two w _ (two-holds w) (room start) in
     (ap bytesWritten (sym e ∙ c .write-image .ensures .0 ∙ f .0), c .write-image .ensures .1 ∙ f .1)
 
 write-image-requires : tie.Need-write-image-requires

@@ -9,7 +9,6 @@ use Rattle.packet.specs.Packet.{longest}
 use Rattle.lists.specs.Lists.{laidOver}
 use Rattle.answers.specs.declared.Reply.{Reply}
 use Rattle.answers.specs.declared.Sent.{Sent}
-use Rattle.answers.specs.declared.Sent.the-variants.{Bytes, NoRoom}
 use Rattle.answers.specs.Reply.{sentBytes, sentOf, outputOf}
 use Rattle.sample.specs.Shown.{shownCount, shownOver}
 use borrow.Author.Needs.{needs}
@@ -20,19 +19,19 @@ abbrev empty : List ℕ
 empty = replicate longest 0
 
 abbrev countOf : Sent → ℕ
-countOf (Bytes n) = n
-countOf NoRoom = (longest + 1)
+countOf (Sent.Bytes n) = n
+countOf Sent.NoRoom = (longest + 1)
 
 abbrev isBytes : Sent → ℕ
-isBytes (Bytes n) = 1
-isBytes NoRoom = 0
+isBytes (Sent.Bytes n) = 1
+isBytes Sent.NoRoom = 0
 
-fits : (r : Reply) → sentOf empty r ≡ Bytes (length (sentBytes r))
+fits : (r : Reply) → sentOf empty r ≡ Sent.Bytes (length (sentBytes r))
 unfolding sentOf
 fits r = refl
 
 -- the front of the packet
-front-is : (r : Reply) (n : ℕ) → sentOf empty r ≡ Bytes n → take n (outputOf empty r) ≡ sentBytes r
+front-is : (r : Reply) (n : ℕ) → sentOf empty r ≡ Sent.Bytes n → take n (outputOf empty r) ≡ sentBytes r
 unfolding outputOf laidOver
 front-is r n e = take-at (sentBytes r) _ n (ap countOf (sym (fits r) ∙ e))
 

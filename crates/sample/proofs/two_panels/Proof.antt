@@ -1,8 +1,8 @@
 -- Panels 1 and 2 are added to the empty table. Assumes nothing.
 use mathlib.Core.Path.{_≡_, refl, sym, ap, subst, _∙_}
 use mathlib.Core.List.{[], _∷_}
-use Rattle.settings.specs.declared.Profile.the-variants.{General}
-use Rattle.tiling.specs.declared.Kind.the-variants.{FiveByFive}
+use Rattle.settings.specs.declared.Profile.{Profile}
+use Rattle.tiling.specs.declared.Kind.{Kind}
 use Rattle.tiling.specs.Kinds.{kindWith}
 use Rattle.profiles.specs.Numbers.{profileWith}
 use Rattle.packet.specs.Packet.{monitorId, groupId}
@@ -18,11 +18,11 @@ use borrow.Author.Needs.{needs}
 use Rattle.sample.proofs.two_panels.Statement.{statement}
 use Rattle.sample.proofs.two_panels.Tie as tie
 
-one-panel : added [] (monitorId 1) (groupId 9) 0 0 ≡ freshPanel (monitorId 1) (groupId 9) General FiveByFive ∷ []
+one-panel : added [] (monitorId 1) (groupId 9) 0 0 ≡ freshPanel (monitorId 1) (groupId 9) Profile.General Kind.FiveByFive ∷ []
 unfolding added addRefusal placeFrom profileWith kindWith
 one-panel = refl
 
-both-panels : added (freshPanel (monitorId 1) (groupId 9) General FiveByFive ∷ []) (monitorId 2) (groupId 9) 0 0 ≡ twoPanels
+both-panels : added (freshPanel (monitorId 1) (groupId 9) Profile.General Kind.FiveByFive ∷ []) (monitorId 2) (groupId 9) 0 0 ≡ twoPanels
 unfolding added addRefusal placeFrom profileWith kindWith twoPanels
 both-panels = refl
 
@@ -32,7 +32,7 @@ empty-table-requires c κs = search needs
 add-requires : tie.Need-add-requires
 add-requires c κs = subst WellFormed (sym (c .empty-table .ensures)) empty-formed
 
-first-table : (c : tie.After-add) → c .add .result .table ≡ tableOf (freshPanel (monitorId 1) (groupId 9) General FiveByFive ∷ [])
+first-table : (c : tie.After-add) → c .add .result .table ≡ tableOf (freshPanel (monitorId 1) (groupId 9) Profile.General Kind.FiveByFive ∷ [])
 first-table c =
     let empty = ap panelsOf (c .before .empty-table .ensures) ∙ panels-of-table [] in
     ap (λ (r : Changed). r .table) (c .add .ensures)
@@ -51,7 +51,7 @@ returns c =
     let second = c .before in
     let first = second .before .before in
     let table = ap (λ (r : Changed). r .table) (second .add2 .ensures) in
-    let one = ap panelsOf (first-table first) ∙ panels-of-table (freshPanel (monitorId 1) (groupId 9) General FiveByFive ∷ []) in (
+    let one = ap panelsOf (first-table first) ∙ panels-of-table (freshPanel (monitorId 1) (groupId 9) Profile.General Kind.FiveByFive ∷ []) in (
       table ∙ ap (λ (w : Wall). tableOf (added w (monitorId 2) (groupId 9) 0 0)) one ∙ ap tableOf both-panels,
       subst WellFormed (sym table) (added-formed (formed-first first) _ _ _ _),
     )

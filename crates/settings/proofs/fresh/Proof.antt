@@ -5,7 +5,7 @@ use native.Mathlib.Omega.{arith}
 use borrow.Author.Needs.{needs}
 use lib.ListN.{length}
 use Rattle.lists.specs.Lists.{laidAt}
-use Rattle.settings.specs.declared.Profile.the-variants.{General, Phoenix}
+use Rattle.settings.specs.declared.Profile.{Profile}
 use Rattle.settings.specs.declared.Table.{Table}
 use Rattle.settings.specs.Settings.{settings, allowedByRow, videoFresh, freshValues, valuesWith, videoRow}
 use Rattle.settings.specs.Private.Numbers.{paperTable}
@@ -38,7 +38,7 @@ store-requires c κs = (
 enum-told-2 : tie.Need-enum-told-2
 enum-told-2 c = search needs
 
-phoenix-fresh : valuesWith videoRow (videoFresh Phoenix) (freshValues General) ≡ freshValues Phoenix
+phoenix-fresh : valuesWith videoRow (videoFresh Profile.Phoenix) (freshValues Profile.General) ≡ freshValues Profile.Phoenix
 unfolding settings allowedByRow freshValues flatten laidAt
 phoenix-fresh = refl
 

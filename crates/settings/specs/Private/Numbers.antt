@@ -6,7 +6,7 @@ use mathlib.Core.List.{List, [], _∷_, _++_, map, flatten}
 use lib.Dec.{leb, eqb}
 use lib.ListN.{getD, drop}
 use Rattle.lists.specs.Lists.{each}
-use Rattle.settings.specs.declared.Profile.the-variants.{General, Phoenix}
+use Rattle.settings.specs.declared.Profile.{Profile}
 use Rattle.settings.specs.Settings.{Range, setCode, getCode, byteCount, place, videoAllowed, videoFresh, allowedByRow, freshValues, rowCount, valueCount, mostValues}
 use Rattle.settings.specs.declared.Codes.{Codes}
 use Rattle.settings.specs.declared.Values.{Values}
@@ -26,7 +26,7 @@ valuesAt k = record { 0 = byteCount k; 1 = place k }
 -- what is allowed at each of a general panel's value bytes
 unfoldable pub allowedValues : List (List Range)
 unfolding flatten
-allowedValues = flatten (allowedByRow General)
+allowedValues = flatten (allowedByRow Profile.General)
 
 -- the ranges of the value at place p, and the first of them
 abbrev pub rangesOf : ℕ → List Range
@@ -40,7 +40,7 @@ firstRange p = firstOf (rangesOf p)
 
 -- and the first of value k of a Phoenix panel's video
 abbrev pub videoRange : ℕ → Range
-videoRange k = firstOf (getD (videoAllowed Phoenix) k [])
+videoRange k = firstOf (getD (videoAllowed Profile.Phoenix) k [])
 
 abbrev pub spanOf : Range → Span
 spanOf r = record { 0 = r .low; 1 = r .high }
@@ -59,7 +59,7 @@ isMore p v m = eqb (m .0) p && inRange (record { low = m .1; high = m .2 }) v
 
 -- the one such range of a Phoenix panel's video: the tint's below 0
 abbrev pub tintBelow : More
-tintBelow = getD (moreFrom 0 (videoAllowed Phoenix)) 0 (record { 0 = 0; 1 = 0; 2 = 0 })
+tintBelow = getD (moreFrom 0 (videoAllowed Profile.Phoenix)) 0 (record { 0 = 0; 1 = 0; 2 = 0 })
 
 unfoldable pub paperTable : Table
 paperTable = record {
@@ -67,10 +67,10 @@ paperTable = record {
   values = each valuesAt rowCount;
   ranges = each (λ p. spanOf (firstRange p)) valueCount;
   more = moreFrom 0 allowedValues;
-  fresh = freshValues General;
+  fresh = freshValues Profile.General;
   phoenix = record {
     ranges = each (λ k. spanOf (videoRange k)) mostValues;
     below = tintBelow;
-    fresh = videoFresh Phoenix;
+    fresh = videoFresh Profile.Phoenix;
   };
 }

@@ -11,7 +11,6 @@ use lib.ListN.{length, set, length-append}
 use Rattle.tiling.specs.declared.Numbered.{Numbered as KindNumbered}
 use Rattle.tiling.specs.Kinds.{kindWith, ifKnown as ifKind}
 use Rattle.profiles.specs.declared.Numbered.{Numbered}
-use Rattle.profiles.specs.declared.Numbered.the-variants.{Known}
 use Rattle.profiles.specs.Numbers.{profileWith}
 use Rattle.packet.specs.declared.MonitorId.{MonitorId}
 use Rattle.packet.specs.declared.GroupId.{GroupId}
@@ -19,7 +18,6 @@ use Rattle.panels.specs.declared.Panel.{Panel}
 use Rattle.panels.specs.declared.Table.{Table}
 use Rattle.table_calls.specs.declared.Changed.{Changed}
 use Rattle.table_calls.specs.declared.Refusal.{Refusal}
-use Rattle.table_calls.specs.declared.Refusal.the-variants.{Nothing, UnknownKind}
 use Rattle.panels.specs.Wall.{Wall, inPlaces, panelsOf, tableOf, mostPanels}
 use Rattle.table_calls.specs.Calls.{refusalNumber, freshOf, addRefusal, added, addedTo}
 use Rattle.panels.proofs.Laws.{grown-places, held-first, may-hold}
@@ -134,11 +132,11 @@ refused-requires-6 c κs = search needs
 abbrev first : tie.After-known-told → tie.Else1
 first k = k .before .before .before .before .before .before .before .before .before .before .before
 
-known : (k : tie.After-known-told) → profileWith (first k .before .before .args .number) ≡ Known (k .before .numbered .given .0 .0)
+known : (k : tie.After-known-told) → profileWith (first k .before .before .args .number) ≡ Numbered.Known (k .before .numbered .given .0 .0)
 known k = sym (k .before .before .before .with-number .ensures) ∙ k .before .numbered .given .1
 
 by-kind : (k : tie.After-known-told)
-    → let a = first k .before .before .args in addRefusal (panelsOf (a .t)) (a .id) (a .group) (a .number) (a .kind) ≡ ifKind (kindWith (a .kind)) (λ kind. Nothing) UnknownKind
+    → let a = first k .before .before .args in addRefusal (panelsOf (a .t)) (a .id) (a .group) (a .number) (a .kind) ≡ ifKind (kindWith (a .kind)) (λ kind. Refusal.Nothing) Refusal.UnknownKind
 unfolding addRefusal
 by-kind k =
     let told = k .before .before .before .before .before .before in

@@ -9,7 +9,7 @@ use borrow.Author.Needs.{needs}
 use lib.ListN.{length, getD, take, drop, set, length-append, length-take, length-drop, take-append-drop, replicate}
 use lib.Seq.{take-at, take-take, take-all, drop-at, drop-cons, getD-take, set-at}
 use Rattle.panels.specs.declared.Panel.{Panel}
-use Rattle.panels.specs.declared.Place.the-variants.{At}
+use Rattle.panels.specs.declared.Place.{Place}
 use Rattle.panels.specs.Wall.{Wall, inPlaces, tableOf, panelsOf, blank, mostPanels}
 use Rattle.table_calls.specs.Calls.{without}
 use Rattle.lists.proofs.Places.{store, from-seam, moved-up}
@@ -18,10 +18,10 @@ use Rattle.table_calls.proofs.closed_up.Statement.{statement}
 use Rattle.table_calls.proofs.closed_up.Tie as tie
 
 -- the wall without its panel k, which is one shorter
-length-without : (w : Wall) (k : ℕ) → k < length w → suc (length (without (At k) w)) ≡ length w
+length-without : (w : Wall) (k : ℕ) → k < length w → suc (length (without (Place.At k) w)) ≡ length w
 length-without w k h = simp (length-append, length-take, length-drop) (omega arith)
 
-begins : (orig : Wall) (n k : ℕ) → k < n → n ≤ length orig → orig ≡ take k (without (At k) (take n orig)) ++ drop k orig
+begins : (orig : Wall) (n k : ℕ) → k < n → n ≤ length orig → orig ≡ take k (without (Place.At k) (take n orig)) ++ drop k orig
 begins orig n k h r =
     let short : length (take k (take n orig)) ≡ k = simp length-take (omega arith) in
     let e = take-at (take k (take n orig)) (drop (suc k) (take n orig)) k short ∙ take-take k n orig (omega arith) in
@@ -29,22 +29,22 @@ begins orig n k h r =
 
 -- a turn: the next panel moves up
 turns : (orig : Wall) (n k j : ℕ) (d : Panel) → k ≤ j → suc j < n → n ≤ length orig
-    → let l = take j (without (At k) (take n orig)) ++ drop j orig in
-    set l j (getD l (suc j) d) ≡ take (suc j) (without (At k) (take n orig)) ++ drop (suc j) orig
+    → let l = take j (without (Place.At k) (take n orig)) ++ drop j orig in
+    set l j (getD l (suc j) d) ≡ take (suc j) (without (Place.At k) (take n orig)) ++ drop (suc j) orig
 turns orig n k j d h r m =
     let w = take n orig in
     let n-is : length w ≡ n = simp length-take (omega arith) in
     let short = length-without w k (omega arith) in
-    let next = from-seam (without (At k) w) orig j (suc j) d (omega arith) (omega arith) (omega arith)
+    let next = from-seam (without (Place.At k) w) orig j (suc j) d (omega arith) (omega arith) (omega arith)
     ∙ sym (getD-take n orig (suc j) d r) ∙ sym (moved-up w k j d h) in
-    rw next (store (without (At k) w) orig j d (omega arith) (omega arith))
+    rw next (store (without (Place.At k) w) orig j d (omega arith) (omega arith))
 
 -- the last place becomes blank
 ends : (w : Wall) (k m : ℕ) → k < length w → length w ≡ suc m → length w ≤ mostPanels
-    → set (take m (without (At k) w) ++ drop m (inPlaces w)) m blank ≡ inPlaces (without (At k) w)
+    → set (take m (without (Place.At k) w) ++ drop m (inPlaces w)) m blank ≡ inPlaces (without (Place.At k) w)
 unfolding inPlaces
 ends w k m h e few =
-    let w′ = without (At k) w in
+    let w′ = without (Place.At k) w in
     let pad = replicate (mostPanels - length w) blank in
     let short : length w′ ≡ m = omega (arith, length-without w k h) in
     let fill : mostPanels - length w′ ≡ suc (mostPanels - length w) = omega arith in
@@ -53,7 +53,7 @@ ends w k m h e few =
     rw (take-all m w′ (omega arith), drop-cons (w ++ pad) m blank some, gone, fill) (set-at w′ _ pad blank m short)
 
 abbrev Inv-loop : tie.InvT-loop
-Inv-loop k places₀ last j₀ places j = (k ≤ j) × (j ≤ last) × (places ≡ take j (without (At k) (take (suc last) places₀)) ++ drop j places₀)
+Inv-loop k places₀ last j₀ places j = (k ≤ j) × (j ≤ last) × (places ≡ take j (without (Place.At k) (take (suc last) places₀)) ++ drop j places₀)
 
 abbrev μ-loop : tie.MeasureT-loop
 μ-loop k places₀ last j₀ places j = last - j
@@ -119,7 +119,7 @@ moved : (c : tie.After-blank-panel Inv-loop μ-loop)
     → let loop = c .before .before in
     let m = loop .before .count-of .result - 1 in
     let start = loop .before .before .before in
-    let w = without (At (start .args .k)) (panelsOf (start .args .t)) in
+    let w = without (Place.At (start .args .k)) (panelsOf (start .args .t)) in
     (set (loop .loop .places) m (c .blank-panel .result) ≡ inPlaces w) × (m ≡ length w)
 moved c =
     let loop = c .before .before in
@@ -133,7 +133,7 @@ moved c =
     let whole = ap (take (suc m)) (loop .before .before .places-of .ensures) ∙ held-first (suc m) refl n in
     let here : k < length w = start .pre .1 in (
       ap₂ (λ (l : Wall) (p : Panel). set l m p) (rw all at (loop .loop .inv .2)) (c .blank-panel .ensures)
-          ∙ ap₂ (λ (v l : Wall). set (take m (without (At k) v) ++ drop m l) m blank) whole (loop .before .before .places-of .ensures)
+          ∙ ap₂ (λ (v l : Wall). set (take m (without (Place.At k) v) ++ drop m l) m blank) whole (loop .before .before .places-of .ensures)
           ∙ ends w k m here (sym n) (f .few),
       omega (arith, length-without w k here),
     )

@@ -1,7 +1,7 @@
 -- The panel with the ID is found, and the table is closed up over its place. Assumes nothing.
 use mathlib.Core.Path.{_≡_, sym, _∙_}
 use borrow.Author.Needs.{needs}
-use Rattle.panels.specs.declared.Place.the-variants.{At}
+use Rattle.panels.specs.declared.Place.{Place}
 use Rattle.panels.specs.Wall.{panelsOf, placeOf}
 use Rattle.table_calls.specs.Calls.{removed}
 use Rattle.panels.proofs.Laws.{place-there}
@@ -29,7 +29,7 @@ returns c =
 
 -- the place that was found
 at : (c : tie.After-known-told)
-    → let a = c .before .before .before .before .args in placeOf (a .id) (panelsOf (a .t)) ≡ At (c .before .place .given .0 .0)
+    → let a = c .before .before .before .before .args in placeOf (a .id) (panelsOf (a .t)) ≡ Place.At (c .before .place .given .0 .0)
 at c = sym (c .before .before .before .find-panel .ensures) ∙ c .before .place .given .1
 
 closed-up-requires : tie.Need-closed-up-requires

@@ -5,7 +5,7 @@ use Prim.Native.Nat.{ℕ, _*_}
 use native.Mathlib.Omega.{arith}
 use borrow.Author.Needs.{needs}
 use Rattle.tiling.specs.declared.Kind.{Kind}
-use Rattle.tiling.specs.declared.Size.the-variants.{HighWide, Nothing}
+use Rattle.tiling.specs.declared.Size.{Size}
 use Rattle.tiling.specs.Walls.{heightOf, widthOf, upTo}
 use Rattle.tiling.specs.Kinds.{sizeIn, inWall, widest, largest}
 use Rattle.tiling.proofs.Sizes.{panels-few}
@@ -13,21 +13,21 @@ use Rattle.tiling.proofs.in_wall.Statement.{statement}
 use Rattle.tiling.proofs.in_wall.Tie as tie
 
 -- the wall that a byte's size is of
-wall-of : (kind : Kind) (byte v h : ℕ) → HighWide v h ≡ sizeIn kind byte
+wall-of : (kind : Kind) (byte v h : ℕ) → Size.HighWide v h ≡ sizeIn kind byte
     → (upTo (largest kind) byte ≡ true) × (v ≡ heightOf (widest kind) byte) × (h ≡ widthOf (widest kind) byte)
 unfolding sizeIn
 wall-of kind byte v h e = go (upTo (largest kind) byte) refl e
   where
-    go : (t : Bool) → upTo (largest kind) byte ≡ t → HighWide v h ≡ cond t (HighWide (heightOf (widest kind) byte) (widthOf (widest kind) byte)) Nothing
+    go : (t : Bool) → upTo (largest kind) byte ≡ t → Size.HighWide v h ≡ cond t (Size.HighWide (heightOf (widest kind) byte) (widthOf (widest kind) byte)) Size.Nothing
         → (upTo (largest kind) byte ≡ true) × (v ≡ heightOf (widest kind) byte) × (h ≡ widthOf (widest kind) byte)
     go true f e = (f, cc, cc)
     go false f e = let z : _≡_ {A = ℕ} 0 1 = cc in absurd (omega arith)
 
-none-of : (kind : Kind) (position byte : ℕ) → Nothing ≡ sizeIn kind byte → false ≡ inWall kind position byte
+none-of : (kind : Kind) (position byte : ℕ) → Size.Nothing ≡ sizeIn kind byte → false ≡ inWall kind position byte
 unfolding sizeIn inWall
 none-of kind position byte e = go (upTo (largest kind) byte) e
   where
-    go : (t : Bool) → Nothing ≡ cond t (HighWide (heightOf (widest kind) byte) (widthOf (widest kind) byte)) Nothing
+    go : (t : Bool) → Size.Nothing ≡ cond t (Size.HighWide (heightOf (widest kind) byte) (widthOf (widest kind) byte)) Size.Nothing
         → false ≡ (t && upTo (heightOf (widest kind) byte * widthOf (widest kind) byte) position)
     go true e = let z : _≡_ {A = ℕ} 0 1 = cc in absurd (omega arith)
     go false e = refl

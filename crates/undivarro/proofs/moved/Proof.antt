@@ -7,7 +7,7 @@ use lib.Dec.{leb}
 use lib.ListN.{length, replicate}
 use Rattle.packet.specs.Packet.{longest, verdictOf}
 use Rattle.packet.specs.Reading.{readingOf}
-use Rattle.packet.specs.declared.Damage.the-variants.{Nothing}
+use Rattle.packet.specs.declared.Damage.{Damage}
 use Rattle.panels.specs.Wall.{Wall}
 use Rattle.undivarro.specs.declared.Outcome.{Outcome}
 use Rattle.answers.specs.Reply.{sentBytes}
@@ -90,8 +90,8 @@ returns-2 c =
     let a = start (read-of refusal) .args in
     let e = read-of refusal .read-image .ensures in
     let all =
-    ap (λ (w : Wall). given [] (setupOf (a .form) w) Nothing room-for (a .out .now)) (wall-read (a .image .now) _ e)
-    ∙ ap (λ (o : BurstOutcome). given (sentBytes (o .reply)) (setupOf (a .form) (o .wall)) Nothing room-for (a .out .now)) (sym (played-none _))
+    ap (λ (w : Wall). given [] (setupOf (a .form) w) Damage.Nothing room-for (a .out .now)) (wall-read (a .image .now) _ e)
+    ∙ ap (λ (o : BurstOutcome). given (sentBytes (o .reply)) (setupOf (a .form) (o .wall)) Damage.Nothing room-for (a .out .now)) (sym (played-none _))
     ∙ play-given (a .form) (a .image .now) (readingOf []) room-for (a .out .now) _ (number refusal) (past .if1 .left)
     in (
       ap {B = Outcome} (λ (m : ℕ). record { refusal = 0; answered = 0; written = m; damage = 0 }) (put .put-setup .ensures .0) ∙ ap (λ (r : After). r .outcome) all,

@@ -9,7 +9,6 @@ use Rattle.packet.specs.Packet.{longest}
 use Rattle.lists.specs.Lists.{laidOver}
 use Rattle.answers.specs.declared.Reply.{Reply}
 use Rattle.answers.specs.declared.Sent.{Sent}
-use Rattle.answers.specs.declared.Sent.the-variants.{Bytes}
 use Rattle.answers.specs.Reply.{sentBytes, sentOf, outputOf, mostReported}
 use Rattle.answers.proofs.Sent.{bytesSent}
 use Rattle.undivarro.proofs.Lengths.{sent-few}
@@ -17,7 +16,7 @@ use borrow.Author.Needs.{needs}
 use Rattle.undivarro.proofs.put_answer.Statement.{statement}
 use Rattle.undivarro.proofs.put_answer.Tie as tie
 
-fits : (out : List ℕ) (r : Reply) → longest ≤ length out → (sentOf out r ≡ Bytes (length (sentBytes r))) × (outputOf out r ≡ laidOver (sentBytes r) out)
+fits : (out : List ℕ) (r : Reply) → longest ≤ length out → (sentOf out r ≡ Sent.Bytes (length (sentBytes r))) × (outputOf out r ≡ laidOver (sentBytes r) out)
 unfolding sentOf outputOf
 fits out r h = (simp (le-leb _ _ h), simp (le-leb _ _ h))
 

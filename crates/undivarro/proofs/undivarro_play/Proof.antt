@@ -6,7 +6,7 @@ use lib.Dec.{leb}
 use lib.ListN.{length}
 use Rattle.packet.specs.Packet.{longest, damageNumber}
 use Rattle.packet.specs.Reading.{readingOf}
-use Rattle.forms.specs.declared.Form.the-variants.{Two}
+use Rattle.forms.specs.declared.Form.{Form}
 use Rattle.image_write.specs.Written.{sizeOf, losesNothing}
 use Rattle.image_write.proofs.Losing.{two-holds}
 use Rattle.image_read.specs.Read.{readOf}
@@ -30,17 +30,17 @@ read-of c = c .before .before .before
 number : (c : tie.After-refusal-for) → let a = start (read-of c) .args in
     let r = readOf (a .image .now) in
     c .refusal-for .result
-    ≡ refusalFor (r .refusal) (losesNothing Two (r .wall)) (leb longest (length (a .answer .now)) && leb (sizeOf Two (r .wall)) (length (a .out .now)))
+    ≡ refusalFor (r .refusal) (losesNothing Form.Two (r .wall)) (leb longest (length (a .answer .now)) && leb (sizeOf Form.Two (r .wall)) (length (a .out .now)))
 number c =
     let read = read-of c in
     let a = start read .args in
-    refusal-is _ _ (read .read-image .ensures) Two longest (length (a .answer .now)) (length (a .out .now)) _ _ (sym (two-holds _)) (c .before .has-room .ensures) _ (c .refusal-for .ensures)
+    refusal-is _ _ (read .read-image .ensures) Form.Two longest (length (a .answer .now)) (length (a .out .now)) _ _ (sym (two-holds _)) (c .before .has-room .ensures) _ (c .refusal-for .ensures)
 
 there : (c : tie.Else1) → let a = start (read-of (c .before)) .args in
-    (longest ≤ length (a .answer .now)) × (sizeOf Two (readOf (a .image .now) .wall) ≤ length (a .out .now))
+    (longest ≤ length (a .answer .now)) × (sizeOf Form.Two (readOf (a .image .now) .wall) ≤ length (a .out .now))
 there c =
     let refusal = c .before in
-    enough _ _ (read-of refusal .read-image .ensures) Two longest _ _ _ _ (sym (two-holds _)) (refusal .before .has-room .ensures) _ (refusal .refusal-for .ensures) (c .if1 .left) .1
+    enough _ _ (read-of refusal .read-image .ensures) Form.Two longest _ _ _ _ (sym (two-holds _)) (refusal .before .has-room .ensures) _ (refusal .refusal-for .ensures) (c .if1 .left) .1
 
 read-image-requires : tie.Need-read-image-requires
 read-image-requires c κs = search needs
@@ -58,7 +58,7 @@ returns : tie.Need-returns
 returns c =
     let refusal = c .before .before in
     let a = start (read-of refusal) .args in
-    let e = play-refused Two (a .image .now) (readingOf (a .burst .now)) (a .answer .now) (a .out .now) _ (number refusal) (c .before .if1 .taken) in
+    let e = play-refused Form.Two (a .image .now) (readingOf (a .burst .now)) (a .answer .now) (a .out .now) _ (number refusal) (c .before .if1 .taken) in
     (c .refused .ensures ∙ ap (λ (r : After). r .outcome) e, (ap (λ (r : After). r .answer) e, ap (λ (r : After). r .out) e))
 
 play-requires : tie.Need-play-requires
@@ -72,7 +72,7 @@ put-setup-requires c κs =
     let play = c .before .before .before .before .before .before .before in
     let e = read-of (play .before .before) .read-image .ensures in
     let f = play .play .ensures in
-    (formed-played _ _ _ e _ f, two-holds _, rw (size-played _ _ _ e _ f Two) (there (play .before) .1))
+    (formed-played _ _ _ e _ f, two-holds _, rw (size-played _ _ _ e _ f Form.Two) (there (play .before) .1))
 
 damage-number-requires : tie.Need-damage-number-requires
 damage-number-requires c κs = search needs
@@ -95,8 +95,8 @@ returns-2 c =
     let read = read-of (past .before) in
     let a = start read .args in
     let all =
-    given-played (a .image .now) (readingOf (a .burst .now)) _ (read .read-image .ensures) _ (play .play .ensures) Two (a .answer .now) (a .out .now)
-    ∙ play-given Two (a .image .now) (readingOf (a .burst .now)) (a .answer .now) (a .out .now) _ (number (past .before)) (past .if1 .left)
+    given-played (a .image .now) (readingOf (a .burst .now)) _ (read .read-image .ensures) _ (play .play .ensures) Form.Two (a .answer .now) (a .out .now)
+    ∙ play-given Form.Two (a .image .now) (readingOf (a .burst .now)) (a .answer .now) (a .out .now) _ (number (past .before)) (past .if1 .left)
     in (
       ap (numbers (sent .put-answer .result) (put .put-setup .result)) (c .damage-number .ensures)
           ∙ ap₂ (λ (n m : ℕ). numbers n m (damageNumber (play .play .result .damage))) (sent .put-answer .ensures .0) (put .put-setup .ensures .0)

@@ -6,8 +6,8 @@ use native.Mathlib.Omega.{arith}
 use borrow.Author.Needs.{needs}
 use lib.ListN.{length}
 use Rattle.panels.specs.Wall.{Wall}
-use Rattle.forms.specs.declared.Form.the-variants.{Two}
-use Rattle.packet.specs.declared.Damage.the-variants.{Nothing}
+use Rattle.forms.specs.declared.Form.{Form}
+use Rattle.packet.specs.declared.Damage.{Damage}
 use Rattle.image_write.specs.Written.{setupOf, sizeOf}
 use Rattle.image_write.proofs.Losing.{two-holds}
 use Rattle.image_salvage.specs.Salvaged.{salvageOf, linesCap}
@@ -25,7 +25,7 @@ salvage-of c = c .before .before .before
 
 -- where nothing is refused there is room
 there : (c : tie.Else1) → let a = start (salvage-of (c .before)) .args in
-    (linesCap ≤ length (a .lines .now)) × (sizeOf Two (salvageOf (a .image .now) .wall) ≤ length (a .out .now))
+    (linesCap ≤ length (a .lines .now)) × (sizeOf Form.Two (salvageOf (a .image .now) .wall) ≤ length (a .out .now))
 there c =
     let refusal = c .before in
     let s = salvage-of refusal in
@@ -97,7 +97,7 @@ returns-2 c =
     let e = s .salvage .ensures .0 in
     let told = front-told image _ e _ _ (s .salvage .ensures .1) in
     let all =
-    ap₂ (λ (t : List ℕ) (w : Wall). given t (setupOf Two w) Nothing (a .lines .now) (a .out .now)) told (wall-kept image _ e)
+    ap₂ (λ (t : List ℕ) (w : Wall). given t (setupOf Form.Two w) Damage.Nothing (a .lines .now) (a .out .now)) told (wall-kept image _ e)
     ∙ salvage-given image _ e (a .lines .now) (a .out .now) _ (refusal .before .has-room .ensures) _ (refusal .refusal-for .ensures) (past .if1 .left)
     in (
       ap₂ {C = Outcome} (λ (n m : ℕ). record { refusal = 0; answered = n; written = m; damage = 0 })

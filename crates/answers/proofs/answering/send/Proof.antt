@@ -4,7 +4,6 @@ use Prim.Native.Nat.{_+_}
 use lib.ListN.{length}
 use Rattle.packet.proofs.Packets.{packet-written, packet-laid}
 use Rattle.packet.specs.declared.Written.{Written}
-use Rattle.packet.specs.declared.Written.the-variants.{Bytes, TooLong, NoRoom}
 use Rattle.packet.specs.Packet.{groupId, packetOf}
 use Rattle.lists.specs.Lists.{laidOver}
 use Rattle.answers.specs.declared.Sent.{Sent}
@@ -15,9 +14,9 @@ use Rattle.answers.proofs.answering.send.Tie as tie
 
 -- what the match makes of it
 abbrev passed-on : Written → Sent
-passed-on (Bytes n) = sent.Bytes n
-passed-on TooLong = sent.NoRoom
-passed-on NoRoom = sent.NoRoom
+passed-on (Written.Bytes n) = sent.Bytes n
+passed-on Written.TooLong = sent.NoRoom
+passed-on Written.NoRoom = sent.NoRoom
 
 write-packet-requires : tie.Need-write-packet-requires
 write-packet-requires c κs = search needs

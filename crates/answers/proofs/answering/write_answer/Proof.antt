@@ -11,7 +11,7 @@ use Rattle.lists.specs.Lists.{laidOver}
 use Rattle.packet.proofs.Packets.{packet-length}
 use Rattle.answers.specs.declared.Answer.{Answer}
 use Rattle.answers.specs.declared.Reply.{Reply}
-use Rattle.answers.specs.declared.Sent.the-variants.{Bytes}
+use Rattle.answers.specs.declared.Sent.{Sent}
 use Rattle.answers.specs.Reply.{sentBy, sentBytes, sentOf, outputOf, mostReported}
 use borrow.Author.Needs.{needs}
 use Rattle.answers.proofs.answering.write_answer.Statement.{statement}
@@ -23,7 +23,7 @@ by-answer r a e = ap (λ (x : Answer). sentBy x (r .id) (take (r .count) (r .byt
 
 -- data that is sent is the answer
 answered : (out : List ℕ) (r : Reply) (d : List ℕ) → longest ≤ length out → length d ≤ mostData → sentBytes r ≡ packetOf (r .id) (groupId 0) d
-    → (Bytes (length d + 4) ≡ sentOf out r) × (laidOver (packetOf (r .id) (groupId 0) d) out ≡ outputOf out r)
+    → (Sent.Bytes (length d + 4) ≡ sentOf out r) × (laidOver (packetOf (r .id) (groupId 0) d) out ≡ outputOf out r)
 unfolding sentOf outputOf
 answered out r d h m e =
     (simp (le-leb _ _ h, e, packet-length (r .id) (groupId 0) d m), simp (le-leb _ _ h, e))

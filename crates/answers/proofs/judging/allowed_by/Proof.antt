@@ -3,7 +3,7 @@ use mathlib.Core.Path.{ap, ap₂, _∙_}
 use mathlib.Core.Bool.{Bool}
 use mathlib.Core.List.{[], _∷_}
 use Rattle.lists.proofs.Places.{rest}
-use Rattle.settings.specs.declared.Profile.the-variants.{General, Phoenix}
+use Rattle.settings.specs.declared.Profile.{Profile}
 use Rattle.settings.specs.Settings.{inRanges}
 use borrow.Author.Needs.{needs}
 use Rattle.answers.proofs.judging.allowed_by.Statement.{statement}
@@ -39,8 +39,8 @@ returns c =
     let a = first .before .before .before .args in
     let vs = rest (a .d .now) in
     ap₂ (λ (g p : Bool). g ∷ p ∷ [])
-    (first .in-ranges .ensures ∙ ap (inRanges General (a .row)) vs)
-    (c .in-ranges2 .ensures ∙ ap (inRanges Phoenix (a .row)) vs)
+    (first .in-ranges .ensures ∙ ap (inRanges Profile.General (a .row)) vs)
+    (c .in-ranges2 .ensures ∙ ap (inRanges Profile.Phoenix (a .row)) vs)
 
 pub allowed-by-spec : {M : Type 1} → statement M
 allowed-by-spec =

@@ -6,7 +6,6 @@ use native.Mathlib.Nat.{not-suc-le-zero}
 use native.Mathlib.Omega.{arith}
 use lib.ListN.{length, getD, drop, length-drop}
 use Rattle.finding.specs.declared.Found.{Found}
-use Rattle.finding.specs.declared.Found.the-variants.{Get}
 use Rattle.finding.specs.Found.{foundBy}
 use Rattle.answers.specs.Judged.{getOf, unavailable, command, commandBy}
 use Rattle.answers.specs.Private.Orders.{orderOf}
@@ -24,11 +23,11 @@ unfolding command
 by-code [] f h e = absurd (not-suc-le-zero h)
 by-code (x ∷ d) f h e = ap (λ (g : Found). commandBy g d) e
 
-alone : (row : ℕ) (vs : List ℕ) → length vs ≡ 0 → commandBy (Get row) vs ≡ getOf row
+alone : (row : ℕ) (vs : List ℕ) → length vs ≡ 0 → commandBy (Found.Get row) vs ≡ getOf row
 alone row [] e = refl
 alone row (v ∷ vs) e = absurd (omega arith)
 
-not-alone : (row : ℕ) (vs : List ℕ) → (length vs ≡ 0 → ⊥) → commandBy (Get row) vs ≡ unavailable
+not-alone : (row : ℕ) (vs : List ℕ) → (length vs ≡ 0 → ⊥) → commandBy (Found.Get row) vs ≡ unavailable
 not-alone row [] h = absurd (h refl)
 not-alone row (v ∷ vs) h = refl
 

@@ -13,7 +13,7 @@ use Rattle.panels.proofs.Values.{length-values}
 use Rattle.settings.specs.Settings.{byteCount, place, mostValues, valueCount, rowCount, valuesOf}
 use Rattle.settings.proofs.Laws.{place-fits, byte-count-few}
 use Rattle.packet.specs.Packet.{monitorId}
-use Rattle.answers.specs.declared.Answer.the-variants.{Report}
+use Rattle.answers.specs.declared.Answer.{Answer}
 use Rattle.answers.specs.declared.Reply.{Reply}
 use Rattle.answers.specs.Reply.{reportFrom, mostReported}
 use Rattle.answers.proofs.judging.report_of.Statement.{statement}
@@ -102,7 +102,7 @@ returns c =
     let all : loop .loop .k ≡ byteCount (a .row) = omega arith in
     let d = code .result ∷ valuesOf (a .row) (a .p .values) in
     let n : length d ≡ byteCount (a .row) + 1 = ap suc (length-values (a .row) (a .p .values) (loop .loop .inv .1)) ∙ sym (add-one _) in
-    ap₂ {C = Reply} (λ (l : List ℕ) (m : ℕ). record { answer = Report; id = a .p .id; bytes = l; count = m })
+    ap₂ {C = Reply} (λ (l : List ℕ) (m : ℕ). record { answer = Answer.Report; id = a .p .id; bytes = l; count = m })
     ((rw all at (loop .loop .inv .2)) ∙ bytes)
     (ap (λ (m : ℕ). m + 1) count ∙ sym n)
     ∙ ap (λ (x : ℕ). reportFrom (a .p .id) (x ∷ valuesOf (a .row) (a .p .values))) (code .ensures)

@@ -8,7 +8,6 @@ use borrow.Author.Needs.{needs}
 use borrow.Author.Tests.{ne-eqb}
 use lib.ListN.{getD, drop}
 use Rattle.settings.specs.declared.Profile.{Profile}
-use Rattle.settings.specs.declared.Profile.the-variants.{General, Phoenix}
 use Rattle.settings.specs.Settings.{inRanges, valuesOf, tilingRow}
 use Rattle.models.proofs.Filled.{filled-other}
 use Rattle.profiles.specs.Numbers.{profileNumber}
@@ -19,12 +18,12 @@ use Rattle.answers.proofs.judging.takes.Statement.{statement}
 use Rattle.answers.proofs.judging.takes.Tie as tie
 
 numbers : (profile : Profile) → profileNumber profile < 2
-numbers General = omega arith
-numbers Phoenix = omega arith
+numbers Profile.General = omega arith
+numbers Profile.Phoenix = omega arith
 
 own : (profile : Profile) (row : ℕ) (vs : List ℕ) → getD (allowedBy row vs) (profileNumber profile) false ≡ inRanges profile row vs
-own General row vs = refl
-own Phoenix row vs = refl
+own Profile.General row vs = refl
+own Profile.Phoenix row vs = refl
 
 -- of any other row than the tiling's the ranges say all
 ranges-say : (row : ℕ) (vs : List ℕ) (p : Panel) → (row ≡ tilingRow → ⊥) → takes row vs p ≡ (inRanges (p .profile) row vs && not (offAlready row vs p))

@@ -7,7 +7,7 @@ use borrow.Author.Tests.{not-true, not-false}
 use lib.ListN.{getD, set, drop}
 use lib.Seq.{set-getD}
 use Rattle.settings.specs.Settings.{getCode, valuesOf}
-use Rattle.packet.specs.declared.Control.the-variants.{Ack, Nav}
+use Rattle.packet.specs.declared.Control.{Control}
 use Rattle.panels.specs.declared.Panel.{Panel}
 use Rattle.panels.specs.declared.Table.{Table}
 use Rattle.panels.specs.Wall.{Wall, blank, tableOf, panelsOf, withValues}
@@ -96,7 +96,7 @@ returns c =
     let row = judged .before .before .before .order2 .given in
     let o = told read _ (row .1) in
     let vs = drop 1 (a .d .now) in
-    c .undamaged2 .ensures ∙ ap (undamaged (a .t)) (word .word-from .ensures ∙ ap (λ (q : Panel). wordFrom (q .id) Nav) (here read))
+    c .undamaged2 .ensures ∙ ap (undamaged (a .t)) (word .word-from .ensures ∙ ap (λ (q : Panel). wordFrom (q .id) Control.Nav) (here read))
     ∙ asked-is (a .t) (a .k) _ _ (a .t) (judge-not (command (a .d .now)) (row .0 .0) vs _ (o .2) (own judged ∙ not-true _ (word .before .if1 .taken))) (unchanged (start read .pre .0) (a .k))
 
 with-values-requires : tie.Need-with-values-requires
@@ -148,7 +148,7 @@ returns-3 c =
     let vs = drop 1 (a .d .now) in
     let q = with .with-values .ensures ∙ ap (λ (p : Panel). stored (row .0 .0) (heldThen (row .0 .0) vs p) p) (here read) in
     c .undamaged3 .ensures ∙ ap₂ undamaged (table .with-values2 .ensures ∙ ap tableOf (stored-in (panelsOf (a .t)) (a .k) (row .0 .0) vs _ q))
-    (word .word-from2 .ensures ∙ ap (λ (p : Panel). wordFrom (p .id) Ack) (here read))
+    (word .word-from2 .ensures ∙ ap (λ (p : Panel). wordFrom (p .id) Control.Ack) (here read))
     ∙ asked-is (a .t) (a .k) _ _ _
     (judge-set (command (a .d .now)) (row .0 .0) vs _ (o .2) (own judged ∙ not-false _ (with .before .if1 .left)))
     refl
@@ -159,7 +159,7 @@ returns-4 c =
     let read = word .before .before .before in
     let a = start read .args in
     let p = here read in
-    c .undamaged4 .ensures ∙ ap (undamaged (a .t)) (word .word-from3 .ensures ∙ ap (λ (q : Panel). wordFrom (q .id) Nav) p)
+    c .undamaged4 .ensures ∙ ap (undamaged (a .t)) (word .word-from3 .ensures ∙ ap (λ (q : Panel). wordFrom (q .id) Control.Nav) p)
     ∙ asked-is (a .t) (a .k) _ _ (a .t) (told read _ (word .before .enum-told .given .1) _) (unchanged (start read .pre .0) (a .k))
 
 pub play-one-spec : {M : Type 1} → statement M

@@ -5,7 +5,7 @@ use Rattle.packet.specs.declared.Damage.{Damage}
 use Rattle.packet.specs.Packet.{damageIn}
 use Rattle.packet.specs.Reading.{readingOf}
 use Rattle.host.specs.declared.Step.{Step}
-use Rattle.host.specs.declared.Outcome.the-variants.{Idle}
+use Rattle.host.specs.declared.Outcome.{Outcome}
 use Rattle.host.specs.Machine.{quiet, heard}
 use Rattle.host.specs.Calls.{stateOf}
 use Rattle.host.specs.Private.Steps.{tellingStep}
@@ -44,7 +44,7 @@ returns-2 c =
     let has = damage .before .before in
     let a = has .before .before .before .args in
     rw (idle-burst (a .out .now) (a .self) (has .if1 .left) (idle .if2 .taken) (a .b .now))
-    (tells (quiet (stateOf (a .self)) Idle) _ _ (stays _ _ _ refl (c .before .plain2 .ensures)) (c .telling .ensures ∙ told damage (c .before .plain2 .result)))
+    (tells (quiet (stateOf (a .self)) Outcome.Idle) _ _ (stays _ _ _ refl (c .before .plain2 .ensures)) (c .telling .ensures ∙ told damage (c .before .plain2 .result)))
 
 data-part-requires : tie.Need-data-part-requires
 data-part-requires c κs = c .before .before .before .verdict-on .ensures

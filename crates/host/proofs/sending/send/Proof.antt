@@ -7,7 +7,6 @@ use lib.ListN.{length, length-take}
 use Rattle.lists.specs.Lists.{laidOver}
 use Rattle.settings.specs.Settings.{mostValues}
 use Rattle.packet.specs.declared.Written.{Written}
-use Rattle.packet.specs.declared.Written.the-variants.{Bytes, TooLong, NoRoom}
 use Rattle.packet.specs.Packet.{mostData}
 use Rattle.packet.proofs.Packets.{packet-length, packet-written, packet-laid}
 use Rattle.requests.specs.declared.Request.{Request}
@@ -17,9 +16,9 @@ use Rattle.host.proofs.sending.send.Tie as tie
 
 -- what the match makes of it
 abbrev bytesIn : Written → ℕ
-bytesIn (Bytes n) = n
-bytesIn TooLong = 0
-bytesIn NoRoom = 0
+bytesIn (Written.Bytes n) = n
+bytesIn Written.TooLong = 0
+bytesIn Written.NoRoom = 0
 
 data-fits : (r : Request) → length (r .values) ≡ mostValues → length (requestData r) ≤ mostData
 data-fits r n = simp length-take (omega arith)

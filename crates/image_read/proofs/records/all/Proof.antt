@@ -14,7 +14,6 @@ use Rattle.panels.specs.declared.Table.{Table}
 use Rattle.panels.specs.Wall.{Wall, inPlaces, mostPanels}
 use Rattle.panels.proofs.Laws.{none-held, one-held}
 use Rattle.forms.specs.declared.Form.{Form}
-use Rattle.refusals.specs.declared.Refusal.the-variants.{Nothing}
 use Rattle.refusals.specs.declared.Refusal.{Refusal}
 use Rattle.image_read.specs.declared.Read.{Read}
 use Rattle.image_read.specs.declared.ReadPanel.{ReadPanel}
@@ -204,7 +203,7 @@ returns-2 c =
     let all : loop .loop .k ≡ length (recordsIn image) = omega (arith, length-each (recordIn image) (countOf image)) in
     let none : drop (loop .loop .k) (recordsIn image) ≡ [] = rw all (drop-length (recordsIn image)) in
     let end = loop .loop .inv .5 ∙ ap (readRecords (formOf image) (wall loop)) none in
-    ap {B = Read} (λ (t : Table). record { refusal = Nothing; table = t }) (c .table-of .ensures) ∙ ap inTable (sym end)
+    ap {B = Read} (λ (t : Table). record { refusal = Refusal.Nothing; table = t }) (c .table-of .ensures) ∙ ap inTable (sym end)
 
 pub all-spec : {M : Type 1} → statement M
 all-spec =

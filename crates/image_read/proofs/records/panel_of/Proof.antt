@@ -5,7 +5,7 @@ use native.Mathlib.Omega.{arith}
 use borrow.Author.Needs.{needs}
 use lib.ListN.{length, drop, length-drop}
 use lib.Seq.{take-all}
-use Rattle.profiles.specs.declared.Numbered.the-variants.{Known}
+use Rattle.profiles.specs.declared.Numbered.{Numbered}
 use Rattle.forms.specs.Forms.{headSize}
 use Rattle.forms.proofs.Laws.{head-some}
 use Rattle.image_record.specs.Head.{marked, headIn, headed}
@@ -21,7 +21,7 @@ abbrev start : tie.After-known-told → tie.Start
 start c = c .before .before .before .before .before
 
 -- past the head the profile is known, and the head is whole
-known : (c : tie.After-known-told) → let a = start c .args in headIn (a .form) (marked (a .seen .now)) (a .bytes .now) ≡ Known (c .before .head .given .0 .0)
+known : (c : tie.After-known-told) → let a = start c .args in headIn (a .form) (marked (a .seen .now)) (a .bytes .now) ≡ Numbered.Known (c .before .head .given .0 .0)
 known c = sym (c .before .before .before .head-in .ensures) ∙ c .before .head .given .1
 
 whole : (c : tie.After-known-told) → let a = start c .args in headSize (a .form) ≤ length (a .bytes .now)

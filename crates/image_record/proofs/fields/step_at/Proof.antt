@@ -12,7 +12,6 @@ use lib.Dec.{eqb}
 use lib.ListN.{length, getD, take, drop}
 use Rattle.settings.specs.declared.Profile.{Profile}
 use Rattle.finding.specs.declared.Found.{Found}
-use Rattle.finding.specs.declared.Found.the-variants.{Set, Get, Nothing}
 use Rattle.finding.proofs.Found.{the-type}
 use Rattle.settings.specs.Settings.{byteCount, rowCount}
 use Rattle.finding.specs.Found.{fieldBy}
@@ -20,7 +19,7 @@ use Rattle.models.specs.Models.{allowedFor, modelIn}
 use Rattle.settings.proofs.Laws.{place-fits}
 use Rattle.finding.proofs.Laws.{IsField, field-right}
 use Rattle.forms.specs.declared.Form.{Form}
-use Rattle.image_record.specs.declared.Step.the-variants.{Field, NotAllowed, Broken}
+use Rattle.image_record.specs.declared.Step.{Step}
 use Rattle.image_record.specs.Field.{valuesIn, misplaced, fieldOf, stepAt}
 use borrow.Author.Needs.{needs}
 use Rattle.image_record.proofs.fields.step_at.Statement.{statement}
@@ -28,28 +27,28 @@ use Rattle.image_record.proofs.fields.step_at.Tie as tie
 
 -- the tests, in order
 module _ (form : Form) (profile : Profile) (seen : List Bool) (values left : List ℕ) where
-  not-set : (f : Found) → OneOf (1 ∷ 2 ∷ []) (tagOf the-type f) → Broken ≡ fieldOf form profile f seen values left
-  not-set (Set row) h = absurd (⊎-elim (λ e. omega arith) (λ e. omega arith) h)
-  not-set (Get row) h = refl
-  not-set Nothing h = refl
+  not-set : (f : Found) → OneOf (1 ∷ 2 ∷ []) (tagOf the-type f) → Step.Broken ≡ fieldOf form profile f seen values left
+  not-set (Found.Set row) h = absurd (⊎-elim (λ e. omega arith) (λ e. omega arith) h)
+  not-set (Found.Get row) h = refl
+  not-set Found.Nothing h = refl
 
-  module _ (row : ℕ) (n : eqb (length left) 0 ≡ false) (found : fieldBy (getD left 0 0) ≡ Set row) where
-    when-misplaced : misplaced form seen row ≡ true → Broken ≡ stepAt form profile seen values left
+  module _ (row : ℕ) (n : eqb (length left) 0 ≡ false) (found : fieldBy (getD left 0 0) ≡ Found.Set row) where
+    when-misplaced : misplaced form seen row ≡ true → Step.Broken ≡ stepAt form profile seen values left
     unfolding stepAt
     when-misplaced s = simp (n, found) (rw s)
 
     module _ (s : misplaced form seen row ≡ false) where
-      when-cut : length left < 2 + byteCount row → Broken ≡ stepAt form profile seen values left
+      when-cut : length left < 2 + byteCount row → Step.Broken ≡ stepAt form profile seen values left
       unfolding stepAt
       when-cut h = simp (n, found) (rw (s, lt-ltb (length left) (2 + byteCount row) h))
 
       module _ (h : 2 + byteCount row ≤ length left) where
-        when-other : (getD left 1 0 ≡ byteCount row → ⊥) → Broken ≡ stepAt form profile seen values left
+        when-other : (getD left 1 0 ≡ byteCount row → ⊥) → Step.Broken ≡ stepAt form profile seen values left
         unfolding stepAt
         when-other d = simp (n, found) (rw (s, le-ltb (length left) (2 + byteCount row) h, ne-eqb (getD left 1 0) (byteCount row) d))
 
         when-whole : getD left 1 0 ≡ byteCount row → (t : Bool) → allowedFor (modelIn profile values) row (valuesIn row left) ≡ t
-            → cond t (Field row) (NotAllowed row) ≡ stepAt form profile seen values left
+            → cond t (Step.Field row) (Step.NotAllowed row) ≡ stepAt form profile seen values left
         unfolding stepAt
         when-whole d t a = simp (n, found) (rw (s, le-ltb (length left) (2 + byteCount row) h, eq-eqb (getD left 1 0) (byteCount row) d, a))
 
@@ -58,7 +57,7 @@ some : (c : tie.After-find-field) → eqb (length (c .before .before .before .be
 some c = ne-eqb _ _ (c .before .before .if1 .left)
 
 found : (c : tie.After-known-told) → let a = c .before .before .before .before .before .before .before .args in
-    fieldBy (getD (a .left .now) 0 0) ≡ Set (c .before .found .given .0 .0)
+    fieldBy (getD (a .left .now) 0 0) ≡ Found.Set (c .before .found .given .0 .0)
 found c = sym (c .before .before .before .find-field .ensures) ∙ c .before .found .given .1
 
 in-table : (c : tie.After-known-told) → c .before .found .given .0 .0 < rowCount
@@ -146,7 +145,7 @@ is-allowed-requires c κs =
 whole : (c : tie.After-is-allowed) (t : Bool) → c .is-allowed .result ≡ t → let known = c .before .before .before .before .before .before .before .before in
     let row = known .before .found .given .0 .0 in
     let a = known .before .before .before .before .before .before .before .args in
-    cond t (Field row) (NotAllowed row) ≡ stepAt (a .form) (a .profile) (a .seen .now) (a .values .now) (a .left .now)
+    cond t (Step.Field row) (Step.NotAllowed row) ≡ stepAt (a .form) (a .profile) (a .seen .now) (a .values .now) (a .left .now)
 whole c t e =
     let else4 = c .before .before in
     let else3 = else4 .before .before in

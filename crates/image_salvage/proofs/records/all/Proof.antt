@@ -10,7 +10,7 @@ use Rattle.lists.specs.Lists.{laidAt}
 use Rattle.forms.specs.declared.Form.{Form}
 use Rattle.panels.specs.declared.Table.{Table}
 use Rattle.panels.specs.Wall.{tableOf, mostPanels}
-use Rattle.refusals.specs.declared.Refusal.the-variants.{Nothing}
+use Rattle.refusals.specs.declared.Refusal.{Refusal}
 use Rattle.image_whole.specs.Whole.{formOf, countOf, edge, wholeRefusal, recordIn}
 use Rattle.image_whole.proofs.Edges.{Fits, fits, edge-less, edge-inside}
 use Rattle.refusals.proofs.Sound.{sound-nothing}
@@ -203,7 +203,7 @@ returns c =
     let all = ended _ _ (loop .loop .inv .1) (omega (arith, n-is loop, c .before .loop-test .left)) in
     let table = c .table-of .ensures ∙ ap tableOf (all .kept) in
     rw (sound-nothing (wholeRefusal image) (s .pre))
-    (ap₂ {C = Salvaged} (λ (t : Table) (n : ℕ). record { refusal = Nothing; table = t; told = n }) table (all .told), all .laid)
+    (ap₂ {C = Salvaged} (λ (t : Table) (n : ℕ). record { refusal = Refusal.Nothing; table = t; told = n }) table (all .told), all .laid)
 
 pub all-spec : {M : Type 1} → statement M
 all-spec =

@@ -8,11 +8,11 @@ use borrow.Author.Needs.{needs}
 use lib.ListN.{length, take, drop, length-drop}
 use lib.Seq.{take-all}
 use Rattle.lists.specs.Lists.{laidAt}
-use Rattle.profiles.specs.declared.Numbered.the-variants.{Known}
+use Rattle.profiles.specs.declared.Numbered.{Numbered}
 use Rattle.panels.specs.declared.Panel.{Panel}
 use Rattle.forms.specs.Forms.{headSize}
 use Rattle.forms.proofs.Laws.{head-some}
-use Rattle.faults.specs.declared.Fault.the-variants.{Dropped}
+use Rattle.faults.specs.declared.Fault.{Fault}
 use Rattle.image_record.specs.Head.{marked, headIn, headed}
 use Rattle.image_record.proofs.Heads.{head-whole}
 use Rattle.image_salvage.specs.declared.KeptRecord.{KeptRecord}
@@ -27,7 +27,7 @@ abbrev start : tie.After-known-told → tie.Start
 start c = c .before .before .before .before .before .before
 
 -- past the head the profile is known, and the head is whole
-known : (c : tie.After-known-told) → let a = start c .args in headIn (a .form) (marked (a .seen .now)) (a .bytes .now) ≡ Known (c .before .head .given .0 .0)
+known : (c : tie.After-known-told) → let a = start c .args in headIn (a .form) (marked (a .seen .now)) (a .bytes .now) ≡ Numbered.Known (c .before .head .given .0 .0)
 known c = sym (c .before .before .before .head-in .ensures) ∙ c .before .head .given .1
 
 whole : (c : tie.After-known-told) → let a = start c .args in headSize (a .form) ≤ length (a .bytes .now)
@@ -79,7 +79,7 @@ returns c =
     let head = told .before .before in
     let a = head .before .before .before .args in
     let unknown = sym (head .head-in .ensures) ∙ told .enum-told .given .1 in
-    rw (unknown, lines-one (a .number) Dropped)
+    rw (unknown, lines-one (a .number) Fault.Dropped)
     (ap₂ {C = KeptRecord} (λ (p : Panel) (n : ℕ). record { kept = false; panel = p; next = n }) (tell .before .before .blank-panel .ensures) (tell .tell .ensures .0), tell .tell .ensures .1)
 
 head-size-requires : tie.Need-head-size-requires

@@ -8,7 +8,7 @@ use native.Mathlib.Omega.{arith}
 use borrow.Author.Needs.{needs}
 use borrow.Author.Tests.{not-true, not-false}
 use lib.ListN.{length, getD}
-use Rattle.settings.specs.declared.Profile.the-variants.{General}
+use Rattle.settings.specs.declared.Profile.{Profile}
 use Rattle.settings.specs.Settings.{setting, byteCount, place, within, valueCount}
 use Rattle.settings.specs.Private.Numbers.{rangesOf, firstRange, rangeOf, spanOf, paperTable}
 use Rattle.settings.specs.declared.Span.{Span}
@@ -19,7 +19,7 @@ use Rattle.settings.proofs.ranges.general_allowed.Statement.{statement}
 use Rattle.settings.proofs.ranges.general_allowed.Tie as tie
 
 abbrev rest : ℕ → List ℕ → ℕ → Bool
-rest row vs k = allowedAfter (setting row .allowed General) vs k
+rest row vs k = allowedAfter (setting row .allowed Profile.General) vs k
 
 abbrev Inv-loop : tie.InvT-loop
 Inv-loop row values first ranges k₀ k = (k ≤ byteCount row) × (rest row values 0 ≡ rest row values k)
@@ -67,7 +67,7 @@ tried : (c : Ready) (k : ℕ) {p : ℕ} (allowed : Bool) → k < byteCount (row 
     → after c k ≡ allowed && after c (k + 1)
 tried c k {p} allowed h e is =
     let here : p ≡ place (row c) + k = omega (arith, looked c .values-at .ensures .1) in
-    rw (is, here, ← at-place (row c) k h) (allowed-step (setting (row c) .allowed General) (values c) k h (rw (← as-many c) h))
+    rw (is, here, ← at-place (row c) k h) (allowed-step (setting (row c) .allowed Profile.General) (values c) k h (rw (← as-many c) h))
 
 first-tried : (c : tie.After-allowed-at Inv-loop μ-loop) → let ready = c .before .before .before in after ready 0 ≡ c .allowed-at .result && after ready 1
 first-tried c = let ready = c .before .before .before in tried ready 0 (c .allowed-at .result) (some-value ready) (omega arith) (c .allowed-at .ensures)
@@ -95,7 +95,7 @@ cast-if1 : tie.Need-cast-if1 Inv-loop μ-loop
 cast-if1 c = search needs
 
 returns : tie.Need-returns Inv-loop μ-loop
-returns c = sym (other-many General _ _ (λ e. c .if1 .taken (e ∙ sym (c .before .before .before .values-at .ensures .0))))
+returns c = sym (other-many Profile.General _ _ (λ e. c .if1 .taken (e ∙ sym (c .before .before .before .values-at .ensures .0))))
 
 the-table-requires : tie.Need-the-table-requires Inv-loop μ-loop
 the-table-requires c κs = search needs
@@ -162,7 +162,7 @@ returns-4 c =
     let loop = c .before in
     let ready = loop .before .before .before .before .before in
     let all : loop .loop .k ≡ byteCount (row ready) = omega (arith, as-many ready) in
-    sym (loop .loop .inv .1 ∙ allowed-end (setting (row ready) .allowed General) (values ready) (loop .loop .k) all (all ∙ as-many ready))
+    sym (loop .loop .inv .1 ∙ allowed-end (setting (row ready) .allowed Profile.General) (values ready) (loop .loop .k) all (all ∙ as-many ready))
 
 pub general-allowed-spec : {M : Type 1} → statement M
 general-allowed-spec =

@@ -5,15 +5,14 @@ use mathlib.Core.List.{List}
 use Prim.Native.Nat.{ℕ, _<_}
 use borrow.Author.Needs.{needs}
 use Rattle.settings.specs.declared.Profile.{Profile}
-use Rattle.settings.specs.declared.Profile.the-variants.{General, Phoenix}
 use Rattle.settings.specs.Settings.{Range, allAllowed, inRanges, rowCount, videoRow}
 use Rattle.settings.proofs.Laws.{all-else}
 use Rattle.settings.proofs.ranges.in_ranges.Statement.{statement}
 use Rattle.settings.proofs.ranges.in_ranges.Tie as tie
 
-as-general : (profile : Profile) {row : ℕ} (vs : List ℕ) → row < rowCount → (row ≡ videoRow → ⊥) → inRanges General row vs ≡ inRanges profile row vs
-as-general General vs h ne = refl
-as-general Phoenix vs h ne = ap (λ (rs : List (List Range)). allAllowed rs vs) (sym (all-else h ne))
+as-general : (profile : Profile) {row : ℕ} (vs : List ℕ) → row < rowCount → (row ≡ videoRow → ⊥) → inRanges Profile.General row vs ≡ inRanges profile row vs
+as-general Profile.General vs h ne = refl
+as-general Profile.Phoenix vs h ne = ap (λ (rs : List (List Range)). allAllowed rs vs) (sym (all-else h ne))
 
 enum-told : tie.Need-enum-told
 enum-told c = search needs

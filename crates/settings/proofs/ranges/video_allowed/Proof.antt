@@ -8,7 +8,7 @@ use borrow.Author.Needs.{needs}
 use borrow.Author.Tests.{not-true, not-false}
 use lib.Dec.{eqb}
 use lib.ListN.{length, getD}
-use Rattle.settings.specs.declared.Profile.the-variants.{Phoenix}
+use Rattle.settings.specs.declared.Profile.{Profile}
 use Rattle.settings.specs.declared.Span.{Span}
 use Rattle.settings.specs.declared.More.{More}
 use Rattle.settings.specs.declared.Table.{Table}
@@ -25,19 +25,19 @@ unfolding within
 second r q true v = ap (λ (b : Bool). inRange r v || b) (or-false (inRange q v))
 second r q false v = refl
 
-value : {k : ℕ} (v : ℕ) → k < mostValues → within (getD (videoAllowed Phoenix) k []) v ≡ (inRange (videoRange k) v || isMore k v tintBelow)
+value : {k : ℕ} (v : ℕ) → k < mostValues → within (getD (videoAllowed Profile.Phoenix) k []) v ≡ (inRange (videoRange k) v || isMore k v tintBelow)
 value {k} v h =
     let q : Range = record { low = tintBelow .1; high = tintBelow .2 } in
     ap (λ (rs : List Range). within rs v)
-    (alike (λ k. getD (videoAllowed Phoenix) k []) (λ k. videoRange k ∷ cond (eqb (tintBelow .0) k) (q ∷ []) []) mostValues refl h)
+    (alike (λ k. getD (videoAllowed Profile.Phoenix) k []) (λ k. videoRange k ∷ cond (eqb (tintBelow .0) k) (q ∷ []) []) mostValues refl h)
     ∙ second (videoRange k) q (eqb (tintBelow .0) k) v
 
 abbrev rest : List ℕ → ℕ → Bool
-rest vs k = allowedAfter (videoAllowed Phoenix) vs k
+rest vs k = allowedAfter (videoAllowed Profile.Phoenix) vs k
 
 step : (k : ℕ) (vs : List ℕ) → k < mostValues → k < length vs
     → rest vs k ≡ (inRange (videoRange k) (getD vs k 0) || isMore k (getD vs k 0) tintBelow) && rest vs (k + 1)
-step k vs h hv = rw (← value (getD vs k 0) h) (allowed-step (videoAllowed Phoenix) vs k h hv)
+step k vs h hv = rw (← value (getD vs k 0) h) (allowed-step (videoAllowed Profile.Phoenix) vs k h hv)
 
 first-in : {t : Table} {k : ℕ} (d : Span) → t ≡ paperTable → k < mostValues → rangeOf (getD (t .phoenix .ranges) k d) ≡ videoRange k
 unfolding paperTable
@@ -56,7 +56,7 @@ abbrev μ-loop : tie.MeasureT-loop
 
 returns : tie.Need-returns Inv-loop μ-loop
 unfolding settings
-returns c = sym (other-many Phoenix videoRow _ (c .if1 .taken))
+returns c = sym (other-many Profile.Phoenix videoRow _ (c .if1 .taken))
 
 the-table-requires : tie.Need-the-table-requires Inv-loop μ-loop
 the-table-requires c κs = search needs
@@ -121,7 +121,7 @@ returns-3 c =
     let values = loop .before .before .before .before .before .before .before .args .values .now in
     let all : loop .loop .k ≡ mostValues = omega arith in
     let all-values : loop .loop .k ≡ length values = omega arith in
-    sym (loop .loop .inv .1 ∙ allowed-end (videoAllowed Phoenix) values (loop .loop .k) all all-values)
+    sym (loop .loop .inv .1 ∙ allowed-end (videoAllowed Profile.Phoenix) values (loop .loop .k) all all-values)
 
 pub video-allowed-spec : {M : Type 1} → statement M
 video-allowed-spec =
