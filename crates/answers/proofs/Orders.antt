@@ -9,11 +9,11 @@ use lib.ListN.{length, getD, drop, length-drop}
 use Rattle.lists.specs.Lists.{same}
 use Rattle.lists.proofs.Both.{both}
 use Rattle.lists.proofs.Same.{same-first}
-use Rattle.finding.specs.declared.Found.{Found}
+use Rattle.codes.specs.declared.Found.{Found}
 use Rattle.settings.specs.Settings.{settings, getCode, byteCount, place, allowedByRow, valuesOf, rowCount, kindRow, powerRow, off}
-use Rattle.finding.specs.Found.{foundBy}
+use Rattle.codes.specs.Found.{foundBy}
 use Rattle.models.specs.Models.{allowedFor}
-use Rattle.finding.proofs.Laws.{IsFound, found-right}
+use Rattle.codes.proofs.Laws.{IsFound, found-right}
 use Rattle.models.proofs.Laws.{allowed-many}
 use Rattle.models.proofs.Filled.{length-filled}
 use Rattle.panels.specs.declared.Panel.{Panel}

@@ -13,7 +13,7 @@ use crate::Order;
 use crate::PROFILE_COUNT;
 use crate::Reply;
 use crate::TILING_COUNT;
-use finding::Found;
+use codes::Found;
 use panels::Panel;
 use settings::OFF;
 use settings::POWER_ROW;
@@ -28,7 +28,7 @@ pub fn order_of(d: &[u8]) -> Order
     if n == 0 {
         return Order::NotAvailable;
     }
-    let found = finding::find_setting(d[0]);
+    let found = codes::find_setting(d[0]);
     match found {
         Found::Set(row) => Order::Store(row),
         Found::Get(row) => {

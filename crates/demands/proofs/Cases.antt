@@ -2,7 +2,7 @@
 use mathlib.Core.Path.{_≡_, refl}
 use mathlib.Core.List.{map, flatten}
 use Rattle.settings.specs.Settings.{settings, allowedByRow, freshValues, within, allAllowed}
-use Rattle.finding.specs.Found.{foundFrom}
+use Rattle.codes.specs.Found.{foundFrom}
 use Rattle.models.specs.Models.{filled}
 use Rattle.lists.specs.Lists.{laidAt}
 use Rattle.xor.specs.Xor.{_⊕_, xorAll}

@@ -26,15 +26,15 @@ use Rattle.answers.specs.Judged.{command}
 use Rattle.answers.specs.Played.{turned, answeredBy, answered}
 use Rattle.lists.proofs.Mapped.{map-same}
 use Rattle.answers.proofs.Turns.{either-way, stays}
-use Rattle.forms.specs.declared.Form.{Form}
+use Rattle.image_forms.specs.declared.Form.{Form}
 use Rattle.image_write.specs.declared.Written.{Written}
 use Rattle.image_write.specs.Written.{setupOf, sizeOf, losesNothing, writtenOf, refusalNumber as imageNumber, outputOf as imageOutput}
 use Rattle.refusals.specs.declared.Refusal.{Refusal as ImageRefusal}
-use Rattle.image_whole.specs.Whole.{formOf, wholeRefusal, recordsIn}
+use Rattle.image_frame.specs.Whole.{formOf, wholeRefusal, recordsIn}
 use Rattle.refusals.specs.Refusals.{isSound}
 use Rattle.image_read.specs.Read.{Reading, refused, recordRefusal, readRecords, readOf}
 use Rattle.image_read.proofs.OnTheWay.{wallWith}
-use Rattle.image.proofs.Back.{image-size}
+use Rattle.image_back.proofs.Back.{image-size}
 use Rattle.host.specs.declared.Refusal.{Refusal as HostRefusal}
 use Rattle.requests.specs.declared.Request.{Request}
 use Rattle.host.specs.declared.Outcome.{Outcome}

@@ -5,7 +5,7 @@ use mathlib.Core.Logic.{_⊎_, inl, inr}
 use mathlib.Core.Path.{_≡_, refl, sym, ap, _∙_}
 use mathlib.Core.List.{[], _∷_, map}
 use lib.ListN.{length, getD, length-map, List·getD-map}
-use Rattle.finding.proofs.Laws.{get-found}
+use Rattle.codes.proofs.Laws.{get-found}
 use Rattle.packet.specs.declared.MonitorId.{MonitorId}
 use Rattle.packet.specs.declared.GroupId.{GroupId}
 use Rattle.packet.specs.declared.Control.{Control}
@@ -33,7 +33,7 @@ use Rattle.demands.proofs.Cases.{p-cases}
 use Rattle.image_read.specs.Read.{Reading as ImageReading}
 use Rattle.image_read.proofs.Sound.{read-formed}
 use Rattle.image_read.proofs.Order.{read-any-order, read-by-code, left-out}
-use Rattle.image.proofs.Back.{written-back}
+use Rattle.image_back.proofs.Back.{written-back}
 use Rattle.line.proofs.Streams.{stream-after}
 use Rattle.demands.specs.Demand2.{ByReadings, ReadAsWritten, SetBy, OnlyAddressed, Answer·Is, Answers, Received, empty, add, remove, image, burst, InRange, ReadsBack, AnyOrder, ByCode, LeftOut, Cases}
 

@@ -8,14 +8,14 @@ use lib.ListN.{length, take, replicate, length-replicate}
 use Rattle.panels.specs.Wall.{Wall, mostPanels}
 use Rattle.panels.specs.WellFormed.{GoodWall}
 use Rattle.panels.proofs.Laws.{panels-of-table}
-use Rattle.forms.specs.declared.Form.{Form}
+use Rattle.image_forms.specs.declared.Form.{Form}
 use Rattle.refusals.specs.declared.Refusal.{Refusal}
 use Rattle.image_read.specs.Read.{Reading, readOf}
 use Rattle.image_read.proofs.Sound.{read-formed}
 use Rattle.image_write.specs.Written.{setupOf, sizeOf, losesNothing, outputOf}
 use Rattle.image_write.proofs.Losing.{is-written}
-use Rattle.image.proofs.Back.{front-is-image, written-back}
-use Rattle.image.proofs.Held.{read-held}
+use Rattle.image_back.proofs.Back.{front-is-image, written-back}
+use Rattle.image_back.proofs.Held.{read-held}
 use Rattle.demands.specs.Forms.{Moved, SameTable, CanMove, ReadGeneral, ThereAndBack, BackAndThere}
 
 -- the wall read is good and has at most 32 panels

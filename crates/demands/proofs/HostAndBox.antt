@@ -9,13 +9,13 @@ use lib.Dec.{eqb, leb, ltb}
 use lib.ListN.{length, getD, length-take, length-replicate}
 use lib.Seq.{take-append-seam}
 use Rattle.models.specs.declared.Model.{Model}
-use Rattle.finding.specs.declared.Found.{Found}
+use Rattle.codes.specs.declared.Found.{Found}
 use Rattle.settings.specs.Settings.{settings, setCode, getCode, byteCount, valuesOf, rowCount, mostValues, kindRow, powerRow, tilingRow, off}
-use Rattle.finding.specs.Found.{foundBy}
+use Rattle.codes.specs.Found.{foundBy}
 use Rattle.models.specs.Models.{allowedFor, filled}
 use Rattle.lists.proofs.Both.{both}
 use Rattle.settings.proofs.Laws.{byte-count-few}
-use Rattle.finding.proofs.Laws.{IsFound, found-right}
+use Rattle.codes.proofs.Laws.{IsFound, found-right}
 use Rattle.models.proofs.Laws.{allowed-many}
 use Rattle.models.proofs.Filled.{filled-other, filled-there, length-filled}
 use Rattle.tiling.specs.Kinds.{largest, inWall}

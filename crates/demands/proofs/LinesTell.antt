@@ -7,9 +7,9 @@ use native.Mathlib.Omega.{arith}
 use borrow.Author.Tests.{ltb-true, ltb-false}
 use lib.Dec.{ltb}
 use lib.ListN.{getD, drop}
-use Rattle.digits.specs.Digits.{digitOf}
-use Rattle.faults.specs.declared.Fault.{Fault}
-use Rattle.faults.specs.Lines.{space, lineFeed, decimal, faultNumber, codeWords, lineOf}
+use Rattle.hex.specs.Digits.{digitOf}
+use Rattle.image_faults.specs.declared.Fault.{Fault}
+use Rattle.image_faults.specs.Lines.{space, lineFeed, decimal, faultNumber, codeWords, lineOf}
 use Rattle.demands.specs.Salvage.{CodeOf, LinesTell}
 
 -- a hex digit is one digit's

@@ -22,8 +22,8 @@ use Rattle.table_calls.specs.Calls.{refusalNumber as tableNumber, addRefusal}
 use Rattle.answers.specs.declared.Sent.{Sent}
 use Rattle.answers.specs.Reply.{sentBytes, sentOf, refusalNumber as answerNumber}
 use Rattle.image_write.specs.declared.Written.{Written as ImageWriteWritten}
-use Rattle.forms.specs.declared.Form.{Form}
-use Rattle.forms.specs.Forms.{keeps}
+use Rattle.image_forms.specs.declared.Form.{Form}
+use Rattle.image_forms.specs.Forms.{keeps}
 use Rattle.image_write.specs.Written.{sizeOf, losesNothing, writtenOf as imageWritten, refusalNumber as imageNumber}
 use Rattle.image_write.proofs.Losing.{two-holds}
 use Rattle.demands.specs.Numbers.{Add, Remove, isPlain, allPlain, ImageOne, ImageTwo, Answer, Packet}

@@ -11,7 +11,7 @@ use Rattle.lists.specs.Lists.{same}
 use Rattle.lists.proofs.Both.{both}
 use Rattle.models.specs.declared.Model.{Model}
 use Rattle.settings.specs.Settings.{settings, allowedByRow, _to_, within, allAllowed, valuesOf, powerRow, off}
-use Rattle.finding.specs.Found.{foundFrom}
+use Rattle.codes.specs.Found.{foundFrom}
 use Rattle.models.specs.Models.{allowedFor, filled}
 use Rattle.packet.specs.declared.MonitorId.{MonitorId}
 use Rattle.packet.specs.declared.Control.{Control}

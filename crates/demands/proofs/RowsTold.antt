@@ -13,8 +13,8 @@ use Rattle.settings.specs.Settings.{setCode, valuesOf, valuesWith, rowCount}
 use Rattle.models.specs.Models.{modelIn}
 use Rattle.models.proofs.Laws.{allowed-many}
 use Rattle.panels.proofs.Values.{set-row}
-use Rattle.forms.specs.declared.Form.{Form}
-use Rattle.faults.specs.declared.Fault.{Fault}
+use Rattle.image_forms.specs.declared.Form.{Form}
+use Rattle.image_faults.specs.declared.Fault.{Fault}
 use Rattle.image_record.specs.Field.{valuesIn, behind}
 use Rattle.image_record.proofs.OnTheWay.{seenWith}
 use Rattle.image_record.proofs.Steps.{Stands}

@@ -11,16 +11,16 @@ use Rattle.settings.specs.Settings.{setCode, freshValues, valuesOf, rowCount}
 use Rattle.profiles.specs.declared.Numbered.{Numbered}
 use Rattle.panels.specs.Wall.{Wall, tableOf, panelsOf}
 use Rattle.panels.proofs.Laws.{panels-of-table}
-use Rattle.forms.specs.declared.Form.{Form}
-use Rattle.forms.specs.Forms.{headSize}
-use Rattle.faults.specs.declared.Fault.{Fault}
-use Rattle.image_whole.specs.Whole.{formOf, recordsIn}
+use Rattle.image_forms.specs.declared.Form.{Form}
+use Rattle.image_forms.specs.Forms.{headSize}
+use Rattle.image_faults.specs.declared.Fault.{Fault}
+use Rattle.image_frame.specs.Whole.{formOf, recordsIn}
 use Rattle.image_record.specs.Head.{idIn, headIn, headed}
 use Rattle.image_record.proofs.Steps.{none-seen}
 use Rattle.image_record.proofs.Gathering.{none-gathered}
 use Rattle.image_record.proofs.Heads.{head-known}
 use Rattle.image_write.proofs.Losing.{two-holds}
-use Rattle.image.proofs.Back.{reads-back}
+use Rattle.image_back.proofs.Back.{reads-back}
 use Rattle.image_salvage.specs.Kept.{Kept, keptOf, mostFaults}
 use Rattle.image_salvage.specs.Salvaged.{Salvage, salvagedFrom, salvageOf}
 use Rattle.image_salvage.proofs.Sound.{record-dropped, record-kept, salvage-formed}

@@ -2,17 +2,17 @@
 use mathlib.Core.Path.{refl}
 use mathlib.Core.List.{flatten}
 use Rattle.settings.specs.Settings.{settings, allowedByRow, freshValues, within, allAllowed}
-use Rattle.finding.specs.Found.{foundFrom, fieldBy}
+use Rattle.codes.specs.Found.{foundFrom, fieldBy}
 use Rattle.lists.specs.Lists.{laidAt}
 use Rattle.tiling.specs.Kinds.{kindWith, inWall}
 use Rattle.tiling.specs.Walls.{upTo}
 use Rattle.panels.specs.Wall.{placeFrom}
 use Rattle.profiles.specs.Numbers.{profileWith}
 use Rattle.answers.specs.Judged.{stored}
-use Rattle.forms.specs.Forms.{formWith}
-use Rattle.faults.specs.Lines.{lineOf}
+use Rattle.image_forms.specs.Forms.{formWith}
+use Rattle.image_faults.specs.Lines.{lineOf}
 use Rattle.image_write.specs.Written.{startsOf, imageOf}
-use Rattle.image_whole.specs.Whole.{edge, rises, startsFit, wholeRefusal, recordsIn}
+use Rattle.image_frame.specs.Whole.{edge, rises, startsFit, wholeRefusal, recordsIn}
 use Rattle.image_record.specs.Head.{headFits, headIn}
 use Rattle.image_record.specs.Field.{stepAt}
 use Rattle.image_record.specs.Run.{ranFor, runFrom}

@@ -10,12 +10,12 @@ use Rattle.settings.specs.Settings.{freshValues, rowCount}
 use Rattle.profiles.specs.declared.Numbered.{Numbered}
 use Rattle.panels.specs.declared.Panel.{Panel}
 use Rattle.panels.specs.Wall.{Wall}
-use Rattle.forms.specs.declared.Form.{Form}
-use Rattle.forms.specs.Forms.{headSize}
-use Rattle.faults.specs.declared.Fault.{Fault}
+use Rattle.image_forms.specs.declared.Form.{Form}
+use Rattle.image_forms.specs.Forms.{headSize}
+use Rattle.image_faults.specs.declared.Fault.{Fault}
 use Rattle.refusals.specs.declared.Refusal.{Refusal}
 use Rattle.refusals.specs.Refusals.{isSound, refusalNumber}
-use Rattle.image_whole.specs.Whole.{formOf, wholeRefusal, recordsIn}
+use Rattle.image_frame.specs.Whole.{formOf, wholeRefusal, recordsIn}
 use Rattle.refusals.proofs.Sound.{sound-nothing}
 use Rattle.image_record.specs.declared.Step.{Step}
 use Rattle.image_record.specs.Head.{idIn, headIn, headed}

@@ -17,7 +17,7 @@ use Rattle.tiling.proofs.Sizes.{largest-few, panels-few}
 use Rattle.tiling.proofs.Numbers.{number-back}
 use Rattle.models.specs.declared.Model.{Model}
 use Rattle.settings.specs.Settings.{settings, allowedByRow, within, _to_, allAllowed, inRanges, valuesOf, kindRow, tilingRow}
-use Rattle.finding.specs.Found.{foundFrom}
+use Rattle.codes.specs.Found.{foundFrom}
 use Rattle.models.specs.Models.{allowedFor, kindFor, filled}
 use Rattle.settings.proofs.Laws.{value-of}
 use Rattle.packet.specs.Packet.{groupId}

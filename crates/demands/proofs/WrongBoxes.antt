@@ -7,7 +7,7 @@ use mathlib.Core.List.{List, [], _∷_, _++_, map, flatten}
 use native.Mathlib.Omega.{arith}
 use lib.ListN.{length, getD, length-append}
 use Rattle.settings.specs.Settings.{settings, allowedByRow, freshValues, within, allAllowed}
-use Rattle.finding.specs.Found.{foundFrom}
+use Rattle.codes.specs.Found.{foundFrom}
 use Rattle.models.specs.Models.{filled}
 use Rattle.lists.specs.Lists.{laidAt, same}
 use Rattle.packet.specs.declared.Damage.{Damage}

@@ -23,7 +23,7 @@ use Rattle.answers.specs.declared.Reply.{Reply}
 use Rattle.answers.specs.Reply.{sentBytes, sentOf, refusalNumber as answerNumber, outputOf as answerOutput}
 use Rattle.answers.specs.Judged.{command, judge, notAvailable}
 use Rattle.answers.specs.Played.{answered}
-use Rattle.forms.specs.declared.Form.{Form}
+use Rattle.image_forms.specs.declared.Form.{Form}
 use Rattle.refusals.specs.declared.Refusal.{Refusal as RefusalsRefusal}
 use Rattle.image_write.specs.Written.{sizeOf, writtenOf, refusalNumber as imageNumber, outputOf as imageOutput}
 use Rattle.image_read.specs.Read.{readOf}

@@ -7,9 +7,9 @@ use mathlib.Core.Path.{_≡_}
 use mathlib.Core.List.{List, [], _∷_, map, Forall₂}
 use lib.ListN.{length, getD, take}
 use Rattle.settings.specs.declared.Profile.{Profile}
-use Rattle.finding.specs.declared.Found.{Found}
+use Rattle.codes.specs.declared.Found.{Found}
 use Rattle.settings.specs.Settings.{setCode, getCode, valuesOf, rowCount, kindRow, tilingRow}
-use Rattle.finding.specs.Found.{foundBy}
+use Rattle.codes.specs.Found.{foundBy}
 use Rattle.models.specs.Models.{allowedFor, filled}
 use Rattle.packet.specs.declared.MonitorId.{MonitorId}
 use Rattle.packet.specs.declared.GroupId.{GroupId}
@@ -30,12 +30,12 @@ use Rattle.answers.specs.Played.{answered}
 use Rattle.answers.specs.Session.{byBurst, session}
 use Rattle.demands.specs.Cases.{Case, tried, cases}
 use Rattle.line.specs.Receiver.{Event, burstsAfter, receiverOf, streamed}
-use Rattle.forms.specs.declared.Form.{Form}
-use Rattle.forms.specs.Forms.{hasField}
+use Rattle.image_forms.specs.declared.Form.{Form}
+use Rattle.image_forms.specs.Forms.{hasField}
 use Rattle.refusals.specs.declared.Refusal.{Refusal}
 use Rattle.image_write.specs.declared.Written.{Written}
 use Rattle.image_write.specs.Written.{writtenOf, outputOf}
-use Rattle.image_whole.specs.Whole.{formOf, wholeRefusal, recordsIn}
+use Rattle.image_frame.specs.Whole.{formOf, wholeRefusal, recordsIn}
 use Rattle.image_read.specs.Fields.{fieldsIn}
 use Rattle.refusals.specs.Refusals.{isSound}
 use Rattle.image_read.specs.Read.{readOf, inTable}

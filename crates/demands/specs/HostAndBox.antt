@@ -5,10 +5,10 @@ use mathlib.Core.Path.{_≡_}
 use mathlib.Core.List.{List, []}
 use lib.Dec.{eqb}
 use lib.ListN.{getD, replicate}
-use Rattle.finding.specs.declared.Found.{Found}
+use Rattle.codes.specs.declared.Found.{Found}
 use Rattle.tiling.specs.Kinds.{inWall}
 use Rattle.settings.specs.Settings.{valuesOf, tilingRow}
-use Rattle.finding.specs.Found.{foundBy}
+use Rattle.codes.specs.Found.{foundBy}
 use Rattle.packet.specs.Answered.{isHeard}
 use Rattle.panels.specs.declared.Panel.{Panel}
 use Rattle.panels.specs.declared.Table.{Table}

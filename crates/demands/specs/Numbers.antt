@@ -17,7 +17,7 @@ use Rattle.panels.specs.Wall.{Wall, placeOf, ifThere}
 use Rattle.table_calls.specs.Calls.{refusalNumber as tableNumber, addRefusal, removedFrom}
 use Rattle.answers.specs.declared.Reply.{Reply}
 use Rattle.answers.specs.Reply.{sentOf, refusalNumber as answerNumber}
-use Rattle.forms.specs.declared.Form.{Form}
+use Rattle.image_forms.specs.declared.Form.{Form}
 use Rattle.image_write.specs.Written.{writtenOf as imageWritten, refusalNumber as imageNumber}
 
 -- 32 panels are there, ID 0, ID in the table, group 0, a profile that is neither 0 nor 1, a kind that is neither

@@ -12,13 +12,13 @@ use Rattle.profiles.specs.declared.Numbered.{Numbered}
 use Rattle.panels.specs.declared.Panel.{Panel}
 use Rattle.panels.specs.Wall.{Wall, tableOf}
 use Rattle.panels.specs.WellFormed.{WellFormed}
-use Rattle.forms.specs.declared.Form.{Form}
-use Rattle.forms.specs.Forms.{headSize, profileIn}
-use Rattle.faults.specs.declared.Fault.{Fault}
-use Rattle.faults.specs.Lines.{faultNumber, lineOf}
+use Rattle.image_forms.specs.declared.Form.{Form}
+use Rattle.image_forms.specs.Forms.{headSize, profileIn}
+use Rattle.image_faults.specs.declared.Fault.{Fault}
+use Rattle.image_faults.specs.Lines.{faultNumber, lineOf}
 use Rattle.refusals.specs.declared.Refusal.{Refusal}
 use Rattle.refusals.specs.Refusals.{isSound, refusalNumber}
-use Rattle.image_whole.specs.Whole.{formOf, wholeRefusal, recordsIn}
+use Rattle.image_frame.specs.Whole.{formOf, wholeRefusal, recordsIn}
 use Rattle.image_record.specs.declared.Step.{Step}
 use Rattle.image_record.specs.Head.{headed}
 use Rattle.image_record.specs.Field.{stepAt}

@@ -8,7 +8,7 @@ use Rattle.packet.specs.Packet.{monitorId, groupId}
 use Rattle.panels.specs.declared.Panel.{Panel}
 use Rattle.panels.specs.Wall.{Wall, freshPanel}
 use Rattle.answers.specs.Judged.{stored}
-use Rattle.forms.specs.declared.Form.{Form}
+use Rattle.image_forms.specs.declared.Form.{Form}
 use Rattle.image_write.specs.Written.{imageOf}
 use Rattle.image_salvage.specs.Salvaged.{salvageOf, textOf}
 

@@ -3,7 +3,7 @@
 ghost use Prim.Native.Nat.{_≤_, _<_};
 ghost use lib.ListN.{length};
 ghost use Rattle.panels.specs.WellFormed.{WellFormed};
-use forms::Form;
+use image_forms::Form;
 use image_write::LARGEST;
 use image_write::Written;
 use panels::Table;

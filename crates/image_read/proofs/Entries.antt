@@ -10,14 +10,14 @@ use lib.ListN.{length, getD, length-append, length-set}
 use lib.Seq.{take-at, drop-at, getD-set-other}
 use Rattle.settings.specs.declared.Profile.{Profile}
 use Rattle.models.specs.declared.Model.{Model}
-use Rattle.finding.specs.declared.Found.{Found}
+use Rattle.codes.specs.declared.Found.{Found}
 use Rattle.settings.specs.Settings.{setCode, byteCount, valuesOf, valuesWith, rowCount, valueCount, kindRow, tilingRow}
-use Rattle.finding.specs.Found.{fieldBy}
+use Rattle.codes.specs.Found.{fieldBy}
 use Rattle.models.specs.Models.{kindFor, allowedFor, modelIn}
-use Rattle.finding.proofs.Laws.{field-found}
+use Rattle.codes.proofs.Laws.{field-found}
 use Rattle.models.proofs.Laws.{allowed-many, kind-free}
-use Rattle.forms.specs.declared.Form.{Form}
-use Rattle.forms.specs.Forms.{hasField}
+use Rattle.image_forms.specs.declared.Form.{Form}
+use Rattle.image_forms.specs.Forms.{hasField}
 use Rattle.panels.proofs.Values.{length-with, other-row}
 use Rattle.refusals.specs.declared.Refusal.{Refusal}
 use Rattle.image_record.specs.declared.Step.{Step}

@@ -8,8 +8,8 @@ use Rattle.settings.specs.declared.Profile.{Profile}
 use Rattle.profiles.specs.declared.Numbered.{Numbered}
 use Rattle.profiles.specs.Numbers.{ifKnown}
 use Rattle.panels.specs.Wall.{Wall}
-use Rattle.forms.specs.declared.Form.{Form}
-use Rattle.forms.specs.Forms.{headSize}
+use Rattle.image_forms.specs.declared.Form.{Form}
+use Rattle.image_forms.specs.Forms.{headSize}
 use Rattle.refusals.specs.declared.Refusal.{Refusal}
 use Rattle.refusals.specs.Refusals.{isSound}
 use Rattle.image_record.specs.Head.{idIn, headIn}

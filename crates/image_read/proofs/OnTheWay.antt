@@ -4,7 +4,7 @@ use Prim.Native.Nat.{ℕ}
 use mathlib.Core.List.{List, [], _∷_, _++_}
 use Rattle.settings.specs.Settings.{setCode, valuesOf}
 use Rattle.panels.specs.Wall.{Wall}
-use Rattle.forms.specs.declared.Form.{Form}
+use Rattle.image_forms.specs.declared.Form.{Form}
 use Rattle.image_read.specs.Read.{panelIn}
 use Rattle.image_read.specs.Entries.{Entry}
 

@@ -9,19 +9,19 @@ use lib.Dec.{eqb}
 use lib.ListN.{length, replicate}
 use Rattle.settings.specs.declared.Profile.{Profile}
 use Rattle.models.specs.declared.Model.{Model}
-use Rattle.finding.specs.declared.Found.{Found}
+use Rattle.codes.specs.declared.Found.{Found}
 use Rattle.settings.specs.Settings.{setCode, freshValues, valuesOf, rowCount, valueCount, kindRow, tilingRow}
-use Rattle.finding.specs.Found.{fieldBy}
+use Rattle.codes.specs.Found.{fieldBy}
 use Rattle.models.specs.Models.{modelIn}
 use Rattle.settings.proofs.Laws.{fresh-count}
-use Rattle.finding.proofs.Laws.{field-found}
+use Rattle.codes.proofs.Laws.{field-found}
 use Rattle.models.proofs.Laws.{fresh-allowed}
 use Rattle.panels.specs.Wall.{Wall}
-use Rattle.forms.specs.declared.Form.{Form}
-use Rattle.forms.specs.Forms.{hasField}
+use Rattle.image_forms.specs.declared.Form.{Form}
+use Rattle.image_forms.specs.Forms.{hasField}
 use Rattle.image_read.specs.declared.Fields.{Fields}
 use Rattle.refusals.specs.declared.Refusal.{Refusal}
-use Rattle.image_whole.specs.Whole.{formOf, wholeRefusal, recordsIn}
+use Rattle.image_frame.specs.Whole.{formOf, wholeRefusal, recordsIn}
 use Rattle.image_read.specs.Fields.{fieldsIn}
 use Rattle.refusals.specs.Refusals.{isSound}
 use Rattle.image_read.specs.Read.{recordRefusal, panelIn, refused, readRecords, readOf}

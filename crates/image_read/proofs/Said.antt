@@ -13,9 +13,9 @@ use Rattle.profiles.specs.Numbers.{ifKnown}
 use Rattle.packet.specs.Packet.{monitorId, groupId}
 use Rattle.panels.specs.declared.Panel.{Panel}
 use Rattle.panels.specs.Wall.{Wall}
-use Rattle.forms.specs.declared.Form.{Form}
-use Rattle.forms.specs.Forms.{headSize, headOf, holds}
-use Rattle.forms.proofs.Laws.{head-length, profile-back, behind-head}
+use Rattle.image_forms.specs.declared.Form.{Form}
+use Rattle.image_forms.specs.Forms.{headSize, headOf, holds}
+use Rattle.image_forms.proofs.Laws.{head-length, profile-back, behind-head}
 use Rattle.refusals.specs.declared.Refusal.{Refusal}
 use Rattle.image_record.specs.Head.{idIn, headFits, headIn}
 use Rattle.image_read.specs.declared.Fields.{Fields}

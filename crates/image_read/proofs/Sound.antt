@@ -15,12 +15,12 @@ use Rattle.panels.specs.Wall.{Wall, tableOf, mostPanels}
 use Rattle.panels.specs.WellFormed.{GoodWall, WellFormed}
 use Rattle.panels.proofs.Formed.{formed, empty-formed}
 use Rattle.panels.proofs.Values.{InRange}
-use Rattle.forms.specs.declared.Form.{Form}
-use Rattle.forms.specs.Forms.{headSize, profileIn, hasField}
+use Rattle.image_forms.specs.declared.Form.{Form}
+use Rattle.image_forms.specs.Forms.{headSize, profileIn, hasField}
 use Rattle.refusals.specs.declared.Refusal.{Refusal}
 use Rattle.refusals.specs.Refusals.{isSound}
-use Rattle.image_whole.specs.Whole.{formOf, countOf, recordIn, recordsIn, wholeRefusal}
-use Rattle.image_whole.proofs.Edges.{fits, record-next}
+use Rattle.image_frame.specs.Whole.{formOf, countOf, recordIn, recordsIn, wholeRefusal}
+use Rattle.image_frame.proofs.Edges.{fits, record-next}
 use Rattle.image_record.specs.Head.{idIn, headIn}
 use Rattle.image_record.proofs.Gathering.{Gathering, none-gathered}
 use Rattle.image_record.proofs.Runs.{run-gathers}

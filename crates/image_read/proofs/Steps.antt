@@ -5,7 +5,7 @@ use mathlib.Core.List.{List}
 use Prim.Native.Nat.{ℕ}
 use Rattle.settings.specs.declared.Profile.{Profile}
 use Rattle.settings.specs.Settings.{valuesWith}
-use Rattle.forms.specs.declared.Form.{Form}
+use Rattle.image_forms.specs.declared.Form.{Form}
 use Rattle.refusals.specs.declared.Refusal.{Refusal}
 use Rattle.image_record.specs.declared.Step.{Step}
 use Rattle.image_record.specs.Field.{valuesIn, behind, stepAt}

@@ -9,8 +9,8 @@ use lib.Dec.{eqb}
 use lib.ListN.{length}
 use Rattle.settings.specs.declared.Profile.{Profile}
 use Rattle.settings.specs.Settings.{setCode, freshValues, valuesOf, rowCount, kindRow, tilingRow}
-use Rattle.forms.specs.declared.Form.{Form}
-use Rattle.forms.specs.Forms.{headOf, holds, hasField}
+use Rattle.image_forms.specs.declared.Form.{Form}
+use Rattle.image_forms.specs.Forms.{headOf, holds, hasField}
 use Rattle.refusals.specs.declared.Refusal.{Refusal}
 use Rattle.image_read.specs.Fields.{fieldsIn}
 

@@ -8,11 +8,11 @@ use Rattle.settings.specs.declared.Profile.{Profile}
 use Rattle.profiles.specs.Numbers.{ifKnown}
 use Rattle.panels.specs.declared.Panel.{Panel}
 use Rattle.panels.specs.Wall.{Wall, blank, tableOf}
-use Rattle.forms.specs.declared.Form.{Form}
-use Rattle.forms.specs.Forms.{headSize, profileIn}
+use Rattle.image_forms.specs.declared.Form.{Form}
+use Rattle.image_forms.specs.Forms.{headSize, profileIn}
 use Rattle.refusals.specs.declared.Refusal.{Refusal}
 use Rattle.refusals.specs.Refusals.{isSound}
-use Rattle.image_whole.specs.Whole.{formOf, wholeRefusal, recordsIn}
+use Rattle.image_frame.specs.Whole.{formOf, wholeRefusal, recordsIn}
 use Rattle.image_record.specs.Head.{idIn, headIn, headed}
 use Rattle.image_read.specs.declared.Read.{Read}
 use Rattle.image_read.specs.Fields.{fieldsIn}

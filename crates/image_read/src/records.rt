@@ -3,13 +3,13 @@ ghost use mathlib.Core.Path.{_≡_};
 ghost use mathlib.Core.Bool.{true};
 ghost use mathlib.Core.List.{[]};
 ghost use Rattle.refusals.specs.Refusals.{isSound};
-ghost use Rattle.image_whole.specs.Whole.{formOf, wholeRefusal, recordsIn};
+ghost use Rattle.image_frame.specs.Whole.{formOf, wholeRefusal, recordsIn};
 ghost use Rattle.image_read.specs.Read.{readRecords, inTable};
 ghost use Rattle.image_read.specs.Private.Marked.{noPanel, panelBy};
 use crate::Read;
 use crate::ReadPanel;
 use crate::walk;
-use forms::Form;
+use image_forms::Form;
 use image_record::ID_COUNT;
 use packet::GroupId;
 use packet::MonitorId;
@@ -37,7 +37,7 @@ fn panel_of(form: Form, bytes: &[u8], seen: &[bool; ID_COUNT]) -> ReadPanel
     let Numbered::Known(profile) = head else {
         return no_panel();
     };
-    let fields = walk::fields_of(form, profile, &bytes[forms::head_size(form)..]);
+    let fields = walk::fields_of(form, profile, &bytes[image_forms::head_size(form)..]);
     let refusal = fields.refusal;
     let values = fields.values;
     let panel = Panel {
@@ -54,15 +54,15 @@ pub fn all(image: &[u8]) -> Read
     requires { ⌜ isSound (wholeRefusal (now image)) ≡ true ⌝ }
     ensures { λ r. ⌜ r ≡ inTable (readRecords (formOf (now (image .entry))) [] (recordsIn (now (image .entry)))) ⌝ }
 {
-    let form = image_whole::form_of(image);
-    let n = image_whole::count_of(image);
+    let form = image_frame::form_of(image);
+    let n = image_frame::count_of(image);
     let blank = panels::blank_panel();
     let mut places = [blank; MOST_PANELS];
     let mut seen = [false; ID_COUNT];
     let mut start = 0;
     let mut k = 0;
     while k < n {
-        let end = image_whole::edge_at(image, n, k + 1);
+        let end = image_frame::edge_at(image, n, k + 1);
         let read = panel_of(form, &image[start..end], &seen);
         let refusal = read.refusal;
         if refusals::refusal_number(refusal) != 0 {

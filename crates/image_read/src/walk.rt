@@ -2,7 +2,7 @@
 ghost use mathlib.Core.Path.{_≡_};
 ghost use Rattle.image_read.specs.Fields.{refusalAt, fieldsIn};
 use crate::Fields;
-use forms::Form;
+use image_forms::Form;
 use image_record::Step;
 use refusals::Refusal;
 use settings::Profile;

@@ -10,8 +10,8 @@ use Rattle.settings.specs.Settings.{freshValues, valuesOf, valuesWith, rowCount
 use Rattle.models.specs.Models.{modelIn}
 use Rattle.models.proofs.Laws.{allowed-many}
 use Rattle.panels.proofs.Values.{InRange, other-row, fresh-in-range, with-in-range}
-use Rattle.forms.specs.declared.Form.{Form}
-use Rattle.forms.specs.Forms.{hasField}
+use Rattle.image_forms.specs.declared.Form.{Form}
+use Rattle.image_forms.specs.Forms.{hasField}
 use Rattle.image_record.specs.Field.{valuesIn}
 use Rattle.image_record.proofs.OnTheWay.{seenWith}
 use Rattle.image_record.proofs.Steps.{none-seen, seen-apart, Stands}

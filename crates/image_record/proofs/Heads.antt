@@ -18,8 +18,8 @@ use Rattle.panels.specs.Wall.{Wall, placeFrom, placeOf, ifThere}
 use Rattle.panels.specs.WellFormed.{GoodWall}
 use Rattle.panels.proofs.Formed.{nowhere-absent, good-snoc}
 use Rattle.panels.proofs.Values.{InRange}
-use Rattle.forms.specs.declared.Form.{Form}
-use Rattle.forms.specs.Forms.{headSize, profileIn}
+use Rattle.image_forms.specs.declared.Form.{Form}
+use Rattle.image_forms.specs.Forms.{headSize, profileIn}
 use Rattle.image_record.specs.Head.{idIn, marked, headFits, headIn, headed}
 use Rattle.image_record.proofs.Steps.{none-seen}
 

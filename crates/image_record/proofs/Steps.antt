@@ -9,13 +9,13 @@ use lib.Dec.{ltb, eqb}
 use lib.ListN.{length, getD, replicate, length-drop}
 use lib.Seq.{getD-set-same, getD-set-other}
 use Rattle.settings.specs.declared.Profile.{Profile}
-use Rattle.finding.specs.declared.Found.{Found}
+use Rattle.codes.specs.declared.Found.{Found}
 use Rattle.settings.specs.Settings.{setCode, byteCount, rowCount, kindRow, tilingRow}
-use Rattle.finding.specs.Found.{fieldBy}
+use Rattle.codes.specs.Found.{fieldBy}
 use Rattle.models.specs.Models.{allowedFor, modelIn}
-use Rattle.finding.proofs.Laws.{IsField, field-right, field-found}
-use Rattle.forms.specs.declared.Form.{Form}
-use Rattle.forms.specs.Forms.{hasField}
+use Rattle.codes.proofs.Laws.{IsField, field-right, field-found}
+use Rattle.image_forms.specs.declared.Form.{Form}
+use Rattle.image_forms.specs.Forms.{hasField}
 use Rattle.image_record.specs.declared.Step.{Step}
 use Rattle.image_record.specs.Field.{valuesIn, behind, misplaced, fieldOf, stepAt}
 use Rattle.image_record.proofs.OnTheWay.{seenWith}

@@ -6,12 +6,12 @@ use mathlib.Core.List.{List}
 use lib.Dec.{ltb, eqb}
 use lib.ListN.{length, getD, take, drop}
 use Rattle.settings.specs.declared.Profile.{Profile}
-use Rattle.finding.specs.declared.Found.{Found}
+use Rattle.codes.specs.declared.Found.{Found}
 use Rattle.settings.specs.Settings.{byteCount, kindRow, tilingRow}
-use Rattle.finding.specs.Found.{fieldBy}
+use Rattle.codes.specs.Found.{fieldBy}
 use Rattle.models.specs.Models.{allowedFor, modelIn}
-use Rattle.forms.specs.declared.Form.{Form}
-use Rattle.forms.specs.Forms.{hasField}
+use Rattle.image_forms.specs.declared.Form.{Form}
+use Rattle.image_forms.specs.Forms.{hasField}
 use Rattle.image_record.specs.declared.Step.{Step}
 
 -- the values of a row's field at the front of the bytes that are left: behind set code and length

@@ -9,8 +9,8 @@ use Rattle.settings.specs.declared.Profile.{Profile}
 use Rattle.packet.specs.Packet.{monitorId, groupId}
 use Rattle.panels.specs.declared.Panel.{Panel}
 use Rattle.panels.specs.Wall.{Wall, placeOf, ifThere}
-use Rattle.forms.specs.declared.Form.{Form}
-use Rattle.forms.specs.Forms.{headSize, profileIn}
+use Rattle.image_forms.specs.declared.Form.{Form}
+use Rattle.image_forms.specs.Forms.{headSize, profileIn}
 
 -- the IDs seen before: those of a wall, or those that are marked
 abbrev pub idIn : Wall → ℕ → Bool

@@ -5,8 +5,8 @@ ghost use Rattle.settings.specs.Settings.{rowCount};
 ghost use Rattle.models.specs.Models.{allowedFor, modelIn};
 ghost use Rattle.image_record.specs.Field.{misplaced, stepAt};
 use crate::Step;
-use finding::Found;
-use forms::Form;
+use codes::Found;
+use image_forms::Form;
 use settings::KIND_ROW;
 use settings::Profile;
 use settings::ROW_COUNT;
@@ -18,7 +18,7 @@ fn is_misplaced(form: Form, row: usize, seen: &[bool; ROW_COUNT]) -> bool
     requires { ⌜ row < rowCount ⌝ }
     ensures { λ r. ⌜ r ≡ misplaced form (now (seen .entry)) row ⌝ }
 {
-    if !forms::has_field(form, row) {
+    if !image_forms::has_field(form, row) {
         return true;
     }
     if seen[row] {
@@ -53,7 +53,7 @@ pub fn step_at(
     if n == 0 {
         return Step::End;
     }
-    let found = finding::find_field(left[0]);
+    let found = codes::find_field(left[0]);
     let Found::Set(row) = found else {
         return Step::Broken;
     };

@@ -4,10 +4,10 @@ mod fields;
 ghost use mathlib.Core.Path.{_≡_};
 ghost use Prim.Native.Nat.{_≤_};
 ghost use lib.ListN.{length};
-ghost use Rattle.forms.specs.Forms.{headSize, profileIn};
+ghost use Rattle.image_forms.specs.Forms.{headSize, profileIn};
 ghost use Rattle.image_record.specs.Head.{marked, headFits, headIn};
 ghost use Rattle.image_record.specs.Run.{runFrom, stopOf};
-use forms::Form;
+use image_forms::Form;
 use profiles::Numbered;
 use settings::Profile;
 use settings::ROW_COUNT;
@@ -34,7 +34,7 @@ pub struct Stop {
 fn head_fits(form: Form, bytes: &[u8], seen: &[bool; ID_COUNT]) -> bool
     ensures { λ r. ⌜ r ≡ headFits form (marked (now (seen .entry))) (now (bytes .entry)) ⌝ }
 {
-    if bytes.len() < forms::head_size(form) {
+    if bytes.len() < image_forms::head_size(form) {
         return false;
     }
     let id = bytes[0];

@@ -9,8 +9,8 @@ use native.Mathlib.Omega.{arith}
 use lib.ListN.{length, getD}
 use Rattle.settings.specs.declared.Profile.{Profile}
 use Rattle.settings.specs.Settings.{valuesWith}
-use Rattle.forms.specs.declared.Form.{Form}
-use Rattle.faults.specs.declared.Fault.{Fault}
+use Rattle.image_forms.specs.declared.Form.{Form}
+use Rattle.image_faults.specs.declared.Fault.{Fault}
 use Rattle.image_record.specs.declared.Step.{Step}
 use Rattle.image_record.specs.Field.{valuesIn, behind, stepAt}
 use Rattle.image_record.specs.Run.{afterStep, ranFor, runFrom}

@@ -10,10 +10,10 @@ use lib.Seq.{getD-drop, drop-drop}
 use Rattle.settings.specs.declared.Profile.{Profile}
 use Rattle.settings.specs.Settings.{byteCount, freshValues, rowCount}
 use Rattle.lists.specs.Lists.{laidAt}
-use Rattle.forms.specs.declared.Form.{Form}
-use Rattle.faults.specs.declared.Fault.{Fault}
-use Rattle.faults.specs.Lines.{lineOf, longestLine}
-use Rattle.faults.proofs.Laws.{line-short}
+use Rattle.image_forms.specs.declared.Form.{Form}
+use Rattle.image_faults.specs.declared.Fault.{Fault}
+use Rattle.image_faults.specs.Lines.{lineOf, longestLine}
+use Rattle.image_faults.proofs.Laws.{line-short}
 use Rattle.image_record.specs.declared.Step.{Step}
 use Rattle.image_record.specs.Field.{behind}
 use Rattle.image_record.specs.Run.{Run, runFrom}

@@ -17,12 +17,12 @@ use Rattle.profiles.specs.Numbers.{ifKnown}
 use Rattle.panels.specs.declared.Panel.{Panel}
 use Rattle.panels.specs.Wall.{Wall, blank, inPlaces, mostPanels}
 use Rattle.panels.proofs.Laws.{none-held, one-held}
-use Rattle.forms.specs.declared.Form.{Form}
-use Rattle.forms.specs.Forms.{headSize}
-use Rattle.faults.specs.declared.Fault.{Fault}
-use Rattle.faults.specs.Lines.{longestLine}
-use Rattle.image_whole.specs.Whole.{formOf, countOf, recordIn, recordsIn}
-use Rattle.image_whole.proofs.Edges.{Fits, record-next, record-count}
+use Rattle.image_forms.specs.declared.Form.{Form}
+use Rattle.image_forms.specs.Forms.{headSize}
+use Rattle.image_faults.specs.declared.Fault.{Fault}
+use Rattle.image_faults.specs.Lines.{longestLine}
+use Rattle.image_frame.specs.Whole.{formOf, countOf, recordIn, recordsIn}
+use Rattle.image_frame.proofs.Edges.{Fits, record-next, record-count}
 use Rattle.image_record.specs.Head.{marked, headIn, headed}
 use Rattle.image_record.proofs.Heads.{Marks, none-marked, one-more as one-marked, head-alike}
 use Rattle.image_salvage.specs.declared.KeptRecord.{KeptRecord}

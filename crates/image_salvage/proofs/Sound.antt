@@ -11,12 +11,12 @@ use Rattle.panels.specs.Wall.{Wall, tableOf, mostPanels}
 use Rattle.panels.specs.WellFormed.{GoodWall, WellFormed}
 use Rattle.panels.proofs.Formed.{formed, empty-formed}
 use Rattle.panels.proofs.Values.{InRange}
-use Rattle.forms.specs.declared.Form.{Form}
-use Rattle.forms.specs.Forms.{headSize}
-use Rattle.faults.specs.declared.Fault.{Fault}
+use Rattle.image_forms.specs.declared.Form.{Form}
+use Rattle.image_forms.specs.Forms.{headSize}
+use Rattle.image_faults.specs.declared.Fault.{Fault}
 use Rattle.refusals.specs.Refusals.{isSound}
-use Rattle.image_whole.specs.Whole.{formOf, recordsIn, wholeRefusal}
-use Rattle.image_whole.proofs.Edges.{fits, record-count}
+use Rattle.image_frame.specs.Whole.{formOf, recordsIn, wholeRefusal}
+use Rattle.image_frame.proofs.Edges.{fits, record-count}
 use Rattle.image_record.specs.declared.Step.{Step}
 use Rattle.image_record.specs.Head.{idIn, headIn, headed}
 use Rattle.image_record.specs.Run.{runFrom}

@@ -8,13 +8,13 @@ use lib.ListN.{length, drop, replicate, length-append}
 use Rattle.settings.specs.Settings.{freshValues, rowCount}
 use Rattle.profiles.specs.declared.Numbered.{Numbered}
 use Rattle.panels.specs.Wall.{Wall, mostPanels}
-use Rattle.forms.specs.declared.Form.{Form}
-use Rattle.forms.specs.Forms.{headSize}
-use Rattle.faults.specs.declared.Fault.{Fault}
-use Rattle.faults.specs.Lines.{longestLine}
+use Rattle.image_forms.specs.declared.Form.{Form}
+use Rattle.image_forms.specs.Forms.{headSize}
+use Rattle.image_faults.specs.declared.Fault.{Fault}
+use Rattle.image_faults.specs.Lines.{longestLine}
 use Rattle.refusals.specs.Refusals.{isSound}
-use Rattle.image_whole.specs.Whole.{formOf, recordsIn, wholeRefusal}
-use Rattle.image_whole.proofs.Edges.{fits, record-count}
+use Rattle.image_frame.specs.Whole.{formOf, recordsIn, wholeRefusal}
+use Rattle.image_frame.proofs.Edges.{fits, record-count}
 use Rattle.image_record.specs.Head.{idIn, headIn}
 use Rattle.image_salvage.specs.Kept.{mostFaults}
 use Rattle.image_salvage.specs.Salvaged.{Salvage, salvagedFrom, salvageOf, linesOf, textFrom, textOf, linesCap}

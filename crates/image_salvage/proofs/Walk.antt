@@ -7,9 +7,9 @@ use lib.ListN.{getD}
 use Rattle.settings.specs.declared.Profile.{Profile}
 use Rattle.settings.specs.Settings.{freshValues, valuesOf, valuesWith}
 use Rattle.panels.proofs.Values.{with-own}
-use Rattle.forms.specs.declared.Form.{Form}
-use Rattle.faults.specs.declared.Fault.{Fault}
-use Rattle.faults.specs.Lines.{lineOf}
+use Rattle.image_forms.specs.declared.Form.{Form}
+use Rattle.image_faults.specs.declared.Fault.{Fault}
+use Rattle.image_faults.specs.Lines.{lineOf}
 use Rattle.image_record.specs.declared.Step.{Step}
 use Rattle.image_record.specs.Field.{behind}
 use Rattle.image_record.specs.Run.{Run, runFrom}

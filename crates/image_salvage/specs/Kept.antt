@@ -6,8 +6,8 @@ use mathlib.Core.List.{List, [], _∷_}
 use lib.ListN.{getD, set, replicate}
 use Rattle.settings.specs.declared.Profile.{Profile}
 use Rattle.settings.specs.Settings.{freshValues, valuesOf, valuesWith, rowCount}
-use Rattle.forms.specs.declared.Form.{Form}
-use Rattle.faults.specs.declared.Fault.{Fault}
+use Rattle.image_forms.specs.declared.Form.{Form}
+use Rattle.image_faults.specs.declared.Fault.{Fault}
 use Rattle.image_record.specs.declared.Step.{Step}
 use Rattle.image_record.specs.Field.{behind}
 use Rattle.image_record.specs.Run.{runFrom}

@@ -4,13 +4,13 @@ ghost use mathlib.Core.List.{List};
 ghost use Prim.Native.Nat.{ℕ, _+_, _*_, _≤_};
 ghost use lib.ListN.{length};
 ghost use Rattle.lists.specs.Lists.{laidAt};
-ghost use Rattle.faults.specs.Lines.{lineOf, longestLine};
+ghost use Rattle.image_faults.specs.Lines.{lineOf, longestLine};
 ghost use Rattle.image_salvage.specs.Kept.{keptOf, mostFaults};
 ghost use Rattle.image_salvage.specs.Salvaged.{linesOf};
 use crate::KeptFields;
 use crate::MOST_FAULTS;
-use faults::Fault;
-use forms::Form;
+use image_faults::Fault;
+use image_forms::Form;
 use image_record::Step;
 use settings::Profile;
 use settings::ROW_COUNT;
@@ -21,7 +21,7 @@ pub fn tell(number: u8, fault: Fault, lines: &mut [u8], at: usize) -> usize
     ensures { λ r. ⌜ r ≡ at + length (lineOf number fault) ⌝ }
     ensures { λ _. ⌜ now (lines .exit) ≡ laidAt at (lineOf number fault) (now (lines .entry)) ⌝ }
 {
-    let line = faults::line_of(number, fault);
+    let line = image_faults::line_of(number, fault);
     let text = line.bytes;
     let n = line.count;
     bytes::copy(&text[..n], &mut lines[at..]);

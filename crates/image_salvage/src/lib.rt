@@ -5,7 +5,7 @@ mod records;
 ghost use mathlib.Core.Path.{_≡_};
 ghost use Rattle.lists.specs.Lists.{laidOver};
 ghost use Rattle.image_salvage.specs.Salvaged.{salvageOf, textOf, salvagedAs};
-use faults::LONGEST_LINE;
+use image_faults::LONGEST_LINE;
 use panels::MOST_PANELS;
 use panels::Panel;
 use panels::Table;
@@ -44,7 +44,7 @@ pub fn salvage(image: &[u8], lines: &mut [u8; LINES_CAP]) -> Salvaged
     ensures { λ r. ⌜ r ≡ salvagedAs (now (image .entry)) ⌝ }
     ensures { λ _. ⌜ now (lines .exit) ≡ laidOver (textOf (salvageOf (now (image .entry)))) (now (lines .entry)) ⌝ }
 {
-    let refusal = image_whole::refusal_of(image);
+    let refusal = image_frame::refusal_of(image);
     if refusals::refusal_number(refusal) != 0 {
         let table = panels::empty_table();
         return Salvaged {

@@ -4,9 +4,9 @@ ghost use mathlib.Core.Bool.{true};
 ghost use Prim.Native.Nat.{_+_, _*_, _≤_, _<_};
 ghost use lib.ListN.{length};
 ghost use Rattle.lists.specs.Lists.{laidAt, laidOver};
-ghost use Rattle.faults.specs.Lines.{longestLine};
+ghost use Rattle.image_faults.specs.Lines.{longestLine};
 ghost use Rattle.refusals.specs.Refusals.{isSound};
-ghost use Rattle.image_whole.specs.Whole.{wholeRefusal};
+ghost use Rattle.image_frame.specs.Whole.{wholeRefusal};
 ghost use Rattle.image_salvage.specs.Kept.{mostFaults};
 ghost use Rattle.image_salvage.specs.Salvaged.{linesOf, salvageOf, textOf, salvagedAs};
 ghost use Rattle.image_salvage.specs.Private.Marked.{recordBy, faultsBy};
@@ -14,8 +14,8 @@ use crate::KeptRecord;
 use crate::LINES_CAP;
 use crate::Salvaged;
 use crate::fields;
-use faults::Fault;
-use forms::Form;
+use image_faults::Fault;
+use image_forms::Form;
 use image_record::ID_COUNT;
 use packet::GroupId;
 use packet::MonitorId;
@@ -48,7 +48,7 @@ fn record(
             next,
         };
     };
-    let behind = &bytes[forms::head_size(form)..];
+    let behind = &bytes[image_forms::head_size(form)..];
     let fields = fields::kept(form, profile, number, behind, lines, from);
     let values = fields.values;
     let next = fields.next;
@@ -71,8 +71,8 @@ pub fn all(image: &[u8], lines: &mut [u8; LINES_CAP]) -> Salvaged
     ensures { λ r. ⌜ r ≡ salvagedAs (now (image .entry)) ⌝ }
     ensures { λ _. ⌜ now (lines .exit) ≡ laidOver (textOf (salvageOf (now (image .entry)))) (now (lines .entry)) ⌝ }
 {
-    let form = image_whole::form_of(image);
-    let n = image_whole::count_of(image);
+    let form = image_frame::form_of(image);
+    let n = image_frame::count_of(image);
     let blank = panels::blank_panel();
     let mut places = [blank; MOST_PANELS];
     let mut dropped = 0;
@@ -80,8 +80,8 @@ pub fn all(image: &[u8], lines: &mut [u8; LINES_CAP]) -> Salvaged
     let mut next = 0;
     let mut k = 0;
     while k < n {
-        let start = image_whole::edge_at(image, n, k);
-        let end = image_whole::edge_at(image, n, k + 1);
+        let start = image_frame::edge_at(image, n, k);
+        let end = image_frame::edge_at(image, n, k + 1);
         k += 1;
         let record = record(form, k as u8, &image[start..end], &seen, lines, next);
         next = record.next;

@@ -8,9 +8,9 @@ use lib.ListN.{length, getD, take, replicate, length-append, length-map, length-
 use lib.Seq.{take-all}
 use Rattle.panels.proofs.Values.{length-values}
 use Rattle.settings.specs.Settings.{settings, byteCount, valueCount, rowCount, valuesOf}
-use Rattle.forms.specs.declared.Form.{Form}
-use Rattle.forms.specs.Forms.{headSize, headOf, hasField}
-use Rattle.forms.proofs.Laws.{head-length, head-some}
+use Rattle.image_forms.specs.declared.Form.{Form}
+use Rattle.image_forms.specs.Forms.{headSize, headOf, hasField}
+use Rattle.image_forms.proofs.Laws.{head-length, head-some}
 use Rattle.lists.specs.Lists.{startOf, each}
 use Rattle.lists.proofs.Each.{in-each, length-each, each-alike}
 use Rattle.panels.specs.declared.Panel.{Panel}

@@ -9,9 +9,9 @@ use lib.Dec.{leb}
 use lib.ListN.{length}
 use Rattle.panels.specs.declared.Panel.{Panel}
 use Rattle.panels.specs.Wall.{Wall}
-use Rattle.forms.specs.declared.Form.{Form}
-use Rattle.forms.specs.Forms.{keeps}
-use Rattle.forms.proofs.Laws.{two-keeps}
+use Rattle.image_forms.specs.declared.Form.{Form}
+use Rattle.image_forms.specs.Forms.{keeps}
+use Rattle.image_forms.proofs.Laws.{two-keeps}
 use Rattle.image_write.specs.declared.Written.{Written}
 use Rattle.image_write.specs.Written.{setupOf, sizeOf, losesNothing, writtenOf, outputOf}
 use Rattle.lists.specs.Lists.{laidOver}

@@ -5,8 +5,8 @@ use mathlib.Core.List.{List, [], _∷_, _++_, map, flatten}
 use lib.Dec.{leb}
 use lib.ListN.{length}
 use Rattle.settings.specs.Settings.{setCode, byteCount, valuesOf, rowCount}
-use Rattle.forms.specs.declared.Form.{Form}
-use Rattle.forms.specs.Forms.{formByte, headOf, hasField, keeps}
+use Rattle.image_forms.specs.declared.Form.{Form}
+use Rattle.image_forms.specs.Forms.{formByte, headOf, hasField, keeps}
 use Rattle.lists.specs.Lists.{startOf, each, laidOver}
 use Rattle.panels.specs.declared.Panel.{Panel}
 use Rattle.panels.specs.Wall.{Wall, mostPanels}

@@ -7,7 +7,7 @@ ghost use Rattle.panels.specs.Wall.{panelsOf};
 ghost use Rattle.panels.specs.WellFormed.{WellFormed};
 ghost use Rattle.image_write.specs.Private.Sizes.{fieldsSize};
 ghost use Rattle.image_write.specs.Written.{recordSize, sizeOf, largest, losesNothing, writtenOf, refusalNumber, outputOf};
-use forms::Form;
+use image_forms::Form;
 use panels::MOST_PANELS;
 use panels::Table;
 use refusals::NO_ROOM;
@@ -65,7 +65,7 @@ fn fields_size(form: Form) -> usize
 fn record_size(form: Form) -> usize
     ensures { λ r. ⌜ r ≡ recordSize form ⌝ }
 {
-    forms::head_size(form) + fields_size(form)
+    image_forms::head_size(form) + fields_size(form)
 }
 
 // The bytes of a table's image.
@@ -95,7 +95,7 @@ pub fn loses_nothing(form: Form, t: Table) -> bool
         let p = places[k];
         let profile = p.profile;
         let values = p.values;
-        if !forms::keeps(form, profile, &values) {
+        if !image_forms::keeps(form, profile, &values) {
             return false;
         }
         k += 1;
@@ -121,6 +121,6 @@ pub fn write_image(form: Form, t: Table, out: &mut [u8]) -> Written
     write::records(form, out, t);
     write::starts(form, out, n);
     out[end] = n as u8;
-    out[end + 1] = forms::byte_of(form);
+    out[end + 1] = image_forms::byte_of(form);
     Written::Bytes(size)
 }

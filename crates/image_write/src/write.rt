@@ -9,10 +9,10 @@ ghost use Rattle.panels.specs.Wall.{panelsOf, mostPanels};
 ghost use Rattle.panels.specs.WellFormed.{WellFormed};
 ghost use Rattle.image_write.specs.Private.Sizes.{fieldHead, fieldsSize};
 ghost use Rattle.image_write.specs.Written.{field, fieldIn, fieldsOf, recordOf, recordsOf, highLow, recordSize, panelSize};
-ghost use Rattle.forms.specs.Forms.{headSize, headOf};
+ghost use Rattle.image_forms.specs.Forms.{headSize, headOf};
 use crate::FIELD_HEAD;
 use crate::START_SIZE;
-use forms::Form;
+use image_forms::Form;
 use panels::Panel;
 use panels::Table;
 use settings::ROW_COUNT;
@@ -36,7 +36,7 @@ fn field_in(form: Form, out: &mut [u8], at: usize, row: usize, values: [u8; VALU
     ensures { λ r. ⌜ r ≡ at + length (fieldIn form values row) ⌝ }
     ensures { λ _. ⌜ now (out .exit) ≡ laidAt at (fieldIn form values row) (now (out .entry)) ⌝ }
 {
-    if !forms::has_field(form, row) {
+    if !image_forms::has_field(form, row) {
         return at;
     }
     one_field(out, at, row, values);
@@ -79,7 +79,7 @@ fn one_record(form: Form, out: &mut [u8], at: usize, p: Panel)
 {
     head(form, out, at, p);
     let values = p.values;
-    all_fields(form, out, at + forms::head_size(form), values);
+    all_fields(form, out, at + image_forms::head_size(form), values);
 }
 
 // The records, in table order.

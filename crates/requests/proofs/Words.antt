@@ -8,12 +8,12 @@ use lib.Dec.{eqb}
 use lib.ListN.{length, getD, drop}
 use Rattle.models.specs.declared.Model.{Model}
 use Rattle.settings.specs.Settings.{getCode, rowCount, mostValues}
-use Rattle.finding.specs.Found.{foundBy}
+use Rattle.codes.specs.Found.{foundBy}
 use Rattle.models.specs.Models.{allowedFor}
-use Rattle.finding.specs.declared.Found.{Found}
+use Rattle.codes.specs.declared.Found.{Found}
 use Rattle.lists.proofs.Both.{both}
 use Rattle.settings.proofs.Laws.{byte-count-few}
-use Rattle.finding.proofs.Laws.{IsFound, found-right}
+use Rattle.codes.proofs.Laws.{IsFound, found-right}
 use Rattle.models.proofs.Laws.{allowed-many}
 use Rattle.packet.specs.Control.{controlByte}
 use Rattle.packet.specs.declared.Control.{Control}

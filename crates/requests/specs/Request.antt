@@ -10,12 +10,12 @@ use Rattle.settings.specs.declared.Profile.{Profile}
 use Rattle.tiling.specs.declared.Kind.{Kind}
 use Rattle.tiling.specs.Kinds.{largest}
 use Rattle.settings.specs.Settings.{setCode, byteCount, mostValues, powerRow, videoRow, off}
-use Rattle.finding.specs.Found.{foundBy}
+use Rattle.codes.specs.Found.{foundBy}
 use Rattle.models.specs.Models.{allowedFor, filled}
 use Rattle.models.specs.declared.Model.{Model}
 use Rattle.profiles.specs.declared.Video.{Video}
 use Rattle.profiles.specs.Video.{bytesOf}
-use Rattle.finding.specs.declared.Found.{Found}
+use Rattle.codes.specs.declared.Found.{Found}
 use Rattle.packet.specs.declared.MonitorId.{MonitorId}
 use Rattle.packet.specs.declared.GroupId.{GroupId}
 use Rattle.packet.specs.Packet.{packetOf}

@@ -7,9 +7,9 @@ use lib.Dec.{eqb}
 use Rattle.lists.specs.Lists.{same}
 use Rattle.models.specs.declared.Model.{Model}
 use Rattle.settings.specs.Settings.{getCode}
-use Rattle.finding.specs.Found.{foundBy}
+use Rattle.codes.specs.Found.{foundBy}
 use Rattle.models.specs.Models.{allowedFor}
-use Rattle.finding.specs.declared.Found.{Found}
+use Rattle.codes.specs.declared.Found.{Found}
 use Rattle.packet.specs.Control.{controlData}
 use Rattle.packet.specs.declared.Control.{Control}
 use Rattle.requests.specs.declared.Said.{Said}

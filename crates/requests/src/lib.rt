@@ -7,7 +7,7 @@ ghost use Rattle.settings.specs.Settings.{rowCount, mostValues};
 ghost use Rattle.packet.specs.Packet.{writtenOf, outputOf};
 ghost use Rattle.requests.specs.Request.{isRequest, requestData, maySet, videoRequest, isPowerOff};
 ghost use Rattle.requests.specs.Said.{isControl, isReport, wordIn};
-use finding::Found;
+use codes::Found;
 use models::Model;
 use packet::Control;
 use packet::GroupId;
@@ -61,7 +61,7 @@ pub fn is_request(request: Request) -> bool
         return false;
     }
     let group = request.group;
-    let found = finding::find_setting(request.code);
+    let found = codes::find_setting(request.code);
     match found {
         Found::Set(row) => {
             if group.0 == 255 {
@@ -177,7 +177,7 @@ pub fn word_in(model: Model, code: u8, d: &[u8]) -> Said
     if is_control(d, Control::Nav) {
         return Said::Nav;
     }
-    let found = finding::find_setting(code);
+    let found = codes::find_setting(code);
     match found {
         Found::Set(_) => if is_control(d, Control::Ack) {
             Said::Ack

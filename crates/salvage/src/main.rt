@@ -7,7 +7,7 @@ ghost use Rattle.lists.specs.Lists.{laidOver};
 ghost use Rattle.panels.specs.Wall.{panelsOf};
 ghost use Rattle.panels.specs.WellFormed.{WellFormed};
 ghost use Rattle.image_write.specs.Written.{setupOf, sizeOf, largest};
-use forms::Form;
+use image_forms::Form;
 use image_salvage::LINES_CAP;
 use image_write::Written;
 use libc::STDERR_FILENO;

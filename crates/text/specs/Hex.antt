@@ -4,7 +4,7 @@ use mathlib.Core.Bool.{cond}
 use mathlib.Core.List.{List, [], _∷_, _++_}
 use lib.ListN.{length, drop}
 use lib.Dec.{leb}
-use Rattle.digits.specs.Digits.{digitOf}
+use Rattle.hex.specs.Digits.{digitOf}
 
 unfoldable pub hexOf : List ℕ → List ℕ
 hexOf [] = []

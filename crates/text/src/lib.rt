@@ -29,8 +29,8 @@ pub fn hex(bytes: &[u8], out: &mut [u8]) -> usize
     let mut i = 0;
     while i < n {
         let b = bytes[i];
-        out[2 * i] = digits::high(b);
-        out[2 * i + 1] = digits::low(b);
+        out[2 * i] = hex::high(b);
+        out[2 * i + 1] = hex::low(b);
         i += 1;
     }
     2 * n

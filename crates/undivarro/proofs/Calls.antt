@@ -17,7 +17,7 @@ use Rattle.answers.specs.declared.Played.{Played}
 use Rattle.answers.specs.Reply.{sentBytes, silence}
 use Rattle.answers.specs.Played.{answered, answeredOn}
 use Rattle.answers.proofs.Formed.{answered-count, answered-formed}
-use Rattle.forms.specs.declared.Form.{Form}
+use Rattle.image_forms.specs.declared.Form.{Form}
 use Rattle.refusals.specs.declared.Refusal.{Refusal}
 use Rattle.image_read.specs.declared.Read.{Read}
 use Rattle.image_write.specs.Written.{setupOf, sizeOf, losesNothing, panelSize}

@@ -15,8 +15,8 @@ use Rattle.packet.specs.declared.Damage.{Damage}
 use Rattle.panels.specs.Wall.{Wall, panelsOf}
 use Rattle.panels.specs.WellFormed.{WellFormed}
 use Rattle.panels.proofs.Laws.{panels-of-table}
-use Rattle.forms.specs.declared.Form.{Form}
-use Rattle.image_whole.specs.Whole.{wholeRefusal}
+use Rattle.image_forms.specs.declared.Form.{Form}
+use Rattle.image_frame.specs.Whole.{wholeRefusal}
 use Rattle.image_write.specs.Written.{setupOf, sizeOf}
 use Rattle.image_salvage.specs.declared.Salvaged.{Salvaged}
 use Rattle.image_salvage.specs.Salvaged.{salvageOf, textOf, linesCap, salvagedAs}

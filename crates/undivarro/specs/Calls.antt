@@ -12,11 +12,11 @@ use Rattle.lists.specs.Lists.{laidOver}
 use Rattle.answers.specs.Reply.{sentBytes}
 use Rattle.answers.specs.Played.{answered}
 use Rattle.refusals.specs.declared.Refusal.{Refusal}
-use Rattle.forms.specs.declared.Form.{Form}
+use Rattle.image_forms.specs.declared.Form.{Form}
 use Rattle.image_write.specs.Written.{setupOf, sizeOf, losesNothing}
 use Rattle.refusals.specs.Refusals.{isSound, refusalNumber, noRoom, wouldLose}
 use Rattle.image_read.specs.Read.{readOf}
-use Rattle.image_whole.specs.Whole.{wholeRefusal}
+use Rattle.image_frame.specs.Whole.{wholeRefusal}
 use Rattle.image_salvage.specs.Salvaged.{salvageOf, textOf, linesCap}
 use Rattle.undivarro.specs.declared.Outcome.{Outcome}
 

@@ -15,7 +15,7 @@ ghost use Rattle.image_write.specs.Written.{sizeOf, setupOf, losesNothing};
 ghost use Rattle.undivarro.specs.Calls.{refused, refusalFor, afterMove, afterPlay, afterRead, afterBack, afterSalvage};
 use answers::Reply;
 use answers::Sent;
-use forms::Form;
+use image_forms::Form;
 use image_salvage::LINES_CAP;
 use image_write::Written;
 use packet::LONGEST;

@@ -5,7 +5,7 @@ use borrow.Author.Tests.{eq-eqb, ne-eqb}
 use Rattle.panels.specs.declared.Table.{Table}
 use Rattle.refusals.specs.declared.Refusal.{Refusal}
 use Rattle.image_read.specs.declared.Read.{Read}
-use Rattle.image_whole.specs.Whole.{wholeRefusal}
+use Rattle.image_frame.specs.Whole.{wholeRefusal}
 use Rattle.refusals.specs.Refusals.{isSound, refusalNumber}
 use Rattle.image_read.specs.Read.{readOf, inTable}
 use borrow.Author.Needs.{needs}

@@ -5,8 +5,8 @@ use mathlib.Core.List.{List}
 use lib.ListN.{drop}
 use Rattle.profiles.specs.Numbers.{ifKnown}
 use Rattle.panels.specs.Wall.{blank}
-use Rattle.forms.specs.declared.Form.{Form}
-use Rattle.forms.specs.Forms.{headSize}
+use Rattle.image_forms.specs.declared.Form.{Form}
+use Rattle.image_forms.specs.Forms.{headSize}
 use Rattle.refusals.specs.declared.Refusal.{Refusal}
 use Rattle.image_record.specs.Head.{marked, headIn}
 use Rattle.image_read.specs.declared.ReadPanel.{ReadPanel}

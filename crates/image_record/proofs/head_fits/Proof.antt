@@ -7,8 +7,8 @@ use borrow.Author.Tests.{le-leb, lt-leb, eq-eqb, ne-eqb}
 use borrow.Author.Needs.{needs}
 use lib.Dec.{leb}
 use lib.ListN.{length}
-use Rattle.forms.specs.Forms.{headSize}
-use Rattle.forms.proofs.Laws.{head-some}
+use Rattle.image_forms.specs.Forms.{headSize}
+use Rattle.image_forms.proofs.Laws.{head-some}
 use Rattle.image_record.specs.Head.{headFits}
 use Rattle.image_record.proofs.head_fits.Statement.{statement}
 use Rattle.image_record.proofs.head_fits.Tie as tie

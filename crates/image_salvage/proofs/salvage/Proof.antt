@@ -7,7 +7,7 @@ use Rattle.lists.specs.Lists.{laidOver}
 use Rattle.panels.specs.declared.Table.{Table}
 use Rattle.refusals.specs.declared.Refusal.{Refusal}
 use Rattle.refusals.specs.Refusals.{isSound, refusalNumber}
-use Rattle.image_whole.specs.Whole.{wholeRefusal}
+use Rattle.image_frame.specs.Whole.{wholeRefusal}
 use Rattle.image_salvage.specs.declared.Salvaged.{Salvaged}
 use Rattle.image_salvage.specs.Salvaged.{salvageOf, textFrom}
 use Rattle.image_salvage.proofs.salvage.Statement.{statement}

@@ -5,9 +5,9 @@ use mathlib.Core.List.{List, [], _∷_}
 use lib.ListN.{length, drop}
 use Rattle.profiles.specs.Numbers.{ifKnown}
 use Rattle.panels.specs.Wall.{blank}
-use Rattle.forms.specs.declared.Form.{Form}
-use Rattle.forms.specs.Forms.{headSize}
-use Rattle.faults.specs.declared.Fault.{Fault}
+use Rattle.image_forms.specs.declared.Form.{Form}
+use Rattle.image_forms.specs.Forms.{headSize}
+use Rattle.image_faults.specs.declared.Fault.{Fault}
 use Rattle.image_record.specs.Head.{marked, headIn, headed}
 use Rattle.image_salvage.specs.declared.KeptRecord.{KeptRecord}
 use Rattle.image_salvage.specs.Kept.{keptOf}

@@ -9,8 +9,8 @@ use borrow.Author.Tests.{not-true, not-false}
 use lib.ListN.{length, getD, take, drop}
 use lib.Seq.{drop-cons, drop-length}
 use Rattle.settings.specs.Settings.{valueCount}
-use Rattle.forms.specs.declared.Form.{Form}
-use Rattle.forms.specs.Forms.{keeps}
+use Rattle.image_forms.specs.declared.Form.{Form}
+use Rattle.image_forms.specs.Forms.{keeps}
 use Rattle.panels.specs.declared.Panel.{Panel}
 use Rattle.panels.specs.Wall.{Wall, blank, panelsOf}
 use Rattle.panels.proofs.Formed.{good-at}

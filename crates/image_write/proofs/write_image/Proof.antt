@@ -9,8 +9,8 @@ use lib.ListN.{length, set, length-set, length-append, length-map}
 use Rattle.lists.specs.Lists.{each, laidOver, laidAt}
 use Rattle.panels.specs.Wall.{Wall, panelsOf}
 use Rattle.panels.specs.WellFormed.{GoodWall}
-use Rattle.forms.specs.declared.Form.{Form}
-use Rattle.forms.specs.Forms.{formByte}
+use Rattle.image_forms.specs.declared.Form.{Form}
+use Rattle.image_forms.specs.Forms.{formByte}
 use Rattle.image_write.specs.declared.Written.{Written}
 use Rattle.image_write.specs.Written.{highLow, recordsOf, imageOf, setupOf, recordOf, sizeOf, losesNothing, writtenOf, outputOf, recordSize, panelSize}
 use Rattle.lists.proofs.Laid.{length-laid, laid-over, laid-two, laid-then}

@@ -1,7 +1,7 @@
 -- How many bytes the fields of a record have, as the code adds them up.
 use Prim.Native.Nat.{ℕ, _+_, _-_, _*_}
 use Rattle.settings.specs.Settings.{byteCount, rowCount, valueCount, kindRow, tilingRow}
-use Rattle.forms.specs.declared.Form.{Form}
+use Rattle.image_forms.specs.declared.Form.{Form}
 
 -- before a field's values: set code and length
 abbrev pub fieldHead : ℕ

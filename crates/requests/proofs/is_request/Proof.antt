@@ -5,9 +5,9 @@ use native.Mathlib.Omega.{arith}
 use borrow.Author.Needs.{needs}
 use borrow.Author.Tests.{le-leb, lt-leb, eq-eqb, ne-eqb}
 use Rattle.settings.specs.Settings.{mostValues}
-use Rattle.finding.specs.Found.{foundBy}
-use Rattle.finding.specs.declared.Found.{Found}
-use Rattle.finding.proofs.Laws.{IsFound, found-right}
+use Rattle.codes.specs.Found.{foundBy}
+use Rattle.codes.specs.declared.Found.{Found}
+use Rattle.codes.proofs.Laws.{IsFound, found-right}
 use Rattle.requests.specs.declared.Request.{Request}
 use Rattle.requests.specs.Request.{isTaken, isRequest}
 use Rattle.requests.proofs.is_request.Statement.{statement}

@@ -1,8 +1,8 @@
 -- Each test is a case of `wordIn`. Assumes nothing.
 use mathlib.Core.Path.{_≡_, sym, subst, _∙_}
 use borrow.Author.Needs.{needs}
-use Rattle.finding.specs.declared.Found.{Found}
-use Rattle.finding.proofs.Laws.{IsFound, found-right}
+use Rattle.codes.specs.declared.Found.{Found}
+use Rattle.codes.proofs.Laws.{IsFound, found-right}
 use Rattle.requests.specs.Said.{endedBy, wordIn}
 use Rattle.requests.proofs.Words.{word-found}
 use Rattle.requests.proofs.word_in.Statement.{statement}

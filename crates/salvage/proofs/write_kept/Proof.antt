@@ -5,7 +5,7 @@ use native.Mathlib.Omega.{arith}
 use lib.ListN.{length}
 use Rattle.lists.specs.Lists.{laidOver}
 use Rattle.panels.specs.Wall.{panelsOf}
-use Rattle.forms.specs.declared.Form.{Form}
+use Rattle.image_forms.specs.declared.Form.{Form}
 use Rattle.image_write.specs.declared.Written.{Written}
 use Rattle.image_write.specs.Written.{setupOf, sizeOf}
 use Rattle.image_write.proofs.Lengths.{bytesWritten}

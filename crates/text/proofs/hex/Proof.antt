@@ -8,7 +8,7 @@ use native.Mathlib.Omega.{arith}
 use borrow.Author.Tests.{le-leb, lt-leb}
 use lib.ListN.{length, getD, take, drop, set, length-set}
 use lib.Seq.{take-suc, take-all, length-take-le, drop-cons}
-use Rattle.digits.specs.Digits.{digitOf}
+use Rattle.hex.specs.Digits.{digitOf}
 use Rattle.text.specs.Hex.{hexOf, hexCount, hexOver}
 use borrow.Author.Needs.{needs}
 use Rattle.text.proofs.hex.Statement.{statement}

@@ -9,7 +9,7 @@ use Rattle.image_write.specs.Written.{setupOf}
 use Rattle.image_write.proofs.Lengths.{bytesWritten}
 use Rattle.image_write.proofs.Lengths.{products}
 use Rattle.image_write.proofs.Losing.{is-written}
-use Rattle.image.proofs.Back.{image-size}
+use Rattle.image_back.proofs.Back.{image-size}
 use borrow.Author.Needs.{needs}
 use Rattle.undivarro.proofs.put_setup.Statement.{statement}
 use Rattle.undivarro.proofs.put_setup.Tie as tie

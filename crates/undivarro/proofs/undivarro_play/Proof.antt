@@ -6,7 +6,7 @@ use lib.Dec.{leb}
 use lib.ListN.{length}
 use Rattle.packet.specs.Packet.{longest, damageNumber}
 use Rattle.packet.specs.Reading.{readingOf}
-use Rattle.forms.specs.declared.Form.{Form}
+use Rattle.image_forms.specs.declared.Form.{Form}
 use Rattle.image_write.specs.Written.{sizeOf, losesNothing}
 use Rattle.image_write.proofs.Losing.{two-holds}
 use Rattle.image_read.specs.Read.{readOf}

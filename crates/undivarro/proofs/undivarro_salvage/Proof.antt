@@ -6,7 +6,7 @@ use native.Mathlib.Omega.{arith}
 use borrow.Author.Needs.{needs}
 use lib.ListN.{length}
 use Rattle.panels.specs.Wall.{Wall}
-use Rattle.forms.specs.declared.Form.{Form}
+use Rattle.image_forms.specs.declared.Form.{Form}
 use Rattle.packet.specs.declared.Damage.{Damage}
 use Rattle.image_write.specs.Written.{setupOf, sizeOf}
 use Rattle.image_write.proofs.Losing.{two-holds}

@@ -5,8 +5,8 @@ use Prim.Native.Nat.{ℕ, _<_}
 use native.Mathlib.Nat.{not-suc-le-zero}
 use native.Mathlib.Omega.{arith}
 use lib.ListN.{length, getD, drop, length-drop}
-use Rattle.finding.specs.declared.Found.{Found}
-use Rattle.finding.specs.Found.{foundBy}
+use Rattle.codes.specs.declared.Found.{Found}
+use Rattle.codes.specs.Found.{foundBy}
 use Rattle.answers.specs.Judged.{getOf, unavailable, command, commandBy}
 use Rattle.answers.specs.Private.Orders.{orderOf}
 use borrow.Author.Needs.{needs}

@@ -13,18 +13,18 @@ use Rattle.panels.specs.declared.Panel.{Panel}
 use Rattle.panels.specs.declared.Table.{Table}
 use Rattle.panels.specs.Wall.{Wall, inPlaces, mostPanels}
 use Rattle.panels.proofs.Laws.{none-held, one-held}
-use Rattle.forms.specs.declared.Form.{Form}
+use Rattle.image_forms.specs.declared.Form.{Form}
 use Rattle.refusals.specs.declared.Refusal.{Refusal}
 use Rattle.image_read.specs.declared.Read.{Read}
 use Rattle.image_read.specs.declared.ReadPanel.{ReadPanel}
-use Rattle.image_whole.specs.Whole.{formOf, countOf, edge, recordIn, recordsIn}
+use Rattle.image_frame.specs.Whole.{formOf, countOf, edge, recordIn, recordsIn}
 use Rattle.refusals.specs.Refusals.{isSound, refusalNumber}
 use Rattle.image_read.specs.Read.{recordRefusal, refused, readRecords, inTable}
 use Rattle.image_read.proofs.OnTheWay.{wallWith}
 use Rattle.lists.proofs.Each.{length-each}
 use Rattle.image_record.proofs.Heads.{Marks, none-marked, one-more}
 use Rattle.image_read.specs.Private.Marked.{panelBy}
-use Rattle.image_whole.proofs.Edges.{fits, first-edge, edge-less, edge-inside}
+use Rattle.image_frame.proofs.Edges.{fits, first-edge, edge-less, edge-inside}
 use Rattle.image_read.proofs.Sound.{records-step}
 use Rattle.image_read.proofs.Marked.{refusal-alike, panel-alike}
 use Rattle.image_read.proofs.records.all.Statement.{statement}

@@ -6,8 +6,8 @@ use borrow.Author.Needs.{needs}
 use lib.ListN.{length, drop, length-drop}
 use lib.Seq.{take-all}
 use Rattle.profiles.specs.declared.Numbered.{Numbered}
-use Rattle.forms.specs.Forms.{headSize}
-use Rattle.forms.proofs.Laws.{head-some}
+use Rattle.image_forms.specs.Forms.{headSize}
+use Rattle.image_forms.proofs.Laws.{head-some}
 use Rattle.image_record.specs.Head.{marked, headIn, headed}
 use Rattle.image_record.proofs.Heads.{head-whole}
 use Rattle.image_read.specs.declared.Fields.{Fields}

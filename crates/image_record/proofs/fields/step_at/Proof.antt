@@ -11,14 +11,14 @@ use denote.Enum.Declared.{tagOf}
 use lib.Dec.{eqb}
 use lib.ListN.{length, getD, take, drop}
 use Rattle.settings.specs.declared.Profile.{Profile}
-use Rattle.finding.specs.declared.Found.{Found}
-use Rattle.finding.proofs.Found.{the-type}
+use Rattle.codes.specs.declared.Found.{Found}
+use Rattle.codes.proofs.Found.{the-type}
 use Rattle.settings.specs.Settings.{byteCount, rowCount}
-use Rattle.finding.specs.Found.{fieldBy}
+use Rattle.codes.specs.Found.{fieldBy}
 use Rattle.models.specs.Models.{allowedFor, modelIn}
 use Rattle.settings.proofs.Laws.{place-fits}
-use Rattle.finding.proofs.Laws.{IsField, field-right}
-use Rattle.forms.specs.declared.Form.{Form}
+use Rattle.codes.proofs.Laws.{IsField, field-right}
+use Rattle.image_forms.specs.declared.Form.{Form}
 use Rattle.image_record.specs.declared.Step.{Step}
 use Rattle.image_record.specs.Field.{valuesIn, misplaced, fieldOf, stepAt}
 use borrow.Author.Needs.{needs}

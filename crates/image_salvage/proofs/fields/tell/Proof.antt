@@ -8,9 +8,9 @@ use borrow.Rule.Slice.PartMut.{midOf, putMid}
 use lib.ListN.{length, take, drop, length-append, length-take, length-drop}
 use lib.Seq.{take-at}
 use Rattle.lists.proofs.Laid.{laid-copy}
-use Rattle.faults.specs.declared.Line.{Line}
-use Rattle.faults.specs.Lines.{lineOf, longestLine}
-use Rattle.faults.proofs.Laws.{line-short}
+use Rattle.image_faults.specs.declared.Line.{Line}
+use Rattle.image_faults.specs.Lines.{lineOf, longestLine}
+use Rattle.image_faults.proofs.Laws.{line-short}
 use Rattle.image_salvage.proofs.fields.tell.Statement.{statement}
 use Rattle.image_salvage.proofs.fields.tell.Tie as tie
 

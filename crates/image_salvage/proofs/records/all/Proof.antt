@@ -7,12 +7,12 @@ use native.Mathlib.Omega.{arith}
 use borrow.Author.Needs.{needs}
 use lib.ListN.{length, take, drop}
 use Rattle.lists.specs.Lists.{laidAt}
-use Rattle.forms.specs.declared.Form.{Form}
+use Rattle.image_forms.specs.declared.Form.{Form}
 use Rattle.panels.specs.declared.Table.{Table}
 use Rattle.panels.specs.Wall.{tableOf, mostPanels}
 use Rattle.refusals.specs.declared.Refusal.{Refusal}
-use Rattle.image_whole.specs.Whole.{formOf, countOf, edge, wholeRefusal, recordIn}
-use Rattle.image_whole.proofs.Edges.{Fits, fits, edge-less, edge-inside}
+use Rattle.image_frame.specs.Whole.{formOf, countOf, edge, wholeRefusal, recordIn}
+use Rattle.image_frame.proofs.Edges.{Fits, fits, edge-less, edge-inside}
 use Rattle.refusals.proofs.Sound.{sound-nothing}
 use Rattle.image_salvage.specs.declared.KeptRecord.{KeptRecord}
 use Rattle.image_salvage.specs.declared.Salvaged.{Salvaged}

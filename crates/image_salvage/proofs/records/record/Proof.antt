@@ -10,9 +10,9 @@ use lib.Seq.{take-all}
 use Rattle.lists.specs.Lists.{laidAt}
 use Rattle.profiles.specs.declared.Numbered.{Numbered}
 use Rattle.panels.specs.declared.Panel.{Panel}
-use Rattle.forms.specs.Forms.{headSize}
-use Rattle.forms.proofs.Laws.{head-some}
-use Rattle.faults.specs.declared.Fault.{Fault}
+use Rattle.image_forms.specs.Forms.{headSize}
+use Rattle.image_forms.proofs.Laws.{head-some}
+use Rattle.image_faults.specs.declared.Fault.{Fault}
 use Rattle.image_record.specs.Head.{marked, headIn, headed}
 use Rattle.image_record.proofs.Heads.{head-whole}
 use Rattle.image_salvage.specs.declared.KeptRecord.{KeptRecord}

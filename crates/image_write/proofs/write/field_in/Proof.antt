@@ -7,7 +7,7 @@ use borrow.Author.Needs.{needs}
 use borrow.Author.Tests.{not-true, not-false}
 use lib.ListN.{length}
 use Rattle.settings.specs.Settings.{byteCount}
-use Rattle.forms.specs.Forms.{hasField}
+use Rattle.image_forms.specs.Forms.{hasField}
 use Rattle.lists.proofs.Laid.{laid-none}
 use Rattle.image_write.specs.Written.{fieldIn}
 use Rattle.image_write.proofs.Lengths.{field-length}

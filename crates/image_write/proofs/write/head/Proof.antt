@@ -7,9 +7,9 @@ use borrow.Author.Needs.{needs}
 use lib.ListN.{length, set, length-set}
 use Rattle.lists.specs.Lists.{laidAt}
 use Rattle.lists.proofs.Laid.{laid-two, laid-set, laid-then, length-laid}
-use Rattle.forms.specs.declared.Form.{Form}
-use Rattle.forms.specs.Forms.{headSize}
-use Rattle.forms.proofs.Laws.{head-some}
+use Rattle.image_forms.specs.declared.Form.{Form}
+use Rattle.image_forms.specs.Forms.{headSize}
+use Rattle.image_forms.proofs.Laws.{head-some}
 use Rattle.image_write.proofs.write.head.Statement.{statement}
 use Rattle.image_write.proofs.write.head.Tie as tie
 

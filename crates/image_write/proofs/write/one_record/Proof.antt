@@ -5,8 +5,8 @@ use Prim.Native.Nat.{ℕ, _+_, _≤_}
 use native.Mathlib.Omega.{arith}
 use lib.ListN.{length}
 use Rattle.lists.specs.Lists.{laidAt}
-use Rattle.forms.specs.Forms.{headSize, headOf}
-use Rattle.forms.proofs.Laws.{head-length}
+use Rattle.image_forms.specs.Forms.{headSize, headOf}
+use Rattle.image_forms.proofs.Laws.{head-length}
 use Rattle.image_write.specs.Written.{fieldsOf, recordOf}
 use Rattle.image_write.specs.Private.Sizes.{fieldsSize}
 use Rattle.lists.proofs.Laid.{length-laid, laid-then}
