@@ -15,7 +15,7 @@ use packet::LONGEST;
 use packet::MonitorId;
 use packet::Written;
 
-pub fn no_reply() -> Reply
+pub fn silence() -> Reply
     ensures { λ r. ⌜ r ≡ silence ⌝ }
 {
     Reply {

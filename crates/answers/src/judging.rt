@@ -28,7 +28,7 @@ pub fn order_of(d: &[u8]) -> Order
     if n == 0 {
         return Order::NotAvailable;
     }
-    let found = codes::find_setting(d[0]);
+    let found = codes::found_by(d[0]);
     match found {
         Found::Set(row) => Order::Store(row),
         Found::Get(row) => {
@@ -101,7 +101,7 @@ pub fn takes(p: Panel, row: usize, allowed: [bool; PROFILE_COUNT], d: &[u8]) -> 
         return takes_tiling(p, d);
     }
     let profile = p.profile;
-    let number = profiles::number_of(profile) as usize;
+    let number = profiles::profile_number(profile) as usize;
     allowed[number] && !off_already(p, row, d)
 }
 

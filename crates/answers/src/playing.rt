@@ -103,9 +103,9 @@ fn play_heard(t: Table, id: MonitorId, d: &[u8]) -> Played
     requires { ⌜ WellFormed t × (id .0 ≡ 0 → ⊥) ⌝ }
     ensures { λ r. ⌜ r ≡ inTable (playedPacket (panelsOf t) id (groupId 0) (command (now (d .entry)))) ⌝ }
 {
-    let place = panels::find_panel(t, id);
+    let place = panels::place_of(t, id);
     let Place::At(k) = place else {
-        return undamaged(t, answering::no_reply());
+        return undamaged(t, answering::silence());
     };
     let order = judging::order_of(d);
     play_one(t, k, order, d)
@@ -116,7 +116,7 @@ fn play_unheard(t: Table, id: MonitorId, group: GroupId, d: &[u8]) -> Played
     requires { ⌜ WellFormed t × (isHeard id group ≡ false) ⌝ }
     ensures { λ r. ⌜ r ≡ inTable (playedPacket (panelsOf t) id group (command (now (d .entry)))) ⌝ }
 {
-    let reply = answering::no_reply();
+    let reply = answering::silence();
     let order = judging::order_of(d);
     match order {
         Order::Report(_) => undamaged(t, reply),
@@ -131,12 +131,12 @@ fn nack_from(t: Table, seems: Addressee) -> Reply
     ensures { λ r. ⌜ r ≡ nackFrom (panelsOf t) seems ⌝ }
 {
     let Addressee::One(id) = seems else {
-        return answering::no_reply();
+        return answering::silence();
     };
-    let place = panels::find_panel(t, id);
+    let place = panels::place_of(t, id);
     match place {
         Place::At(_) => answering::word_from(id, Control::Nack),
-        Place::Nowhere => answering::no_reply(),
+        Place::Nowhere => answering::silence(),
     }
 }
 
@@ -146,7 +146,7 @@ pub fn answered_on(t: Table, verdict: Verdict, d: &[u8], seems: Addressee) -> Pl
     ensures { λ r. ⌜ r ≡ answeredOn t (record { verdict = verdict; part = now (d .entry); seems = seems }) ⌝ }
 {
     match verdict {
-        Verdict::Empty => undamaged(t, answering::no_reply()),
+        Verdict::Empty => undamaged(t, answering::silence()),
         Verdict::Damaged(damage) => {
             let reply = nack_from(t, seems);
             Played {
@@ -173,8 +173,8 @@ pub fn play(t: Table, burst: &[u8]) -> Played
     requires { ⌜ WellFormed t ⌝ }
     ensures { λ r. ⌜ r ≡ answeredOn t (readingOf (now (burst .entry))) ⌝ }
 {
-    let verdict = packet::verdict_on(burst);
-    let d = packet::data_part(burst, verdict);
+    let verdict = packet::verdict_of(burst);
+    let d = packet::data_of(burst, verdict);
     let seems = packet::seems_for(burst);
     answered_on(t, verdict, d, seems)
 }

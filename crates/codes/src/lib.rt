@@ -22,7 +22,7 @@ pub enum Found {
 
 // The setting that a code gets or sets, in the order of the manual's sections, those of 000 (SICP 2.01). 001 is SICP 1.85, and
 // 002 SICP 1.6.
-pub fn find_setting(code: u8) -> Found
+pub fn found_by(code: u8) -> Found
     ensures { λ r. ⌜ r ≡ foundBy code ⌝ }
 {
     match code {
@@ -50,11 +50,11 @@ pub fn find_setting(code: u8) -> Found
 }
 
 // The row whose field in a setup image has this code: that of a setting's set code, or the kind, which no command sets.
-pub fn find_field(code: u8) -> Found
+pub fn field_by(code: u8) -> Found
     ensures { λ r. ⌜ r ≡ fieldBy code ⌝ }
 {
     if code == KIND_CODE {
         return Found::Set(KIND_ROW);
     }
-    find_setting(code)
+    found_by(code)
 }

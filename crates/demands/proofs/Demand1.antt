@@ -30,7 +30,7 @@ use Rattle.image_forms.specs.declared.Form.{Form}
 use Rattle.image_write.specs.declared.Written.{Written}
 use Rattle.image_write.specs.Written.{setupOf, sizeOf, losesNothing, writtenOf, refusalNumber as imageNumber, outputOf as imageOutput}
 use Rattle.refusals.specs.declared.Refusal.{Refusal as ImageRefusal}
-use Rattle.image_frame.specs.Whole.{formOf, wholeRefusal, recordsIn}
+use Rattle.image_frame.specs.Frame.{formOf, frameRefusal, recordsIn}
 use Rattle.refusals.specs.Refusals.{isSound}
 use Rattle.image_read.specs.Read.{Reading, refused, recordRefusal, readRecords, readOf}
 use Rattle.image_read.proofs.OnTheWay.{wallWith}
@@ -116,7 +116,7 @@ records-refused form w (bytes ∷ records) n =
 
 pub read-refused : ReadRefused
 unfolding readOf
-read-refused image n = either (isSound (wholeRefusal image)) _ (wholeRefusal image) (records-refused (formOf image) [] (recordsIn image)) n
+read-refused image n = either (isSound (frameRefusal image)) _ (frameRefusal image) (records-refused (formOf image) [] (recordsIn image)) n
 
 -- A refused call of the host: it gives nothing out, and stays.
 abbrev Stays : State → Move → Type 0

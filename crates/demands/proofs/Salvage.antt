@@ -14,7 +14,7 @@ use Rattle.panels.proofs.Laws.{panels-of-table}
 use Rattle.image_forms.specs.declared.Form.{Form}
 use Rattle.image_forms.specs.Forms.{headSize}
 use Rattle.image_faults.specs.declared.Fault.{Fault}
-use Rattle.image_frame.specs.Whole.{formOf, recordsIn}
+use Rattle.image_frame.specs.Frame.{formOf, recordsIn}
 use Rattle.image_record.specs.Head.{idIn, headIn, headed}
 use Rattle.image_record.proofs.Steps.{none-seen}
 use Rattle.image_record.proofs.Gathering.{none-gathered}

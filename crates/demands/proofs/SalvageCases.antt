@@ -12,7 +12,7 @@ use Rattle.answers.specs.Judged.{stored}
 use Rattle.image_forms.specs.Forms.{formWith}
 use Rattle.image_faults.specs.Lines.{lineOf}
 use Rattle.image_write.specs.Written.{startsOf, imageOf}
-use Rattle.image_frame.specs.Whole.{edge, rises, startsFit, wholeRefusal, recordsIn}
+use Rattle.image_frame.specs.Frame.{edge, rises, startsFit, frameRefusal, recordsIn}
 use Rattle.image_record.specs.Head.{headFits, headIn}
 use Rattle.image_record.specs.Field.{stepAt}
 use Rattle.image_record.specs.Run.{ranFor, runFrom}
@@ -21,5 +21,5 @@ use Rattle.image_salvage.specs.Salvaged.{salvagedFrom, salvageOf, linesOf, text
 use Rattle.demands.specs.SalvageCases.{cases, CasesSalvaged}
 
 pub cases-salvaged : CasesSalvaged
-unfolding settings foundFrom fieldBy allowedByRow freshValues within allAllowed flatten laidAt placeFrom profileWith stored formWith lineOf startsOf imageOf edge rises startsFit wholeRefusal recordsIn headFits headIn stepAt ranFor runFrom keptFrom salvagedFrom salvageOf linesOf textFrom kindWith inWall upTo cases
+unfolding settings foundFrom fieldBy allowedByRow freshValues within allAllowed flatten laidAt placeFrom profileWith stored formWith lineOf startsOf imageOf edge rises startsFit frameRefusal recordsIn headFits headIn stepAt ranFor runFrom keptFrom salvagedFrom salvageOf linesOf textFrom kindWith inWall upTo cases
 cases-salvaged = refl

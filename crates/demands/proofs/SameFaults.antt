@@ -15,7 +15,7 @@ use Rattle.image_forms.specs.Forms.{headSize}
 use Rattle.image_faults.specs.declared.Fault.{Fault}
 use Rattle.refusals.specs.declared.Refusal.{Refusal}
 use Rattle.refusals.specs.Refusals.{isSound, refusalNumber}
-use Rattle.image_frame.specs.Whole.{formOf, wholeRefusal, recordsIn}
+use Rattle.image_frame.specs.Frame.{formOf, frameRefusal, recordsIn}
 use Rattle.refusals.proofs.Sound.{sound-nothing}
 use Rattle.image_record.specs.declared.Step.{Step}
 use Rattle.image_record.specs.Head.{idIn, headIn, headed}
@@ -166,10 +166,10 @@ same-fault image e = rw e (agree-from (formOf image) [] (recordsIn image) .numbe
 
 pub sound-kept : SoundKept
 unfolding readOf salvageOf
-sound-kept image s = go (isSound (wholeRefusal image)) refl s
+sound-kept image s = go (isSound (frameRefusal image)) refl s
   where
-    go : (b : Bool) → isSound (wholeRefusal image) ≡ b
-        → let r = cond b (readRecords (formOf image) [] (recordsIn image)) (refused (wholeRefusal image)) in
+    go : (b : Bool) → isSound (frameRefusal image) ≡ b
+        → let r = cond b (readRecords (formOf image) [] (recordsIn image)) (refused (frameRefusal image)) in
         let s = cond b (salvagedFrom (formOf image) [] (recordsIn image)) (record { wall = []; faults = [] }) in
         r .refusal ≡ Refusal.Nothing → (s .wall ≡ r .wall) × (textFrom 1 (s .faults) ≡ [])
     go true e s = let (wall, text) = agree-from (formOf image) [] (recordsIn image) .kept s in (wall, text 1)

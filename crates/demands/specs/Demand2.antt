@@ -35,7 +35,7 @@ use Rattle.image_forms.specs.Forms.{hasField}
 use Rattle.refusals.specs.declared.Refusal.{Refusal}
 use Rattle.image_write.specs.declared.Written.{Written}
 use Rattle.image_write.specs.Written.{writtenOf, outputOf}
-use Rattle.image_frame.specs.Whole.{formOf, wholeRefusal, recordsIn}
+use Rattle.image_frame.specs.Frame.{formOf, frameRefusal, recordsIn}
 use Rattle.image_read.specs.Fields.{fieldsIn}
 use Rattle.refusals.specs.Refusals.{isSound}
 use Rattle.image_read.specs.Read.{readOf, inTable}
@@ -112,7 +112,7 @@ ReadsBack =
 -- in any order that has no kind behind a tiling, read as the same wall
 abbrev pub Alike : (Form → Profile → List Entry → List Entry → Type 0) → Type 0
 Alike P =
-    (image other : List ℕ) → isSound (wholeRefusal other) ≡ true
+    (image other : List ℕ) → isSound (frameRefusal other) ≡ true
     → Forall₂ (SameHead P (formOf image) (formOf other)) (recordsIn image) (recordsIn other)
     → readOf image .refusal ≡ Refusal.Nothing → readOf other ≡ readOf image
 

@@ -6,7 +6,7 @@ use mathlib.Core.List.{List}
 use lib.ListN.{take}
 use Rattle.image_forms.specs.declared.Form.{Form}
 use Rattle.refusals.specs.declared.Refusal.{Refusal}
-use Rattle.image_frame.specs.Whole.{formOf}
+use Rattle.image_frame.specs.Frame.{formOf}
 use Rattle.image_read.specs.Read.{readOf}
 use Rattle.image_write.specs.declared.Written.{Written}
 use Rattle.image_write.specs.Written.{losesNothing, writtenOf, outputOf}

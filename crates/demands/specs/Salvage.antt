@@ -18,7 +18,7 @@ use Rattle.image_faults.specs.declared.Fault.{Fault}
 use Rattle.image_faults.specs.Lines.{faultNumber, lineOf}
 use Rattle.refusals.specs.declared.Refusal.{Refusal}
 use Rattle.refusals.specs.Refusals.{isSound, refusalNumber}
-use Rattle.image_frame.specs.Whole.{formOf, wholeRefusal, recordsIn}
+use Rattle.image_frame.specs.Frame.{formOf, frameRefusal, recordsIn}
 use Rattle.image_record.specs.declared.Step.{Step}
 use Rattle.image_record.specs.Head.{headed}
 use Rattle.image_record.specs.Field.{stepAt}
@@ -35,7 +35,7 @@ firstFault ((fault ∷ faults) ∷ rest) = faultNumber fault
 
 -- Reader and salvage never disagree: what the reader refuses an image by is the first fault that the lines tell.
 abbrev pub SameFault : Type 0
-SameFault = (image : List ℕ) → isSound (wholeRefusal image) ≡ true → refusalNumber (readOf image .refusal) ≡ firstFault (salvageOf image .faults)
+SameFault = (image : List ℕ) → isSound (frameRefusal image) ≡ true → refusalNumber (readOf image .refusal) ≡ firstFault (salvageOf image .faults)
 
 -- A sound image gives the reader's own table and no lines.
 abbrev pub SoundKept : Type 0
@@ -85,7 +85,7 @@ pub data Told (form : Form) : List (List ℕ) → List (List Fault) → Wall →
 -- A reader who knows the image and the faults can tell every value that isn't from the image.
 abbrev pub AllTold : Type 0
 AllTold =
-    (image : List ℕ) → isSound (wholeRefusal image) ≡ true → Told (formOf image) (recordsIn image) (salvageOf image .faults) (salvageOf image .wall)
+    (image : List ℕ) → isSound (frameRefusal image) ≡ true → Told (formOf image) (recordsIn image) (salvageOf image .faults) (salvageOf image .wall)
 
 -- And who knows the lines knows the faults: no line is that of another record or of another fault.
 abbrev pub CodeOf : Fault → Type 0

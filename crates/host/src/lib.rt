@@ -173,12 +173,12 @@ impl Host {
         if out.len() < LONGEST {
             return plain(self, 0, Outcome::Refused(Refusal::NoRoom));
         }
-        let verdict = packet::verdict_on(b);
+        let verdict = packet::verdict_of(b);
         let damage = packet::damage_in(verdict);
         if self.sendings == 0 {
             return telling(damage, plain(self, 0, Outcome::Idle));
         }
-        let d = packet::data_part(b, verdict);
+        let d = packet::data_of(b, verdict);
         telling(damage, hearing::heeded(self, verdict, d, out))
     }
 

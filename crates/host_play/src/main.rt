@@ -144,11 +144,11 @@ fn play_modelled(host: Host, step: &[u8]) -> Host {
         return unknown(host);
     }
     let number = step[0];
-    let kinded = tiling::with_number(number / 2);
+    let kinded = tiling::kind_with(number / 2);
     let tiling::Numbered::Known(kind) = kinded else {
         return unknown(host);
     };
-    let numbered = profiles::with_number(number % 2);
+    let numbered = profiles::profile_with(number % 2);
     let Numbered::Known(profile) = numbered else {
         return unknown(host);
     };

@@ -11,7 +11,7 @@ use Rattle.image_forms.specs.Forms.{headSize, keeps}
 use Rattle.image_forms.proofs.Laws.{keeps-fresh, two-keeps}
 use Rattle.image_write.specs.Written.{losesNothing}
 use Rattle.image_write.proofs.Losing.{one-more}
-use Rattle.image_frame.specs.Whole.{formOf, wholeRefusal, recordsIn}
+use Rattle.image_frame.specs.Frame.{formOf, frameRefusal, recordsIn}
 use Rattle.refusals.specs.Refusals.{isSound}
 use Rattle.image_read.specs.Read.{Reading, recordRefusal, panelIn, refused, readRecords, readOf}
 use Rattle.image_read.proofs.Sound.{fields-gathered}
@@ -36,4 +36,4 @@ records-held form w (bytes ∷ records) e =
 pub read-held : (image : List ℕ) → losesNothing (formOf image) (readOf image .wall) ≡ true
 unfolding readOf losesNothing
 read-held image =
-    either (formOf image) (isSound (wholeRefusal image)) _ (refused (wholeRefusal image)) (records-held (formOf image) [] (recordsIn image) refl) refl
+    either (formOf image) (isSound (frameRefusal image)) _ (refused (frameRefusal image)) (records-held (formOf image) [] (recordsIn image) refl) refl

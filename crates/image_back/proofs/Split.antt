@@ -18,7 +18,7 @@ use Rattle.image_forms.specs.declared.Numbered.{Numbered}
 use Rattle.image_forms.specs.Forms.{formByte, formWith}
 use Rattle.image_forms.proofs.Laws.{byte-back}
 use Rattle.image_write.specs.Written.{highLow, startsOf, imageOf}
-use Rattle.image_frame.specs.Whole.{lastByte, formOf, countOf, startsAt, startAt, edge, rises, startsFit, wholeRefusal, recordIn, recordsIn}
+use Rattle.image_frame.specs.Frame.{lastByte, formOf, countOf, startsAt, startAt, edge, rises, startsFit, frameRefusal, recordIn, recordsIn}
 use Rattle.refusals.specs.Refusals.{isSound}
 use Rattle.image_write.proofs.Lengths.{pairs-before, starts-count, image-length}
 
@@ -105,8 +105,8 @@ module _ (form : Form) (records : List (List ℕ)) where
         rw (eq-eqb (edge (imageOf form records) 0) 0 (edge-is 0 (omega arith)))
         (ap (rises (imageOf form records) 0) count-is ∙ rises-all (length records) 0 (omega arith))
 
-    pub whole-sound : isSound (wholeRefusal (imageOf form records)) ≡ true
-    unfolding wholeRefusal
+    pub whole-sound : isSound (frameRefusal (imageOf form records)) ≡ true
+    unfolding frameRefusal
     whole-sound =
         let image = imageOf form records in
         rw (

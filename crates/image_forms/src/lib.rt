@@ -20,7 +20,7 @@ pub enum Numbered {
 }
 
 // The byte that an image of a form ends with.
-pub fn byte_of(form: Form) -> u8
+pub fn form_byte(form: Form) -> u8
     ensures { λ r. ⌜ r ≡ formByte form ⌝ }
 {
     match form {
@@ -30,7 +30,7 @@ pub fn byte_of(form: Form) -> u8
 }
 
 // The form of an image that ends with this byte, if one does.
-pub fn with_byte(byte: u8) -> Numbered
+pub fn form_with(byte: u8) -> Numbered
     ensures { λ r. ⌜ r ≡ formWith byte ⌝ }
 {
     if byte == 1 {
@@ -57,7 +57,7 @@ pub fn holds(form: Form, profile: Profile) -> bool
     ensures { λ r. ⌜ r ≡ holds form profile ⌝ }
 {
     match form {
-        Form::One => profiles::number_of(profile) == 0,
+        Form::One => profiles::profile_number(profile) == 0,
         Form::Two => true,
     }
 }

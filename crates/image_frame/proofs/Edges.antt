@@ -18,7 +18,7 @@ use Rattle.lists.proofs.Each.{in-each, length-each}
 use Rattle.image_forms.specs.declared.Numbered.{Numbered}
 use Rattle.image_forms.specs.Forms.{formWith, ifKnown}
 use Rattle.refusals.specs.declared.Refusal.{Refusal}
-use Rattle.image_frame.specs.Whole.{lastByte, countOf, startsAt, edge, rises, startsFit, wholeRefusal, recordIn, recordsIn}
+use Rattle.image_frame.specs.Frame.{lastByte, countOf, startsAt, edge, rises, startsFit, frameRefusal, recordIn, recordsIn}
 use Rattle.refusals.specs.Refusals.{isSound}
 
 pub record Fits (image : List ℕ) : Type 0 where
@@ -27,8 +27,8 @@ pub record Fits (image : List ℕ) : Type 0 where
   pub room : 2 * countOf image + 2 ≤ length image
   pub starts : startsFit image ≡ true
 
-pub fits : (image : List ℕ) → isSound (wholeRefusal image) ≡ true → Fits image
-unfolding wholeRefusal
+pub fits : (image : List ℕ) → isSound (frameRefusal image) ≡ true → Fits image
+unfolding frameRefusal
 fits image e = go _ _ _ _ _ refl refl refl refl refl e
   where
     go : (a : Bool) (b : Numbered) (c d f : Bool) → ltb (length image) 2 ≡ a → formWith (lastByte image) ≡ b → ltb mostPanels (countOf image) ≡ c

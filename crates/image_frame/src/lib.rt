@@ -2,7 +2,7 @@
 ghost use mathlib.Core.Path.{_≡_};
 ghost use Prim.Native.Nat.{_+_, _*_, _≤_, _<_};
 ghost use lib.ListN.{length};
-ghost use Rattle.image_frame.specs.Whole.{formOf, countOf, edge, startsFit, wholeRefusal};
+ghost use Rattle.image_frame.specs.Frame.{formOf, countOf, edge, startsFit, frameRefusal};
 use image_forms::Form;
 use image_forms::Numbered;
 use panels::MOST_PANELS;
@@ -20,7 +20,7 @@ pub fn form_of(image: &[u8]) -> Form
     ensures { λ r. ⌜ r ≡ formOf (now (image .entry)) ⌝ }
 {
     let n = image.len();
-    let numbered = image_forms::with_byte(image[n - 1]);
+    let numbered = image_forms::form_with(image[n - 1]);
     match numbered {
         Numbered::Known(form) => form,
         Numbered::Unknown => Form::Two,
@@ -70,14 +70,14 @@ fn starts_fit(image: &[u8], n: usize) -> bool
 }
 
 // 11 to 15, the first that holds.
-pub fn refusal_of(image: &[u8]) -> Refusal
-    ensures { λ r. ⌜ r ≡ wholeRefusal (now (image .entry)) ⌝ }
+pub fn frame_refusal(image: &[u8]) -> Refusal
+    ensures { λ r. ⌜ r ≡ frameRefusal (now (image .entry)) ⌝ }
 {
     let len = image.len();
     if len < 2 {
         return Refusal::TooShort;
     }
-    let numbered = image_forms::with_byte(image[len - 1]);
+    let numbered = image_forms::form_with(image[len - 1]);
     let Numbered::Known(_) = numbered else {
         return Refusal::OtherForm;
     };

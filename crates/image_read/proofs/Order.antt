@@ -21,7 +21,7 @@ use Rattle.image_forms.specs.declared.Form.{Form}
 use Rattle.image_forms.specs.Forms.{hasField}
 use Rattle.image_read.specs.declared.Fields.{Fields}
 use Rattle.refusals.specs.declared.Refusal.{Refusal}
-use Rattle.image_frame.specs.Whole.{formOf, wholeRefusal, recordsIn}
+use Rattle.image_frame.specs.Frame.{formOf, frameRefusal, recordsIn}
 use Rattle.image_read.specs.Fields.{fieldsIn}
 use Rattle.refusals.specs.Refusals.{isSound}
 use Rattle.image_read.specs.Read.{recordRefusal, panelIn, refused, readRecords, readOf}
@@ -174,24 +174,24 @@ module _ (P : Form → Profile → List Entry → List Entry → Type 0)
       go true e sound ih = let (refusal, panel) = record-same f g w x y r e in rw (refusal, panel, e) (ih sound)
       go false e sound ih = absurd (false≢true (sym e ∙ ap isSound sound))
 
-  read-same : (image other : List ℕ) → isSound (wholeRefusal other) ≡ true → Forall₂ (SameHead P (formOf image) (formOf other)) (recordsIn image) (recordsIn other)
+  read-same : (image other : List ℕ) → isSound (frameRefusal other) ≡ true → Forall₂ (SameHead P (formOf image) (formOf other)) (recordsIn image) (recordsIn other)
       → readOf image .refusal ≡ Refusal.Nothing → readOf other ≡ readOf image
   unfolding readOf
-  read-same image other fit r sound = go (isSound (wholeRefusal image)) refl sound
+  read-same image other fit r sound = go (isSound (frameRefusal image)) refl sound
     where
-      go : (t : Bool) → isSound (wholeRefusal image) ≡ t
-          → cond t (readRecords (formOf image) [] (recordsIn image)) (refused (wholeRefusal image)) .refusal ≡ Refusal.Nothing
-          → cond (isSound (wholeRefusal other)) (readRecords (formOf other) [] (recordsIn other)) (refused (wholeRefusal other))
-          ≡ cond t (readRecords (formOf image) [] (recordsIn image)) (refused (wholeRefusal image))
+      go : (t : Bool) → isSound (frameRefusal image) ≡ t
+          → cond t (readRecords (formOf image) [] (recordsIn image)) (refused (frameRefusal image)) .refusal ≡ Refusal.Nothing
+          → cond (isSound (frameRefusal other)) (readRecords (formOf other) [] (recordsIn other)) (refused (frameRefusal other))
+          ≡ cond t (readRecords (formOf image) [] (recordsIn image)) (refused (frameRefusal image))
       go true e sound = rw fit (records-same (formOf image) (formOf other) [] (recordsIn image) (recordsIn other) r sound)
       go false e sound = absurd (false≢true (sym e ∙ ap isSound sound))
 
-pub read-any-order : (image other : List ℕ) → isSound (wholeRefusal other) ≡ true
+pub read-any-order : (image other : List ℕ) → isSound (frameRefusal other) ≡ true
     → Forall₂ (SameHead Reordered (formOf image) (formOf other)) (recordsIn image) (recordsIn other)
     → readOf image .refusal ≡ Refusal.Nothing → readOf other ≡ readOf image
 read-any-order = read-same Reordered any-order
 
-pub read-by-code : (image other : List ℕ) → isSound (wholeRefusal other) ≡ true
+pub read-by-code : (image other : List ℕ) → isSound (frameRefusal other) ≡ true
     → Forall₂ (SameHead GiveAlike (formOf image) (formOf other)) (recordsIn image) (recordsIn other)
     → readOf image .refusal ≡ Refusal.Nothing → readOf other ≡ readOf image
 read-by-code = read-same GiveAlike by-given

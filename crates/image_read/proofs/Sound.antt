@@ -19,7 +19,7 @@ use Rattle.image_forms.specs.declared.Form.{Form}
 use Rattle.image_forms.specs.Forms.{headSize, profileIn, hasField}
 use Rattle.refusals.specs.declared.Refusal.{Refusal}
 use Rattle.refusals.specs.Refusals.{isSound}
-use Rattle.image_frame.specs.Whole.{formOf, countOf, recordIn, recordsIn, wholeRefusal}
+use Rattle.image_frame.specs.Frame.{formOf, countOf, recordIn, recordsIn, frameRefusal}
 use Rattle.image_frame.proofs.Edges.{fits, record-next}
 use Rattle.image_record.specs.Head.{idIn, headIn}
 use Rattle.image_record.proofs.Gathering.{Gathering, none-gathered}
@@ -86,9 +86,9 @@ records-formed form w (bytes ∷ records) few good =
 -- Whatever the image, the table read is well-formed.
 pub read-formed : (image : List ℕ) → WellFormed (inTable (readOf image) .table)
 unfolding readOf recordsIn
-read-formed image = go (isSound (wholeRefusal image)) refl
+read-formed image = go (isSound (frameRefusal image)) refl
   where
-    go : (t : Bool) → isSound (wholeRefusal image) ≡ t
-        → WellFormed (tableOf (cond t (readRecords (formOf image) [] (each (recordIn image) (countOf image))) (refused (wholeRefusal image)) .wall))
+    go : (t : Bool) → isSound (frameRefusal image) ≡ t
+        → WellFormed (tableOf (cond t (readRecords (formOf image) [] (each (recordIn image) (countOf image))) (refused (frameRefusal image)) .wall))
     go true e = records-formed (formOf image) [] _ (omega (arith, length-each (recordIn image) (countOf image), fits image e .few)) tt
     go false e = empty-formed

@@ -12,7 +12,7 @@ use Rattle.image_forms.specs.declared.Form.{Form}
 use Rattle.image_forms.specs.Forms.{headSize, profileIn}
 use Rattle.refusals.specs.declared.Refusal.{Refusal}
 use Rattle.refusals.specs.Refusals.{isSound}
-use Rattle.image_frame.specs.Whole.{formOf, wholeRefusal, recordsIn}
+use Rattle.image_frame.specs.Frame.{formOf, frameRefusal, recordsIn}
 use Rattle.image_record.specs.Head.{idIn, headIn, headed}
 use Rattle.image_read.specs.declared.Read.{Read}
 use Rattle.image_read.specs.Fields.{fieldsIn}
@@ -45,7 +45,7 @@ readRecords form w (bytes ∷ records) =
     cond (isSound why) (readRecords form (w ++ panelIn form bytes ∷ []) records) (refused why)
 
 unfoldable pub readOf : List ℕ → Reading
-readOf image = cond (isSound (wholeRefusal image)) (readRecords (formOf image) [] (recordsIn image)) (refused (wholeRefusal image))
+readOf image = cond (isSound (frameRefusal image)) (readRecords (formOf image) [] (recordsIn image)) (refused (frameRefusal image))
 
 abbrev pub inTable : Reading → Read
 inTable r = record { refusal = r .refusal; table = tableOf (r .wall) }

@@ -31,7 +31,7 @@ struct ReadPanel {
 pub fn read_image(image: &[u8]) -> Read
     ensures { λ r. ⌜ r ≡ inTable (readOf (now (image .entry))) ⌝ }
 {
-    let refusal = image_frame::refusal_of(image);
+    let refusal = image_frame::frame_refusal(image);
     if refusals::refusal_number(refusal) != 0 {
         let table = panels::empty_table();
         return Read { refusal, table };

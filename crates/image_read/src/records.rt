@@ -3,7 +3,7 @@ ghost use mathlib.Core.Path.{_≡_};
 ghost use mathlib.Core.Bool.{true};
 ghost use mathlib.Core.List.{[]};
 ghost use Rattle.refusals.specs.Refusals.{isSound};
-ghost use Rattle.image_frame.specs.Whole.{formOf, wholeRefusal, recordsIn};
+ghost use Rattle.image_frame.specs.Frame.{formOf, frameRefusal, recordsIn};
 ghost use Rattle.image_read.specs.Read.{readRecords, inTable};
 ghost use Rattle.image_read.specs.Private.Marked.{noPanel, panelBy};
 use crate::Read;
@@ -51,7 +51,7 @@ fn panel_of(form: Form, bytes: &[u8], seen: &[bool; ID_COUNT]) -> ReadPanel
 
 // All records of an image that is sound as a whole, in order.
 pub fn all(image: &[u8]) -> Read
-    requires { ⌜ isSound (wholeRefusal (now image)) ≡ true ⌝ }
+    requires { ⌜ isSound (frameRefusal (now image)) ≡ true ⌝ }
     ensures { λ r. ⌜ r ≡ inTable (readRecords (formOf (now (image .entry))) [] (recordsIn (now (image .entry)))) ⌝ }
 {
     let form = image_frame::form_of(image);

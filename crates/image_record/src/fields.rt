@@ -53,7 +53,7 @@ pub fn step_at(
     if n == 0 {
         return Step::End;
     }
-    let found = codes::find_field(left[0]);
+    let found = codes::field_by(left[0]);
     let Found::Set(row) = found else {
         return Step::Broken;
     };

@@ -54,7 +54,7 @@ fn profile_in(form: Form, bytes: &[u8]) -> Numbered
 {
     match form {
         Form::One => Numbered::Known(Profile::General),
-        Form::Two => profiles::with_number(bytes[2]),
+        Form::Two => profiles::profile_with(bytes[2]),
     }
 }
 

@@ -21,7 +21,7 @@ use Rattle.image_forms.specs.declared.Form.{Form}
 use Rattle.image_forms.specs.Forms.{headSize}
 use Rattle.image_faults.specs.declared.Fault.{Fault}
 use Rattle.image_faults.specs.Lines.{longestLine}
-use Rattle.image_frame.specs.Whole.{formOf, countOf, recordIn, recordsIn}
+use Rattle.image_frame.specs.Frame.{formOf, countOf, recordIn, recordsIn}
 use Rattle.image_frame.proofs.Edges.{Fits, record-next, record-count}
 use Rattle.image_record.specs.Head.{marked, headIn, headed}
 use Rattle.image_record.proofs.Heads.{Marks, none-marked, one-more as one-marked, head-alike}

@@ -15,7 +15,7 @@ use Rattle.image_forms.specs.declared.Form.{Form}
 use Rattle.image_forms.specs.Forms.{headSize}
 use Rattle.image_faults.specs.declared.Fault.{Fault}
 use Rattle.refusals.specs.Refusals.{isSound}
-use Rattle.image_frame.specs.Whole.{formOf, recordsIn, wholeRefusal}
+use Rattle.image_frame.specs.Frame.{formOf, recordsIn, frameRefusal}
 use Rattle.image_frame.proofs.Edges.{fits, record-count}
 use Rattle.image_record.specs.declared.Step.{Step}
 use Rattle.image_record.specs.Head.{idIn, headIn, headed}
@@ -90,8 +90,8 @@ from-formed form w (bytes ∷ records) few good = go (headIn form (idIn w) bytes
 -- Whatever the image, what is kept of it is well-formed.
 pub salvage-formed : (image : List ℕ) → WellFormed (tableOf (salvageOf image .wall))
 unfolding salvageOf
-salvage-formed image = go (isSound (wholeRefusal image)) refl
+salvage-formed image = go (isSound (frameRefusal image)) refl
   where
-    go : (t : Bool) → isSound (wholeRefusal image) ≡ t → WellFormed (tableOf (cond t (salvagedFrom (formOf image) [] (recordsIn image)) (record { wall = []; faults = [] }) .wall))
+    go : (t : Bool) → isSound (frameRefusal image) ≡ t → WellFormed (tableOf (cond t (salvagedFrom (formOf image) [] (recordsIn image)) (record { wall = []; faults = [] }) .wall))
     go true e = from-formed (formOf image) [] (recordsIn image) (omega (arith, record-count image, fits image e .few)) tt
     go false e = empty-formed

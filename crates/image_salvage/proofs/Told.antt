@@ -13,7 +13,7 @@ use Rattle.image_forms.specs.Forms.{headSize}
 use Rattle.image_faults.specs.declared.Fault.{Fault}
 use Rattle.image_faults.specs.Lines.{longestLine}
 use Rattle.refusals.specs.Refusals.{isSound}
-use Rattle.image_frame.specs.Whole.{formOf, recordsIn, wholeRefusal}
+use Rattle.image_frame.specs.Frame.{formOf, recordsIn, frameRefusal}
 use Rattle.image_frame.proofs.Edges.{fits, record-count}
 use Rattle.image_record.specs.Head.{idIn, headIn}
 use Rattle.image_salvage.specs.Kept.{mostFaults}
@@ -64,9 +64,9 @@ all-lines (faults ∷ rest) (few, more) = simp length-append (omega (arith, all-
 
 salvage-each : (image : List ℕ) → (n : ℕ) × (n ≤ mostPanels) × Each n (salvageOf image .faults)
 unfolding salvageOf
-salvage-each image = go (isSound (wholeRefusal image)) refl
+salvage-each image = go (isSound (frameRefusal image)) refl
   where
-    go : (t : Bool) → isSound (wholeRefusal image) ≡ t
+    go : (t : Bool) → isSound (frameRefusal image) ≡ t
         → (n : ℕ) × (n ≤ mostPanels) × Each n (cond t (salvagedFrom (formOf image) [] (recordsIn image)) (record { wall = []; faults = [] }) .faults)
     go true e = (length (recordsIn image), omega (arith, record-count image, fits image e .few), from-each (formOf image) [] (recordsIn image))
     go false e = (0, omega arith, record { as-many = refl; few = tt })

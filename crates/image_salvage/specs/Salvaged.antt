@@ -10,7 +10,7 @@ use Rattle.image_forms.specs.Forms.{headSize}
 use Rattle.image_faults.specs.declared.Fault.{Fault}
 use Rattle.image_faults.specs.Lines.{lineOf, longestLine}
 use Rattle.refusals.specs.Refusals.{isSound}
-use Rattle.image_frame.specs.Whole.{formOf, wholeRefusal, recordsIn}
+use Rattle.image_frame.specs.Frame.{formOf, frameRefusal, recordsIn}
 use Rattle.image_record.specs.Head.{idIn, headIn, headed}
 use Rattle.image_salvage.specs.declared.Salvaged.{Salvaged}
 use Rattle.image_salvage.specs.Kept.{keptOf, mostFaults}
@@ -36,7 +36,7 @@ salvagedFrom form w (bytes ∷ records) =
 
 -- nothing of an image that 11 to 15 refuse
 unfoldable pub salvageOf : List ℕ → Salvage
-salvageOf image = cond (isSound (wholeRefusal image)) (salvagedFrom (formOf image) [] (recordsIn image)) (record { wall = []; faults = [] })
+salvageOf image = cond (isSound (frameRefusal image)) (salvagedFrom (formOf image) [] (recordsIn image)) (record { wall = []; faults = [] })
 
 -- the lines of a record with this number, and of some records that are numbered from it on
 unfoldable pub linesOf : ℕ → List Fault → List ℕ
@@ -58,4 +58,4 @@ linesCap = mostPanels * mostFaults * longestLine
 -- what the code answers: the refusal, the table, and how many bytes of text the lines have
 abbrev pub salvagedAs : List ℕ → Salvaged
 salvagedAs image =
-    record { refusal = wholeRefusal image; table = tableOf (salvageOf image .wall); told = length (textOf (salvageOf image)) }
+    record { refusal = frameRefusal image; table = tableOf (salvageOf image .wall); told = length (textOf (salvageOf image)) }

@@ -44,7 +44,7 @@ pub fn salvage(image: &[u8], lines: &mut [u8; LINES_CAP]) -> Salvaged
     ensures { λ r. ⌜ r ≡ salvagedAs (now (image .entry)) ⌝ }
     ensures { λ _. ⌜ now (lines .exit) ≡ laidOver (textOf (salvageOf (now (image .entry)))) (now (lines .entry)) ⌝ }
 {
-    let refusal = image_frame::refusal_of(image);
+    let refusal = image_frame::frame_refusal(image);
     if refusals::refusal_number(refusal) != 0 {
         let table = panels::empty_table();
         return Salvaged {

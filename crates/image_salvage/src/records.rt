@@ -6,7 +6,7 @@ ghost use lib.ListN.{length};
 ghost use Rattle.lists.specs.Lists.{laidAt, laidOver};
 ghost use Rattle.image_faults.specs.Lines.{longestLine};
 ghost use Rattle.refusals.specs.Refusals.{isSound};
-ghost use Rattle.image_frame.specs.Whole.{wholeRefusal};
+ghost use Rattle.image_frame.specs.Frame.{frameRefusal};
 ghost use Rattle.image_salvage.specs.Kept.{mostFaults};
 ghost use Rattle.image_salvage.specs.Salvaged.{linesOf, salvageOf, textOf, salvagedAs};
 ghost use Rattle.image_salvage.specs.Private.Marked.{recordBy, faultsBy};
@@ -67,7 +67,7 @@ fn record(
 
 // All records, in order.
 pub fn all(image: &[u8], lines: &mut [u8; LINES_CAP]) -> Salvaged
-    requires { ⌜ isSound (wholeRefusal (now image)) ≡ true ⌝ }
+    requires { ⌜ isSound (frameRefusal (now image)) ≡ true ⌝ }
     ensures { λ r. ⌜ r ≡ salvagedAs (now (image .entry)) ⌝ }
     ensures { λ _. ⌜ now (lines .exit) ≡ laidOver (textOf (salvageOf (now (image .entry)))) (now (lines .entry)) ⌝ }
 {

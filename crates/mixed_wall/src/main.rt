@@ -67,10 +67,7 @@ fn set_tint(t: Table, tint: i8) -> Table
         black: 50,
         gamma: 3,
     };
-    send_request(
-        t,
-        requests::phoenix_video_set(MonitorId(2), GroupId(0), video),
-    )
+    send_request(t, requests::video_request(MonitorId(2), GroupId(0), video))
 }
 
 // Panel 2 gets its place in a wall of this height and width.
@@ -78,7 +75,7 @@ fn set_place(t: Table, position: u8, height: u8, width: u8) -> Table
     requires { ⌜ WellFormed t ⌝ }
     ensures { λ r. ⌜ WellFormed r ⌝ }
 {
-    let coded = tiling::byte_of(Kind::FifteenByTen, height, width);
+    let coded = tiling::coded_as(Kind::FifteenByTen, height, width);
     let Coded::Byte(byte) = coded else {
         return t;
     };
@@ -142,7 +139,7 @@ fn print_place(position: u8, width: u8) {
 fn show_place(p: Panel) {
     let values = p.values;
     let first = settings::place_of(TILING_ROW);
-    let size = tiling::size_of(Kind::FifteenByTen, values[first + 3]);
+    let size = tiling::size_in(Kind::FifteenByTen, values[first + 3]);
     if let Size::HighWide(_, width) = size {
         print_place(values[first + 2], width);
     }
@@ -152,7 +149,7 @@ fn show_place(p: Panel) {
 fn show(t: Table)
     requires { ⌜ WellFormed t ⌝ }
 {
-    let place = panels::find_panel(t, MonitorId(2));
+    let place = panels::place_of(t, MonitorId(2));
     let Place::At(k) = place else {
         return;
     };

@@ -20,7 +20,7 @@ pub struct Model {
 fn kind_for(number: u8) -> Kind
     ensures { λ r. ⌜ r ≡ kindFor number ⌝ }
 {
-    let numbered = tiling::with_number(number);
+    let numbered = tiling::kind_with(number);
     match numbered {
         Numbered::Known(kind) => kind,
         Numbered::Unknown => Kind::FifteenByTen,

@@ -115,7 +115,7 @@ pub fn damage_number(damage: Damage) -> u8
     }
 }
 
-pub fn verdict_on(burst: &[u8]) -> Verdict
+pub fn verdict_of(burst: &[u8]) -> Verdict
     ensures { λ r. ⌜ r ≡ verdictOf (now (burst .entry)) ⌝ }
 {
     let n = burst.len();
@@ -150,7 +150,7 @@ pub fn damage_in(verdict: Verdict) -> Damage
 
 // The data bytes of a burst whose verdict this is, from behind the head to the one before the checksum; none unless it is
 // intact.
-pub fn data_part(burst: &[u8], verdict: Verdict) -> &[u8]
+pub fn data_of(burst: &[u8], verdict: Verdict) -> &[u8]
     requires { ⌜ verdict ≡ verdictOf (now burst) ⌝ }
     ensures { λ r. ⌜ now r ≡ dataOf (now (burst .entry)) ⌝ }
 {

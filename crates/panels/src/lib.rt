@@ -123,7 +123,7 @@ pub fn with_values(mut t: Table, k: usize, values: [u8; VALUE_COUNT]) -> Table
     t
 }
 
-pub fn find_panel(t: Table, id: MonitorId) -> Place
+pub fn place_of(t: Table, id: MonitorId) -> Place
     requires { ⌜ WellFormed t ⌝ }
     ensures { λ r. ⌜ r ≡ placeOf id (panelsOf t) ⌝ }
 {

@@ -23,7 +23,7 @@ pub struct Video {
 }
 
 // A profile's number.
-pub fn number_of(profile: Profile) -> u8
+pub fn profile_number(profile: Profile) -> u8
     ensures { λ r. ⌜ r ≡ profileNumber profile ⌝ }
 {
     match profile {
@@ -33,7 +33,7 @@ pub fn number_of(profile: Profile) -> u8
 }
 
 // The profile that has this number, if one does.
-pub fn with_number(number: u8) -> Numbered
+pub fn profile_with(number: u8) -> Numbered
     ensures { λ r. ⌜ r ≡ profileWith number ⌝ }
 {
     if number == 0 {

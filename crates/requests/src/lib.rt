@@ -61,7 +61,7 @@ pub fn is_request(request: Request) -> bool
         return false;
     }
     let group = request.group;
-    let found = codes::find_setting(request.code);
+    let found = codes::found_by(request.code);
     match found {
         Found::Set(row) => {
             if group.0 == 255 {
@@ -93,7 +93,7 @@ pub fn is_power_off(request: Request) -> bool
 }
 
 // The set of a Phoenix panel's video.
-pub fn phoenix_video_set(id: MonitorId, group: GroupId, video: Video) -> Request
+pub fn video_request(id: MonitorId, group: GroupId, video: Video) -> Request
     ensures { λ r. ⌜ r ≡ videoRequest id group video ⌝ }
 {
     let values = profiles::bytes_of(video);
@@ -177,7 +177,7 @@ pub fn word_in(model: Model, code: u8, d: &[u8]) -> Said
     if is_control(d, Control::Nav) {
         return Said::Nav;
     }
-    let found = codes::find_setting(code);
+    let found = codes::found_by(code);
     match found {
         Found::Set(_) => if is_control(d, Control::Ack) {
             Said::Ack

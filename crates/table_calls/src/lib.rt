@@ -44,7 +44,7 @@ fn fresh_panel(id: MonitorId, group: GroupId, profile: Profile, kind: Kind) -> P
     ensures { λ r. ⌜ r ≡ freshPanel id group profile kind ⌝ }
 {
     let mut values = settings::fresh(profile);
-    let number = [tiling::number_of(kind)];
+    let number = [tiling::kind_number(kind)];
     settings::store(KIND_ROW, &number, &mut values);
     Panel {
         id,
@@ -66,18 +66,18 @@ pub fn add(t: Table, id: MonitorId, group: GroupId, number: u8, kind: u8) -> Cha
     if id.0 == 0 {
         return refused(t, Refusal::IdZero);
     }
-    let place = panels::find_panel(t, id);
+    let place = panels::place_of(t, id);
     if let Place::At(_) = place {
         return refused(t, Refusal::IdTaken);
     }
     if group.0 == 0 {
         return refused(t, Refusal::GroupZero);
     }
-    let numbered = profiles::with_number(number);
+    let numbered = profiles::profile_with(number);
     let Numbered::Known(profile) = numbered else {
         return refused(t, Refusal::UnknownProfile);
     };
-    let kinded = tiling::with_number(kind);
+    let kinded = tiling::kind_with(kind);
     let tiling::Numbered::Known(kind) = kinded else {
         return refused(t, Refusal::UnknownKind);
     };
@@ -128,7 +128,7 @@ pub fn remove(t: Table, id: MonitorId) -> Changed
     requires { ⌜ WellFormed t ⌝ }
     ensures { λ r. ⌜ r ≡ removedFrom (panelsOf t) id ⌝ }
 {
-    let place = panels::find_panel(t, id);
+    let place = panels::place_of(t, id);
     let Place::At(k) = place else {
         return refused(t, Refusal::NoPanel);
     };

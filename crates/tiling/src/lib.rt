@@ -28,7 +28,7 @@ pub enum Size {
 }
 
 // A kind's number.
-pub fn number_of(kind: Kind) -> u8
+pub fn kind_number(kind: Kind) -> u8
     ensures { λ r. ⌜ r ≡ kindNumber kind ⌝ }
 {
     match kind {
@@ -38,7 +38,7 @@ pub fn number_of(kind: Kind) -> u8
 }
 
 // The kind that has this number, if one does.
-pub fn with_number(number: u8) -> Numbered
+pub fn kind_with(number: u8) -> Numbered
     ensures { λ r. ⌜ r ≡ kindWith number ⌝ }
 {
     if number == 0 {
@@ -88,7 +88,7 @@ fn up_to(last: u8, n: u8) -> bool
 }
 
 // The byte of a wall of this height and width.
-pub fn byte_of(kind: Kind, height: u8, width: u8) -> Coded
+pub fn coded_as(kind: Kind, height: u8, width: u8) -> Coded
     ensures { λ r. ⌜ r ≡ codedAs kind height width ⌝ }
 {
     let w = widest(kind);
@@ -102,7 +102,7 @@ pub fn byte_of(kind: Kind, height: u8, width: u8) -> Coded
 }
 
 // The height and the width that a byte says.
-pub fn size_of(kind: Kind, byte: u8) -> Size
+pub fn size_in(kind: Kind, byte: u8) -> Size
     ensures { λ r. ⌜ r ≡ sizeIn kind byte ⌝ }
 {
     let w = widest(kind);
@@ -117,7 +117,7 @@ pub fn size_of(kind: Kind, byte: u8) -> Size
 pub fn in_wall(kind: Kind, position: u8, byte: u8) -> bool
     ensures { λ r. ⌜ r ≡ inWall kind position byte ⌝ }
 {
-    let size = size_of(kind, byte);
+    let size = size_in(kind, byte);
     let Size::HighWide(height, width) = size else {
         return false;
     };

@@ -16,7 +16,7 @@ use Rattle.panels.specs.Wall.{Wall, panelsOf}
 use Rattle.panels.specs.WellFormed.{WellFormed}
 use Rattle.panels.proofs.Laws.{panels-of-table}
 use Rattle.image_forms.specs.declared.Form.{Form}
-use Rattle.image_frame.specs.Whole.{wholeRefusal}
+use Rattle.image_frame.specs.Frame.{frameRefusal}
 use Rattle.image_write.specs.Written.{setupOf, sizeOf}
 use Rattle.image_salvage.specs.declared.Salvaged.{Salvaged}
 use Rattle.image_salvage.specs.Salvaged.{salvageOf, textOf, linesCap, salvagedAs}
@@ -50,14 +50,14 @@ module _ (image : List ℕ) (s : Salvaged) (is : s ≡ salvagedAs image) where
 
   module _ (lines out : List ℕ) (room : Bool) (is-room : room ≡ (leb linesCap (length lines) && leb (sizeOf Form.Two (panelsOf (s .table))) (length out)))
       (n : ℕ) (is-refusal : n ≡ refusalFor (s .refusal) true room) where
-    number : n ≡ refusalFor (wholeRefusal image) true (leb linesCap (length lines) && leb (sizeOf Form.Two (salvageOf image .wall)) (length out))
+    number : n ≡ refusalFor (frameRefusal image) true (leb linesCap (length lines) && leb (sizeOf Form.Two (salvageOf image .wall)) (length out))
     number =
         is-refusal ∙ ap (λ (r : Salvaged). refusalFor (r .refusal) true room) is
-        ∙ ap (refusalFor (wholeRefusal image) true) (is-room ∙ ap (λ (w : Wall). leb linesCap (length lines) && leb (sizeOf Form.Two w) (length out)) wall-kept)
+        ∙ ap (refusalFor (frameRefusal image) true) (is-room ∙ ap (λ (w : Wall). leb linesCap (length lines) && leb (sizeOf Form.Two w) (length out)) wall-kept)
 
     pub room-kept : n ≡ 0 → (linesCap ≤ length lines) × (sizeOf Form.Two (salvageOf image .wall) ≤ length out)
     room-kept z =
-        let (a, b) = both _ _ (all-there (wholeRefusal image) true _ (sym number ∙ z) .1) in
+        let (a, b) = both _ _ (all-there (frameRefusal image) true _ (sym number ∙ z) .1) in
         (leb-true _ _ a, leb-true _ _ b)
 
     pub salvage-refused : (n ≡ 0 → ⊥) → refused n lines out ≡ afterSalvage image lines out

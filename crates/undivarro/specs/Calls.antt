@@ -16,7 +16,7 @@ use Rattle.image_forms.specs.declared.Form.{Form}
 use Rattle.image_write.specs.Written.{setupOf, sizeOf, losesNothing}
 use Rattle.refusals.specs.Refusals.{isSound, refusalNumber, noRoom, wouldLose}
 use Rattle.image_read.specs.Read.{readOf}
-use Rattle.image_frame.specs.Whole.{wholeRefusal}
+use Rattle.image_frame.specs.Frame.{frameRefusal}
 use Rattle.image_salvage.specs.Salvaged.{salvageOf, textOf, linesCap}
 use Rattle.undivarro.specs.declared.Outcome.{Outcome}
 
@@ -70,5 +70,5 @@ unfoldable pub afterSalvage : List ℕ → List ℕ → List ℕ → After
 afterSalvage image lines out =
     let s = salvageOf image in
     let room = leb linesCap (length lines) && leb (sizeOf Form.Two (s .wall)) (length out) in
-    let n = refusalFor (wholeRefusal image) true room in
+    let n = refusalFor (frameRefusal image) true room in
     cond (eqb n 0) (given (textOf s) (setupOf Form.Two (s .wall)) Damage.Nothing lines out) (refused n lines out)

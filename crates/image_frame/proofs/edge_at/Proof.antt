@@ -5,7 +5,7 @@ use Prim.Native.Nat.{ℕ, _+_, _-_, _*_, _≤_, _<_}
 use native.Mathlib.Omega.{arith}
 use borrow.Author.Tests.{le-ltb, lt-ltb}
 use lib.ListN.{length, getD}
-use Rattle.image_frame.specs.Whole.{countOf, edge}
+use Rattle.image_frame.specs.Frame.{countOf, edge}
 use borrow.Author.Needs.{needs}
 use Rattle.image_frame.proofs.edge_at.Statement.{statement}
 use Rattle.image_frame.proofs.edge_at.Tie as tie

@@ -10,14 +10,14 @@ use Rattle.image_frame.proofs.form_of.Tie as tie
 abbrev said : Numbered → Form
 said n = ifKnown n (λ form. form) Form.Two
 
-sub-with-byte : tie.Need-sub-with-byte
-sub-with-byte c = search needs
+sub-form-with : tie.Need-sub-form-with
+sub-form-with c = search needs
 
-shared-slice-read-with-byte : tie.Need-shared-slice-read-with-byte
-shared-slice-read-with-byte c = search needs
+shared-slice-read-form-with : tie.Need-shared-slice-read-form-with
+shared-slice-read-form-with c = search needs
 
-with-byte-requires : tie.Need-with-byte-requires
-with-byte-requires c κs = search needs
+form-with-requires : tie.Need-form-with-requires
+form-with-requires c κs = search needs
 
 enum-known-numbered : tie.Need-enum-known-numbered
 enum-known-numbered c = search needs
@@ -26,18 +26,18 @@ enum-told : tie.Need-enum-told
 enum-told c = search needs
 
 returns : tie.Need-returns
-returns c = ap said (sym (c .before .numbered .given .1) ∙ c .before .before .before .with-byte .ensures)
+returns c = ap said (sym (c .before .numbered .given .1) ∙ c .before .before .before .form-with .ensures)
 
 returns-2 : tie.Need-returns-2
-returns-2 c = ap said (sym (c .enum-told .given .1) ∙ c .before .before .with-byte .ensures)
+returns-2 c = ap said (sym (c .enum-told .given .1) ∙ c .before .before .form-with .ensures)
 
 pub form-of-spec : {M : Type 1} → statement M
 form-of-spec =
     tie.close
     (tie.spec
-    sub-with-byte
-    shared-slice-read-with-byte
-    with-byte-requires
+    sub-form-with
+    shared-slice-read-form-with
+    form-with-requires
     enum-known-numbered
     enum-told
     returns

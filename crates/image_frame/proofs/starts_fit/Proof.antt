@@ -7,7 +7,7 @@ use native.Mathlib.Numerals.{add-one}
 use native.Mathlib.Omega.{arith}
 use borrow.Author.Tests.{le-ltb, lt-ltb, eq-eqb, ne-eqb}
 use lib.Dec.{ltb, eqb}
-use Rattle.image_frame.specs.Whole.{countOf, edge, rises, startsFit}
+use Rattle.image_frame.specs.Frame.{countOf, edge, rises, startsFit}
 use Rattle.image_frame.proofs.starts_fit.Statement.{statement}
 use Rattle.image_frame.proofs.starts_fit.Tie as tie
 

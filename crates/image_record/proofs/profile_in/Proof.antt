@@ -15,20 +15,20 @@ enum-told c = search needs
 enum-told-2 : tie.Need-enum-told-2
 enum-told-2 c = search needs
 
-shared-slice-read-with-number : tie.Need-shared-slice-read-with-number
-shared-slice-read-with-number c =
+shared-slice-read-profile-with : tie.Need-shared-slice-read-profile-with
+shared-slice-read-profile-with c =
     let start = c .before .before .before .before in
     let whole = subst (λ (f : Form). headSize f ≤ length (start .args .bytes .now)) (c .before .enum-told2 .given .1) (start .pre) in
     omega (arith, whole)
 
-with-number-requires : tie.Need-with-number-requires
-with-number-requires c κs = search needs
+profile-with-requires : tie.Need-profile-with-requires
+profile-with-requires c κs = search needs
 
 returns : tie.Need-returns
 returns c = rw (c .enum-told .given .1)
 
 returns-2 : tie.Need-returns-2
-returns-2 c = c .with-number .ensures ∙ sym (rw (c .before .before .enum-told2 .given .1))
+returns-2 c = c .profile-with .ensures ∙ sym (rw (c .before .before .enum-told2 .given .1))
 
 pub profile-in-spec : {M : Type 1} → statement M
 profile-in-spec =
@@ -36,7 +36,7 @@ profile-in-spec =
     (tie.spec
     enum-told
     enum-told-2
-    shared-slice-read-with-number
-    with-number-requires
+    shared-slice-read-profile-with
+    profile-with-requires
     returns
     returns-2)

@@ -120,8 +120,8 @@ cast-out c =
 slice-write-out : tie.Need-slice-write-out
 slice-write-out c = search needs
 
-byte-of-requires : tie.Need-byte-of-requires
-byte-of-requires c κs = search needs
+form-byte-requires : tie.Need-form-byte-requires
+form-byte-requires c κs = search needs
 
 add-out : tie.Need-add-out
 add-out c = search needs
@@ -149,8 +149,8 @@ returns-3 c =
     let (answer, after) = is-written form w out (all-held else1) room in
     let held = starts .starts .ensures ∙ ap₂ (λ (m : ℕ) (l : List ℕ). laidAt (recordSize form * m) (starts-of form m) l) n (records .records .ensures) in (
       ap Written.Bytes size ∙ sym answer,
-      ap₂ (λ (e m : ℕ). set (set (starts .starts .last .1 .0) e m) (e + 1) (c .byte-of .result)) (ends else2 .0) n
-          ∙ ap₂ (λ (l : List ℕ) (b : ℕ). set (set l (panelSize form * length w) (length w)) (panelSize form * length w + 1) b) held (c .byte-of .ensures)
+      ap₂ (λ (e m : ℕ). set (set (starts .starts .last .1 .0) e m) (e + 1) (c .form-byte .result)) (ends else2 .0) n
+          ∙ ap₂ (λ (l : List ℕ) (b : ℕ). set (set l (panelSize form * length w) (length w)) (panelSize form * length w + 1) b) held (c .form-byte .ensures)
           ∙ image-laid form w (s .pre .good) out room ∙ sym after,
     )
 
@@ -168,7 +168,7 @@ write-image-spec =
     starts-requires
     cast-out
     slice-write-out
-    byte-of-requires
+    form-byte-requires
     add-out
     slice-write-out-2
     same-length

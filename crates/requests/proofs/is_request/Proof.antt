@@ -17,16 +17,16 @@ few : (r : Request) (f : Found) → r .count ≤ mostValues → foundBy (r .code
 unfolding isRequest
 few r f h e = rw (le-leb _ _ h, e)
 
-past : (c : tie.After-find-setting) (f : Found) → c .find-setting .result ≡ f
+past : (c : tie.After-found-by) (f : Found) → c .found-by .result ≡ f
     → let r = c .before .before .before .args .request in isRequest r ≡ isTaken r f
-past c f e = few _ f (c .before .before .if1 .left) (sym (c .find-setting .ensures) ∙ e)
+past c f e = few _ f (c .before .before .if1 .left) (sym (c .found-by .ensures) ∙ e)
 
 returns : tie.Need-returns
 unfolding isRequest
 returns c = simp (lt-leb _ _ (c .if1 .taken))
 
-find-setting-requires : tie.Need-find-setting-requires
-find-setting-requires c κs = search needs
+found-by-requires : tie.Need-found-by-requires
+found-by-requires c κs = search needs
 
 enum-known-found : tie.Need-enum-known-found
 enum-known-found c = search needs
@@ -40,7 +40,7 @@ returns-2 c =
 may-set-requires : tie.Need-may-set-requires
 may-set-requires c κs =
     let found = c .before .before .before .before .before in
-    (subst (IsFound _) (sym (found .before .before .find-setting .ensures) ∙ found .found .given .1) (found-right _) .0, omega arith)
+    (subst (IsFound _) (sym (found .before .before .found-by .ensures) ∙ found .found .given .1) (found-right _) .0, omega arith)
 
 enum-told : tie.Need-enum-told
 enum-told c = search needs
@@ -76,7 +76,7 @@ is-request-spec =
     tie.close
     (tie.spec
     returns
-    find-setting-requires
+    found-by-requires
     enum-known-found
     returns-2
     may-set-requires

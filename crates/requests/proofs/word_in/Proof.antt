@@ -9,7 +9,7 @@ use Rattle.requests.proofs.word_in.Statement.{statement}
 use Rattle.requests.proofs.word_in.Tie as tie
 
 -- past both tests the code decides
-past : (c : tie.After-find-setting) (f : Found) → c .find-setting .result ≡ f
+past : (c : tie.After-found-by) (f : Found) → c .found-by .result ≡ f
     → let a = c .before .before .before .before .before .before .args in wordIn (a .model) (a .code) (a .d .now) ≡ endedBy (a .model) f (a .d .now)
 past c f e =
     let second = c .before .before in
@@ -17,7 +17,7 @@ past c f e =
     word-found _ _ _ f
     (sym (first .is-control .ensures) ∙ second .before .if1 .left)
     (sym (second .is-control2 .ensures) ∙ c .before .if2 .left)
-    (sym (c .find-setting .ensures) ∙ e)
+    (sym (c .found-by .ensures) ∙ e)
 
 is-control-requires : tie.Need-is-control-requires
 is-control-requires c κs = search needs
@@ -33,8 +33,8 @@ returns-2 : tie.Need-returns-2
 unfolding wordIn
 returns-2 c = simp (sym (c .before .before .before .is-control .ensures) ∙ c .before .before .if1 .left, sym (c .before .is-control2 .ensures) ∙ c .if2 .taken)
 
-find-setting-requires : tie.Need-find-setting-requires
-find-setting-requires c κs = search needs
+found-by-requires : tie.Need-found-by-requires
+found-by-requires c κs = search needs
 
 enum-told : tie.Need-enum-told
 enum-told c = search needs
@@ -46,7 +46,7 @@ enum-known-found : tie.Need-enum-known-found
 enum-known-found c = search needs
 
 is-report-requires : tie.Need-is-report-requires
-is-report-requires c κs = subst (IsFound _) (sym (c .before .before .before .find-setting .ensures) ∙ c .before .found .given .1) (found-right _) .0
+is-report-requires c κs = subst (IsFound _) (sym (c .before .before .before .found-by .ensures) ∙ c .before .found .given .1) (found-right _) .0
 
 enum-told-2 : tie.Need-enum-told-2
 enum-told-2 c = search needs
@@ -83,7 +83,7 @@ word-in-spec =
     returns
     is-control-requires-2
     returns-2
-    find-setting-requires
+    found-by-requires
     enum-told
     is-control-requires-3
     enum-known-found

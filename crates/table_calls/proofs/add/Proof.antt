@@ -56,8 +56,8 @@ returns-2 c =
     let else1 = c .before .before .before in
     c .refused2 .ensures ∙ answered (else1 .before .before .args .t) _ _ _ _ _ (simp (room else1, eq-eqb _ _ (c .before .if2 .taken))) (else1 .before .before .pre .held)
 
-find-panel-requires : tie.Need-find-panel-requires
-find-panel-requires c κs = search needs
+place-of-requires : tie.Need-place-of-requires
+place-of-requires c κs = search needs
 
 enum-told : tie.Need-enum-told
 enum-told c = search needs
@@ -70,7 +70,7 @@ unfolding addRefusal
 returns-3 c =
     let found = c .before .before .before in
     let else1 = found .before .before .before in
-    let there = sym (found .find-panel .ensures) ∙ c .before .enum-told .given .1 in
+    let there = sym (found .place-of .ensures) ∙ c .before .enum-told .given .1 in
     c .refused3 .ensures ∙ answered (else1 .before .before .args .t) _ _ _ _ _ (simp (room else1, ne-eqb _ _ (found .before .if2 .left), there)) (else1 .before .before .pre .held)
 
 enum-told-2 : tie.Need-enum-told-2
@@ -85,14 +85,14 @@ returns-4 c =
     let told = c .before .before .before in
     let found = told .before .before in
     let else1 = found .before .before .before in
-    let nowhere = sym (found .find-panel .ensures) ∙ told .enum-told2 .given .1 in
+    let nowhere = sym (found .place-of .ensures) ∙ told .enum-told2 .given .1 in
     c .refused4 .ensures
     ∙ answered (else1 .before .before .args .t) _ _ _ _ _
     (simp (room else1, ne-eqb _ _ (found .before .if2 .left), nowhere, eq-eqb _ _ (c .before .if3 .taken)))
     (else1 .before .before .pre .held)
 
-with-number-requires : tie.Need-with-number-requires
-with-number-requires c κs = search needs
+profile-with-requires : tie.Need-profile-with-requires
+profile-with-requires c κs = search needs
 
 enum-known-numbered : tie.Need-enum-known-numbered
 enum-known-numbered c = search needs
@@ -109,15 +109,15 @@ returns-5 c =
     let told = c .before .before .before .before .before .before in
     let found = told .before .before in
     let else1 = found .before .before .before in
-    let nowhere = sym (found .find-panel .ensures) ∙ told .enum-told2 .given .1 in
-    let unknown = sym (c .before .before .before .with-number .ensures) ∙ c .before .enum-told3 .given .1 in
+    let nowhere = sym (found .place-of .ensures) ∙ told .enum-told2 .given .1 in
+    let unknown = sym (c .before .before .before .profile-with .ensures) ∙ c .before .enum-told3 .given .1 in
     c .refused5 .ensures
     ∙ answered (else1 .before .before .args .t) _ _ _ _ _
     (simp (room else1, ne-eqb _ _ (found .before .if2 .left), nowhere, ne-eqb _ _ (c .before .before .before .before .if3 .left), unknown))
     (else1 .before .before .pre .held)
 
-with-number-requires-2 : tie.Need-with-number-requires-2
-with-number-requires-2 c κs = search needs
+kind-with-requires : tie.Need-kind-with-requires
+kind-with-requires c κs = search needs
 
 enum-known-kinded : tie.Need-enum-known-kinded
 enum-known-kinded c = search needs
@@ -133,7 +133,7 @@ abbrev first : tie.After-known-told → tie.Else1
 first k = k .before .before .before .before .before .before .before .before .before .before .before
 
 known : (k : tie.After-known-told) → profileWith (first k .before .before .args .number) ≡ Numbered.Known (k .before .numbered .given .0 .0)
-known k = sym (k .before .before .before .with-number .ensures) ∙ k .before .numbered .given .1
+known k = sym (k .before .before .before .profile-with .ensures) ∙ k .before .numbered .given .1
 
 by-kind : (k : tie.After-known-told)
     → let a = first k .before .before .args in addRefusal (panelsOf (a .t)) (a .id) (a .group) (a .number) (a .kind) ≡ ifKind (kindWith (a .kind)) (λ kind. Refusal.Nothing) Refusal.UnknownKind
@@ -141,13 +141,13 @@ unfolding addRefusal
 by-kind k =
     let told = k .before .before .before .before .before .before in
     let found = told .before .before in
-    let nowhere = sym (found .find-panel .ensures) ∙ told .enum-told2 .given .1 in
+    let nowhere = sym (found .place-of .ensures) ∙ told .enum-told2 .given .1 in
     simp (room (first k), ne-eqb _ _ (found .before .if2 .left), nowhere, ne-eqb _ _ (k .before .before .before .before .if3 .left), known k)
 
 returns-6 : tie.Need-returns-6
 returns-6 c =
     let k = c .before .before .before .before in
-    let unknown = sym (c .before .before .before .with-number2 .ensures) ∙ c .before .enum-told4 .given .1 in
+    let unknown = sym (c .before .before .before .kind-with .ensures) ∙ c .before .enum-told4 .given .1 in
     c .refused6 .ensures ∙ answered (first k .before .before .args .t) _ _ _ _ _ (by-kind k ∙ rw unknown) (first k .before .before .pre .held)
 
 fresh-panel-requires : tie.Need-fresh-panel-requires
@@ -193,7 +193,7 @@ returns-7 c =
     let a = first k .before .before .args in
     let w = panelsOf (a .t) in
     let e = grown (c .before) in
-    let kind : kindWith (a .kind) ≡ KindNumbered.Known (k2 .before .kinded .given .0 .0) = sym (k2 .before .before .before .with-number2 .ensures) ∙ k2 .before .kinded .given .1 in
+    let kind : kindWith (a .kind) ≡ KindNumbered.Known (k2 .before .kinded .given .0 .0) = sym (k2 .before .before .before .kind-with .ensures) ∙ k2 .before .kinded .given .1 in
     answered (a .t) _ _ _ _ _ (by-kind k ∙ rw kind)
     (c .table-of .ensures ∙ ap tableOf (held-first _ (e .0) (e .1)) ∙ ap (λ (p : Panel). tableOf (w ++ p ∷ [])) (c .before .before .fresh-panel .ensures)
     ∙ ap₂ (λ (n : Numbered) (k : KindNumbered). tableOf (w ++ freshOf n k (a .id) (a .group))) (sym (known k)) (sym kind))
@@ -207,19 +207,19 @@ add-spec =
     returns
     refused-requires-2
     returns-2
-    find-panel-requires
+    place-of-requires
     enum-told
     refused-requires-3
     returns-3
     enum-told-2
     refused-requires-4
     returns-4
-    with-number-requires
+    profile-with-requires
     enum-known-numbered
     enum-told-3
     refused-requires-5
     returns-5
-    with-number-requires-2
+    kind-with-requires
     enum-known-kinded
     enum-told-4
     refused-requires-6

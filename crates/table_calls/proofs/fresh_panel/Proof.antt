@@ -14,8 +14,8 @@ use Rattle.table_calls.proofs.fresh_panel.Tie as tie
 fresh-requires : tie.Need-fresh-requires
 fresh-requires c κs = search needs
 
-number-of-requires : tie.Need-number-of-requires
-number-of-requires c κs = search needs
+kind-number-requires : tie.Need-kind-number-requires
+kind-number-requires c κs = search needs
 
 slice-aggregate-store : tie.Need-slice-aggregate-store
 slice-aggregate-store c = search needs
@@ -30,7 +30,7 @@ store-requires c κs = (omega arith, refl, ap length (c .before .before .before 
 returns : tie.Need-returns
 returns c =
     let a = c .before .before .before .before .before .before .args in
-    let number = c .before .before .before .before .number-of .ensures in
+    let number = c .before .before .before .before .kind-number .ensures in
     let fresh = c .before .before .before .before .before .fresh .ensures in
     ap {B = Panel} (λ (vs : List ℕ). record { id = a .id; group = a .group; profile = a .profile; values = vs })
     (c .before .store .ensures ∙ ap₂ (λ (n : ℕ) (vs : List ℕ). valuesWith kindRow (n ∷ []) vs) number fresh)
@@ -38,4 +38,4 @@ returns c =
 pub fresh-panel-spec : {M : Type 1} → statement M
 fresh-panel-spec =
     tie.close
-    (tie.spec fresh-requires number-of-requires slice-aggregate-store slice-aggregate-store-2 store-requires returns)
+    (tie.spec fresh-requires kind-number-requires slice-aggregate-store slice-aggregate-store-2 store-requires returns)

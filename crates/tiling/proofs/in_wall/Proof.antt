@@ -32,8 +32,8 @@ none-of kind position byte e = go (upTo (largest kind) byte) e
     go true e = let z : _≡_ {A = ℕ} 0 1 = cc in absurd (omega arith)
     go false e = refl
 
-size-of-requires : tie.Need-size-of-requires
-size-of-requires c κs = search needs
+size-in-requires : tie.Need-size-in-requires
+size-in-requires c κs = search needs
 
 enum-known-size : tie.Need-enum-known-size
 enum-known-size c = search needs
@@ -43,13 +43,13 @@ enum-told c = search needs
 
 returns : tie.Need-returns
 returns c =
-    none-of _ _ _ (sym (c .enum-told .given .1) ∙ c .before .before .size-of .ensures)
+    none-of _ _ _ (sym (c .enum-told .given .1) ∙ c .before .before .size-in .ensures)
 
 -- and it is the one of the byte that was asked for
 wall : (c : tie.After-known-told) → let a = c .before .before .before .before .args in
     (upTo (largest (a .kind)) (a .byte) ≡ true) × (c .before .size .given .0 .0 ≡ heightOf (widest (a .kind)) (a .byte))
     × (c .before .size .given .0 .1 .0 ≡ widthOf (widest (a .kind)) (a .byte))
-wall c = let a = c .before .before .before .before .args in wall-of (a .kind) (a .byte) _ _ (sym (c .before .size .given .1) ∙ c .before .before .before .size-of .ensures)
+wall c = let a = c .before .before .before .before .args in wall-of (a .kind) (a .byte) _ _ (sym (c .before .size .given .1) ∙ c .before .before .before .size-in .ensures)
 
 mul-up-to : tie.Need-mul-up-to
 mul-up-to c =
@@ -68,7 +68,7 @@ pub in-wall-spec : {M : Type 1} → statement M
 in-wall-spec =
     tie.close
     (tie.spec
-    size-of-requires
+    size-in-requires
     enum-known-size
     enum-told
     returns

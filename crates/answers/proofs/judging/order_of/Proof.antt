@@ -34,21 +34,21 @@ not-alone row (v ∷ vs) h = refl
 returns : tie.Need-returns
 returns c = sym (ap orderOf (no-code _ (c .if1 .taken)))
 
-shared-slice-read-find-setting : tie.Need-shared-slice-read-find-setting
-shared-slice-read-find-setting c = search needs
+shared-slice-read-found-by : tie.Need-shared-slice-read-found-by
+shared-slice-read-found-by c = search needs
 
-find-setting-requires : tie.Need-find-setting-requires
-find-setting-requires c κs = search needs
+found-by-requires : tie.Need-found-by-requires
+found-by-requires c κs = search needs
 
 enum-known-found : tie.Need-enum-known-found
 enum-known-found c = search needs
 
-abbrev bytes : tie.After-find-setting → List ℕ
+abbrev bytes : tie.After-found-by → List ℕ
 bytes c = c .before .before .before .before .args .d .now
 
 -- what was found says which command it is
-found : (c : tie.After-find-setting) (f : Found) → c .find-setting .result ≡ f → command (bytes c) ≡ commandBy f (drop 1 (bytes c))
-found c f e = by-code (bytes c) f (omega arith) (sym (c .find-setting .ensures) ∙ e)
+found : (c : tie.After-found-by) (f : Found) → c .found-by .result ≡ f → command (bytes c) ≡ commandBy f (drop 1 (bytes c))
+found c f e = by-code (bytes c) f (omega arith) (sym (c .found-by .ensures) ∙ e)
 
 enum-known-found-2 : tie.Need-enum-known-found-2
 enum-known-found-2 c = search needs
@@ -85,8 +85,8 @@ order-of-spec =
     tie.close
     (tie.spec
     returns
-    shared-slice-read-find-setting
-    find-setting-requires
+    shared-slice-read-found-by
+    found-by-requires
     enum-known-found
     enum-known-found-2
     enum-told

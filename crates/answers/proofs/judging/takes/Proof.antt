@@ -37,26 +37,26 @@ takes-tiling-requires c κs = search needs
 returns : tie.Need-returns
 returns c = let a = c .before .before .before .args in c .takes-tiling .ensures ∙ ap (λ (row : ℕ). takes row (drop 1 (a .d .now)) (a .p)) (sym (c .before .if1 .taken))
 
-number-of-requires : tie.Need-number-of-requires
-number-of-requires c κs = search needs
+profile-number-requires : tie.Need-profile-number-requires
+profile-number-requires c κs = search needs
 
 cast-number : tie.Need-cast-number
 cast-number c = search needs
 
 array-read-if2 : tie.Need-array-read-if2
-array-read-if2 c = omega (arith, c .number-of .ensures, numbers (c .before .before .before .args .p .profile))
+array-read-if2 c = omega (arith, c .profile-number .ensures, numbers (c .before .before .before .args .p .profile))
 
 off-already-requires : tie.Need-off-already-requires
 off-already-requires c κs = search needs
 
 -- what stands at its place is what its ranges allow
-here : (c : tie.After-number-of)
-    → let a = c .before .before .before .args in inRanges (a .p .profile) (a .row) (drop 1 (a .d .now)) ≡ getD (a .t3) (c .number-of .result) false
+here : (c : tie.After-profile-number)
+    → let a = c .before .before .before .args in inRanges (a .p .profile) (a .row) (drop 1 (a .d .now)) ≡ getD (a .t3) (c .profile-number .result) false
 here c =
     let start = c .before .before .before in
     let a = start .args in
     sym (own (a .p .profile) (a .row) (drop 1 (a .d .now)))
-    ∙ ap₂ (λ (l : List Bool) (n : ℕ). getD l n false) (sym (start .pre)) (sym (c .number-of .ensures))
+    ∙ ap₂ (λ (l : List Bool) (n : ℕ). getD l n false) (sym (start .pre)) (sym (c .profile-number .ensures))
 
 returns-2 : tie.Need-returns-2
 returns-2 c =
@@ -72,7 +72,7 @@ takes-spec =
     (tie.spec
     takes-tiling-requires
     returns
-    number-of-requires
+    profile-number-requires
     cast-number
     array-read-if2
     off-already-requires

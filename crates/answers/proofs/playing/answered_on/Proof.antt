@@ -22,8 +22,8 @@ use Rattle.answers.proofs.playing.answered_on.Tie as tie
 enum-told : tie.Need-enum-told
 enum-told c = search needs
 
-no-reply-requires : tie.Need-no-reply-requires
-no-reply-requires c κs = search needs
+silence-requires : tie.Need-silence-requires
+silence-requires c κs = search needs
 
 undamaged-requires : tie.Need-undamaged-requires
 undamaged-requires c κs = search needs
@@ -76,7 +76,7 @@ returns-2 c =
     let silent = c .before in
     let told = silent .before in
     let s = told .before .before .before in
-    c .undamaged .ensures ∙ ap₂ undamaged (s .pre .held) (silent .no-reply .ensures)
+    c .undamaged .ensures ∙ ap₂ undamaged (s .pre .held) (silent .silence .ensures)
     ∙ by-verdict (s .args .t) (s .args .d .now) (s .args .seems) _ _ (told .enum-told .given .1)
 
 returns-3 : tie.Need-returns-3
@@ -98,7 +98,7 @@ answered-on-spec =
     tie.close
     (tie.spec
     enum-told
-    no-reply-requires
+    silence-requires
     undamaged-requires
     enum-known-verdict
     nack-from-requires

@@ -24,14 +24,14 @@ enum-known-seems c = search needs
 enum-told : tie.Need-enum-told
 enum-told c = search needs
 
-no-reply-requires : tie.Need-no-reply-requires
-no-reply-requires c κs = search needs
+silence-requires : tie.Need-silence-requires
+silence-requires c κs = search needs
 
 returns : tie.Need-returns
-returns c = c .no-reply .ensures ∙ seems-to _ _ _ (c .before .enum-told .given .1)
+returns c = c .silence .ensures ∙ seems-to _ _ _ (c .before .enum-told .given .1)
 
-find-panel-requires : tie.Need-find-panel-requires
-find-panel-requires c κs = search needs
+place-of-requires : tie.Need-place-of-requires
+place-of-requires c κs = search needs
 
 enum-told-2 : tie.Need-enum-told-2
 enum-told-2 c = search needs
@@ -42,21 +42,21 @@ word-from-requires c κs = search needs
 enum-told-3 : tie.Need-enum-told-3
 enum-told-3 c = search needs
 
-no-reply-requires-2 : tie.Need-no-reply-requires-2
-no-reply-requires-2 c κs = search needs
+silence-requires-2 : tie.Need-silence-requires-2
+silence-requires-2 c κs = search needs
 
 returns-2 : tie.Need-returns-2
 returns-2 c =
     let told = c .before in
     let found = told .before .before in
-    c .word-from .ensures ∙ for-panel _ _ _ (sym (found .find-panel .ensures) ∙ told .enum-told2 .given .1)
+    c .word-from .ensures ∙ for-panel _ _ _ (sym (found .place-of .ensures) ∙ told .enum-told2 .given .1)
     ∙ seems-to _ _ _ (found .before .before .seems .given .1)
 
 returns-3 : tie.Need-returns-3
 returns-3 c =
     let told = c .before in
     let found = told .before .before in
-    c .no-reply2 .ensures ∙ for-panel _ _ _ (sym (found .find-panel .ensures) ∙ told .enum-told3 .given .1)
+    c .silence2 .ensures ∙ for-panel _ _ _ (sym (found .place-of .ensures) ∙ told .enum-told3 .given .1)
     ∙ seems-to _ _ _ (found .before .before .seems .given .1)
 
 pub nack-from-spec : {M : Type 1} → statement M
@@ -65,12 +65,12 @@ nack-from-spec =
     (tie.spec
     enum-known-seems
     enum-told
-    no-reply-requires
+    silence-requires
     returns
-    find-panel-requires
+    place-of-requires
     enum-told-2
     word-from-requires
     enum-told-3
-    no-reply-requires-2
+    silence-requires-2
     returns-2
     returns-3)

@@ -6,11 +6,11 @@ use Rattle.answers.specs.Played.{answeredOn}
 use Rattle.answers.proofs.playing.play.Statement.{statement}
 use Rattle.answers.proofs.playing.play.Tie as tie
 
-verdict-on-requires : tie.Need-verdict-on-requires
-verdict-on-requires c κs = search needs
+verdict-of-requires : tie.Need-verdict-of-requires
+verdict-of-requires c κs = search needs
 
-data-part-requires : tie.Need-data-part-requires
-data-part-requires c κs = c .verdict-on .ensures
+data-of-requires : tie.Need-data-of-requires
+data-of-requires c κs = c .verdict-of .ensures
 
 seems-for-requires : tie.Need-seems-for-requires
 seems-for-requires c κs = search needs
@@ -24,7 +24,7 @@ returns c =
     let part = seems .before in
     let verdict = part .before in
     c .answered-on .ensures
-    ∙ ap (answeredOn (verdict .before .before .args .t)) (same-reading (verdict .verdict-on .ensures) (part .data-part .ensures) (seems .seems-for .ensures))
+    ∙ ap (answeredOn (verdict .before .before .args .t)) (same-reading (verdict .verdict-of .ensures) (part .data-of .ensures) (seems .seems-for .ensures))
 
 pub play-spec : {M : Type 1} → statement M
-play-spec = tie.close (tie.spec verdict-on-requires data-part-requires seems-for-requires answered-on-requires returns)
+play-spec = tie.close (tie.spec verdict-of-requires data-of-requires seems-for-requires answered-on-requires returns)

@@ -12,8 +12,8 @@ use borrow.Author.Needs.{needs}
 use Rattle.answers.proofs.playing.play_unheard.Statement.{statement}
 use Rattle.answers.proofs.playing.play_unheard.Tie as tie
 
-no-reply-requires : tie.Need-no-reply-requires
-no-reply-requires c κs = search needs
+silence-requires : tie.Need-silence-requires
+silence-requires c κs = search needs
 
 order-of-requires : tie.Need-order-of-requires
 order-of-requires c κs = search needs
@@ -54,7 +54,7 @@ returns c =
     let order = told-get .before .before in
     let s = start order in
     let o = told order _ (told-get .enum-told .given .1) in
-    c .undamaged .ensures ∙ ap₂ undamaged (s .pre .0 .held) (order .before .no-reply .ensures)
+    c .undamaged .ensures ∙ ap₂ undamaged (s .pre .0 .held) (order .before .silence .ensures)
     ∙ sym (unheard-same _ _ _ _ (s .pre .1) (λ p. ap (λ (j : Judged). panelAfter j p) (judge-get _ _ p (o .1))))
 
 returns-2 : tie.Need-returns-2
@@ -65,7 +65,7 @@ returns-2 c =
     let a = s .args in
     let o = told order _ (all .before .before .order .given .1) in
     c .undamaged2 .ensures
-    ∙ ap₂ undamaged (all .store-in-all .ensures ∙ ap (λ (x : Command). tableOf (map (turned (a .id) (a .group) x) (panelsOf (a .t)))) (sym (o .2))) (order .before .no-reply .ensures)
+    ∙ ap₂ undamaged (all .store-in-all .ensures ∙ ap (λ (x : Command). tableOf (map (turned (a .id) (a .group) x) (panelsOf (a .t)))) (sym (o .2))) (order .before .silence .ensures)
     ∙ sym (unheard _ _ _ _ (s .pre .1))
 
 returns-3 : tie.Need-returns-3
@@ -74,14 +74,14 @@ returns-3 c =
     let order = told-none .before .before in
     let s = start order in
     let o = told order _ (told-none .enum-told2 .given .1) in
-    c .undamaged3 .ensures ∙ ap₂ undamaged (s .pre .0 .held) (order .before .no-reply .ensures)
+    c .undamaged3 .ensures ∙ ap₂ undamaged (s .pre .0 .held) (order .before .silence .ensures)
     ∙ sym (unheard-same _ _ _ _ (s .pre .1) (λ p. ap (λ (j : Judged). panelAfter j p) (o p)))
 
 pub play-unheard-spec : {M : Type 1} → statement M
 play-unheard-spec =
     tie.close
     (tie.spec
-    no-reply-requires
+    silence-requires
     order-of-requires
     enum-told
     undamaged-requires

@@ -17,7 +17,7 @@ use Rattle.host.proofs.Host.hear.Tie as tie
 -- the damage that is told is the burst's
 told : (c : tie.After-damage-in) (r : Step)
     → tellingStep (c .damage-in .result) r ≡ tellingStep (damageIn (readingOf (c .before .before .before .before .before .args .b .now) .verdict)) r
-told c r = ap (λ (d : Damage). tellingStep d r) (c .damage-in .ensures ∙ ap damageIn (c .before .verdict-on .ensures))
+told c r = ap (λ (d : Damage). tellingStep d r) (c .damage-in .ensures ∙ ap damageIn (c .before .verdict-of .ensures))
 
 plain-requires : tie.Need-plain-requires
 plain-requires c κs = search needs
@@ -25,8 +25,8 @@ plain-requires c κs = search needs
 returns : tie.Need-returns
 returns c = stays _ _ _ (no-room _ _ _ (c .before .if1 .taken)) (c .plain .ensures)
 
-verdict-on-requires : tie.Need-verdict-on-requires
-verdict-on-requires c κs = search needs
+verdict-of-requires : tie.Need-verdict-of-requires
+verdict-of-requires c κs = search needs
 
 damage-in-requires : tie.Need-damage-in-requires
 damage-in-requires c κs = search needs
@@ -46,8 +46,8 @@ returns-2 c =
     rw (idle-burst (a .out .now) (a .self) (has .if1 .left) (idle .if2 .taken) (a .b .now))
     (tells (quiet (stateOf (a .self)) Outcome.Idle) _ _ (stays _ _ _ refl (c .before .plain2 .ensures)) (c .telling .ensures ∙ told damage (c .before .plain2 .result)))
 
-data-part-requires : tie.Need-data-part-requires
-data-part-requires c κs = c .before .before .before .verdict-on .ensures
+data-of-requires : tie.Need-data-of-requires
+data-of-requires c κs = c .before .before .before .verdict-of .ensures
 
 heeded-requires : tie.Need-heeded-requires
 heeded-requires c κs = search needs
@@ -66,7 +66,7 @@ returns-3 c =
     let damage = waits .before .before in
     let has = damage .before .before in
     let a = has .before .before .before .args in
-    let said = heard-is (stateOf (a .self)) (a .b .now) _ _ (damage .before .verdict-on .ensures) (part .data-part .ensures) in
+    let said = heard-is (stateOf (a .self)) (a .b .now) _ _ (damage .before .verdict-of .ensures) (part .data-of .ensures) in
     rw (burst-heard (a .out .now) (a .self) (has .if1 .left) (waits .if2 .left) (a .b .now))
     (tells (heard (stateOf (a .self)) (readingOf (a .b .now))) _ _ (rw said at (heeded .heeded .ensures)) (c .telling2 .ensures ∙ told damage (heeded .heeded .result)))
 
@@ -76,12 +76,12 @@ hear-spec =
     (tie.spec
     plain-requires
     returns
-    verdict-on-requires
+    verdict-of-requires
     damage-in-requires
     plain-requires-2
     telling-requires
     returns-2
-    data-part-requires
+    data-of-requires
     heeded-requires
     telling-requires-2
     same-length

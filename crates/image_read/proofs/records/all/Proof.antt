@@ -17,7 +17,7 @@ use Rattle.image_forms.specs.declared.Form.{Form}
 use Rattle.refusals.specs.declared.Refusal.{Refusal}
 use Rattle.image_read.specs.declared.Read.{Read}
 use Rattle.image_read.specs.declared.ReadPanel.{ReadPanel}
-use Rattle.image_frame.specs.Whole.{formOf, countOf, edge, recordIn, recordsIn}
+use Rattle.image_frame.specs.Frame.{formOf, countOf, edge, recordIn, recordsIn}
 use Rattle.refusals.specs.Refusals.{isSound, refusalNumber}
 use Rattle.image_read.specs.Read.{recordRefusal, refused, readRecords, inTable}
 use Rattle.image_read.proofs.OnTheWay.{wallWith}

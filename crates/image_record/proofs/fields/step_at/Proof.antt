@@ -53,12 +53,12 @@ module _ (form : Form) (profile : Profile) (seen : List Bool) (values left : Lis
         when-whole d t a = simp (n, found) (rw (s, le-ltb (length left) (2 + byteCount row) h, eq-eqb (getD left 1 0) (byteCount row) d, a))
 
 -- past the first two tests the bytes begin with the set code of a row
-some : (c : tie.After-find-field) → eqb (length (c .before .before .before .before .args .left .now)) 0 ≡ false
+some : (c : tie.After-field-by) → eqb (length (c .before .before .before .before .args .left .now)) 0 ≡ false
 some c = ne-eqb _ _ (c .before .before .if1 .left)
 
 found : (c : tie.After-known-told) → let a = c .before .before .before .before .before .before .before .args in
     fieldBy (getD (a .left .now) 0 0) ≡ Found.Set (c .before .found .given .0 .0)
-found c = sym (c .before .before .before .find-field .ensures) ∙ c .before .found .given .1
+found c = sym (c .before .before .before .field-by .ensures) ∙ c .before .found .given .1
 
 in-table : (c : tie.After-known-told) → c .before .found .given .0 .0 < rowCount
 in-table c = subst (IsField _) (found c) (field-right _) .0
@@ -67,11 +67,11 @@ returns : tie.Need-returns
 unfolding stepAt
 returns c = simp (eq-eqb _ _ (c .if1 .taken))
 
-shared-slice-read-find-field : tie.Need-shared-slice-read-find-field
-shared-slice-read-find-field c = search needs
+shared-slice-read-field-by : tie.Need-shared-slice-read-field-by
+shared-slice-read-field-by c = search needs
 
-find-field-requires : tie.Need-find-field-requires
-find-field-requires c κs = search needs
+field-by-requires : tie.Need-field-by-requires
+field-by-requires c κs = search needs
 
 enum-known-found : tie.Need-enum-known-found
 enum-known-found c = search needs
@@ -81,7 +81,7 @@ unfolding stepAt
 returns-2 c =
     let call = c .before in
     let a = call .before .before .before .before .args in
-    rw (some call, ← call .find-field .ensures) (not-set (a .form) (a .profile) (a .seen .now) (a .values .now) (a .left .now) (call .find-field .result) (c .match .keys2))
+    rw (some call, ← call .field-by .ensures) (not-set (a .form) (a .profile) (a .seen .now) (a .values .now) (a .left .now) (call .field-by .result) (c .match .keys2))
 
 byte-count-requires : tie.Need-byte-count-requires
 byte-count-requires c κs = in-table c
@@ -171,8 +171,8 @@ step-at-spec =
     tie.close
     (tie.spec
     returns
-    shared-slice-read-find-field
-    find-field-requires
+    shared-slice-read-field-by
+    field-by-requires
     enum-known-found
     returns-2
     byte-count-requires

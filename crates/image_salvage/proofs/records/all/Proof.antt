@@ -11,7 +11,7 @@ use Rattle.image_forms.specs.declared.Form.{Form}
 use Rattle.panels.specs.declared.Table.{Table}
 use Rattle.panels.specs.Wall.{tableOf, mostPanels}
 use Rattle.refusals.specs.declared.Refusal.{Refusal}
-use Rattle.image_frame.specs.Whole.{formOf, countOf, edge, wholeRefusal, recordIn}
+use Rattle.image_frame.specs.Frame.{formOf, countOf, edge, frameRefusal, recordIn}
 use Rattle.image_frame.proofs.Edges.{Fits, fits, edge-less, edge-inside}
 use Rattle.refusals.proofs.Sound.{sound-nothing}
 use Rattle.image_salvage.specs.declared.KeptRecord.{KeptRecord}
@@ -202,7 +202,7 @@ returns c =
     let image = s .args .image .now in
     let all = ended _ _ (loop .loop .inv .1) (omega (arith, n-is loop, c .before .loop-test .left)) in
     let table = c .table-of .ensures ∙ ap tableOf (all .kept) in
-    rw (sound-nothing (wholeRefusal image) (s .pre))
+    rw (sound-nothing (frameRefusal image) (s .pre))
     (ap₂ {C = Salvaged} (λ (t : Table) (n : ℕ). record { refusal = Refusal.Nothing; table = t; told = n }) table (all .told), all .laid)
 
 pub all-spec : {M : Type 1} → statement M

@@ -35,8 +35,8 @@ enum-told c = search needs
 enum-told-2 : tie.Need-enum-told-2
 enum-told-2 c = search needs
 
-number-of-requires : tie.Need-number-of-requires
-number-of-requires c κs = search needs
+profile-number-requires : tie.Need-profile-number-requires
+profile-number-requires c κs = search needs
 
 -- form 2 has room for the profile
 three : (c : tie.After-enum-told2) → let a = c .before .before .before .args in a .at + 3 ≤ length (a .out .now)
@@ -66,7 +66,7 @@ returns-2 c =
     let a = start .args in
     let pair = a .p .id .0 ∷ a .p .group .0 ∷ [] in
     let long = length-laid (a .at) pair (a .out .now) (omega (arith, room start)) in
-    rw (two start, c .number-of .ensures, told .enum-told2 .given .1)
+    rw (two start, c .profile-number .ensures, told .enum-told2 .given .1)
     (laid-set (a .at + 2) _ (laidAt (a .at) pair (a .out .now)) (rw long (omega (arith, three told)))
     ∙ laid-then (a .at) (a .at + 2) pair _ (a .out .now) refl (omega (arith, three told)))
 
@@ -79,7 +79,7 @@ head-spec =
     slice-write-out-2
     enum-told
     enum-told-2
-    number-of-requires
+    profile-number-requires
     add-out-2
     slice-write-out-3
     same-length

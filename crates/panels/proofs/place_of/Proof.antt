@@ -8,8 +8,8 @@ use lib.Seq.{drop-length}
 use Rattle.panels.specs.declared.Panel.{Panel}
 use Rattle.panels.specs.Wall.{blank, panelsOf, placeFrom}
 use Rattle.panels.proofs.Laws.{count-is, count-few, in-wall, placeAfter, place-step}
-use Rattle.panels.proofs.find_panel.Statement.{statement}
-use Rattle.panels.proofs.find_panel.Tie as tie
+use Rattle.panels.proofs.place_of.Statement.{statement}
+use Rattle.panels.proofs.place_of.Tie as tie
 
 abbrev Inv-loop : tie.InvT-loop
 Inv-loop id t k₀ k = (k ≤ t .count) × (placeAfter id 0 (panelsOf t) ≡ placeAfter id k (panelsOf t))
@@ -57,8 +57,8 @@ returns-2 c =
     let all : loop .loop .k ≡ length w = omega (arith, count-is (loop .before .pre)) in
     sym (loop .loop .inv .1 ∙ rw (all, drop-length w))
 
-pub find-panel-spec : {M : Type 1} → statement M
-find-panel-spec =
+pub place-of-spec : {M : Type 1} → statement M
+place-of-spec =
     tie.close
     (tie.spec
     Inv-loop

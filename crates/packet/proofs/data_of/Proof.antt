@@ -14,8 +14,8 @@ use Rattle.packet.specs.declared.Verdict.{Verdict}
 use Rattle.packet.proofs.Verdict.{the-type}
 use Rattle.packet.proofs.Packets.{Sound, sound, intact, verdict-intact, intact-verdict}
 use Rattle.packet.proofs.Readings.{intact-data, no-data}
-use Rattle.packet.proofs.data_part.Statement.{statement}
-use Rattle.packet.proofs.data_part.Tie as tie
+use Rattle.packet.proofs.data_of.Statement.{statement}
+use Rattle.packet.proofs.data_of.Tie as tie
 
 tagged-no-data : OneOf (0 ∷ 1 ∷ []) 2 → ⊥
 tagged-no-data h = ⊎-elim (λ e. omega arith) (λ e. omega arith) h
@@ -58,8 +58,8 @@ returns-2 c =
     let n : length burst - 1 - headSize ≡ length burst - shortest = omega arith in
     rw n (sym (intact-data burst (intact burst (whole (c .before)))))
 
-pub data-part-spec : {M : Type 1} → statement M
-data-part-spec =
+pub data-of-spec : {M : Type 1} → statement M
+data-of-spec =
     tie.close
     (tie.spec
     enum-told

@@ -1,8 +1,8 @@
 -- The form bytes are tried one after the other. Assumes nothing.
 use borrow.Author.Tests.{eq-eqb, ne-eqb}
 use Rattle.image_forms.specs.Forms.{formWith}
-use Rattle.image_forms.proofs.with_byte.Statement.{statement}
-use Rattle.image_forms.proofs.with_byte.Tie as tie
+use Rattle.image_forms.proofs.form_with.Statement.{statement}
+use Rattle.image_forms.proofs.form_with.Tie as tie
 
 returns : tie.Need-returns
 unfolding formWith
@@ -16,5 +16,5 @@ returns-3 : tie.Need-returns-3
 unfolding formWith
 returns-3 c = simp (ne-eqb _ _ (c .before .if1 .left), ne-eqb _ _ (c .if2 .left))
 
-pub with-byte-spec : {M : Type 1} → statement M
-with-byte-spec = tie.close (tie.spec returns returns-2 returns-3)
+pub form-with-spec : {M : Type 1} → statement M
+form-with-spec = tie.close (tie.spec returns returns-2 returns-3)

@@ -9,8 +9,8 @@ use Rattle.codes.specs.declared.Found.{Found}
 use Rattle.settings.specs.Settings.{settings}
 use Rattle.codes.specs.Found.{foundFrom, foundBy}
 use Rattle.settings.proofs.Laws.{listed}
-use Rattle.codes.proofs.find_setting.Statement.{statement}
-use Rattle.codes.proofs.find_setting.Tie as tie
+use Rattle.codes.proofs.found_by.Statement.{statement}
+use Rattle.codes.proofs.found_by.Tie as tie
 
 arm : {code k : ℕ} → code ≡ k → foundBy k ≡ foundBy code
 arm e = ap foundBy (sym e)
@@ -34,9 +34,9 @@ no-more : {code : ℕ} → code < 256 → NoneOf code codes → Found.Nothing �
 unfolding settings foundFrom listed
 no-more {code} h none = sym (rw (none-listed code codes none) at (alike (λ k. cond (listed k codes) Found.Nothing (foundBy k)) (λ k. Found.Nothing) 256 refl h))
 
-pub find-setting-spec : {M : Type 1} → statement M
+pub found-by-spec : {M : Type 1} → statement M
 unfolding settings foundFrom
-find-setting-spec =
+found-by-spec =
     tie.close
     (tie.spec
     (λ c. arm (c .match .keys1))

@@ -13,8 +13,8 @@ use Rattle.packet.specs.declared.Verdict.{Verdict}
 use Rattle.packet.proofs.Damage.{the-type}
 use Rattle.packet.proofs.Packets.{Sound, intact, intact-verdict}
 use Rattle.packet.proofs.Damages.{passed, not-intact, damaged-verdict}
-use Rattle.packet.proofs.verdict_on.Statement.{statement}
-use Rattle.packet.proofs.verdict_on.Tie as tie
+use Rattle.packet.proofs.verdict_of.Statement.{statement}
+use Rattle.packet.proofs.verdict_of.Tie as tie
 
 -- past both tests the burst is intact
 whole : (c : tie.After-enum-told) → Sound (c .before .before .before .before .before .args .burst .now)
@@ -57,8 +57,8 @@ sub-t11 c = omega (arith, whole (c .before .before))
 returns-3 : tie.Need-returns-3
 returns-3 c = sym (intact-verdict _ (intact _ (whole (c .before .before))))
 
-pub verdict-on-spec : {M : Type 1} → statement M
-verdict-on-spec =
+pub verdict-of-spec : {M : Type 1} → statement M
+verdict-of-spec =
     tie.close
     (tie.spec
     returns

@@ -1,4 +1,4 @@
--- Each test decides a case of `wholeRefusal`. Assumes nothing.
+-- Each test decides a case of `frameRefusal`. Assumes nothing.
 use mathlib.Core.Path.{_≡_, sym, _∙_}
 use mathlib.Core.Bool.{false}
 use Prim.Native.Nat.{_+_, _*_}
@@ -9,10 +9,10 @@ use lib.ListN.{length}
 use Rattle.panels.specs.Wall.{mostPanels}
 use Rattle.image_forms.specs.declared.Numbered.{Numbered}
 use Rattle.image_forms.specs.Forms.{formWith}
-use Rattle.image_frame.specs.Whole.{lastByte, countOf, wholeRefusal}
+use Rattle.image_frame.specs.Frame.{lastByte, countOf, frameRefusal}
 use borrow.Author.Needs.{needs}
-use Rattle.image_frame.proofs.refusal_of.Statement.{statement}
-use Rattle.image_frame.proofs.refusal_of.Tie as tie
+use Rattle.image_frame.proofs.frame_refusal.Statement.{statement}
+use Rattle.image_frame.proofs.frame_refusal.Tie as tie
 
 abbrev start : tie.After-enum-told → tie.Start
 start c = c .before .before .before .before .before .before
@@ -22,7 +22,7 @@ two : (c : tie.After-enum-told) → ltb (length (start c .args .image .now)) 2 �
 two c = le-ltb _ _ (c .before .before .before .before .if1 .left)
 
 form : (c : tie.After-enum-told) → formWith (lastByte (start c .args .image .now)) ≡ Numbered.Known (c .enum-told .given .0 .0)
-form c = sym (c .before .before .with-byte .ensures) ∙ c .enum-told .given .1
+form c = sym (c .before .before .form-with .ensures) ∙ c .enum-told .given .1
 
 few : (c : tie.Else2) → ltb mostPanels (countOf (start (c .before .before) .args .image .now)) ≡ false
 few c = le-ltb mostPanels (countOf (start (c .before .before) .args .image .now)) (omega (arith, c .before .count-of .ensures))
@@ -33,17 +33,17 @@ room c =
     le-ltb (length image) (2 * countOf image + 2) (omega (arith, c .before .before .count-of .ensures))
 
 returns : tie.Need-returns
-unfolding wholeRefusal
+unfolding frameRefusal
 returns c = simp (lt-ltb _ _ (c .if1 .taken))
 
-sub-with-byte : tie.Need-sub-with-byte
-sub-with-byte c = search needs
+sub-form-with : tie.Need-sub-form-with
+sub-form-with c = search needs
 
-shared-slice-read-with-byte : tie.Need-shared-slice-read-with-byte
-shared-slice-read-with-byte c = search needs
+shared-slice-read-form-with : tie.Need-shared-slice-read-form-with
+shared-slice-read-form-with c = search needs
 
-with-byte-requires : tie.Need-with-byte-requires
-with-byte-requires c κs = search needs
+form-with-requires : tie.Need-form-with-requires
+form-with-requires c κs = search needs
 
 enum-told : tie.Need-enum-told
 enum-told c = search needs
@@ -52,16 +52,16 @@ enum-told-2 : tie.Need-enum-told-2
 enum-told-2 c = search needs
 
 returns-2 : tie.Need-returns-2
-unfolding wholeRefusal
+unfolding frameRefusal
 returns-2 c =
     let call = c .before .before in
-    simp (le-ltb _ _ (call .before .before .if1 .left), sym (call .with-byte .ensures) ∙ c .enum-told2 .given .1)
+    simp (le-ltb _ _ (call .before .before .if1 .left), sym (call .form-with .ensures) ∙ c .enum-told2 .given .1)
 
 count-of-requires : tie.Need-count-of-requires
 count-of-requires c κs = search needs
 
 returns-3 : tie.Need-returns-3
-unfolding wholeRefusal
+unfolding frameRefusal
 returns-3 c =
     let told = c .before .before in
     simp (two told, form told, lt-ltb mostPanels (countOf (start told .args .image .now)) (omega (arith, c .before .count-of .ensures)))
@@ -73,7 +73,7 @@ add-if3 : tie.Need-add-if3
 add-if3 c = search needs
 
 returns-4 : tie.Need-returns-4
-unfolding wholeRefusal
+unfolding frameRefusal
 returns-4 c =
     let call = c .before .before in
     let image = start (call .before) .args .image .now in
@@ -83,27 +83,27 @@ starts-fit-requires : tie.Need-starts-fit-requires
 starts-fit-requires c κs = search needs
 
 returns-5 : tie.Need-returns-5
-unfolding wholeRefusal
+unfolding frameRefusal
 returns-5 c =
     let else3 = c .before .before in
     let call = else3 .before .before in
     simp (two (call .before), form (call .before), few (else3 .before), room else3, sym (c .before .starts-fit .ensures) ∙ not-true _ (c .if4 .taken))
 
 returns-6 : tie.Need-returns-6
-unfolding wholeRefusal
+unfolding frameRefusal
 returns-6 c =
     let else3 = c .before .before in
     let call = else3 .before .before in
     simp (two (call .before), form (call .before), few (else3 .before), room else3, sym (c .before .starts-fit .ensures) ∙ not-false _ (c .if4 .left))
 
-pub refusal-of-spec : {M : Type 1} → statement M
-refusal-of-spec =
+pub frame-refusal-spec : {M : Type 1} → statement M
+frame-refusal-spec =
     tie.close
     (tie.spec
     returns
-    sub-with-byte
-    shared-slice-read-with-byte
-    with-byte-requires
+    sub-form-with
+    shared-slice-read-form-with
+    form-with-requires
     enum-told
     enum-told-2
     returns-2

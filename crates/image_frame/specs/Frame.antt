@@ -45,8 +45,8 @@ unfoldable pub startsFit : List ℕ → Bool
 startsFit image = eqb (edge image 0) 0 && rises image 0 (countOf image)
 
 -- 11 to 15, in this order
-unfoldable pub wholeRefusal : List ℕ → Refusal
-wholeRefusal image =
+unfoldable pub frameRefusal : List ℕ → Refusal
+frameRefusal image =
     cond (ltb (length image) 2) Refusal.TooShort
     (ifKnown (formWith (lastByte image))
     (λ form. cond (ltb mostPanels (countOf image)) Refusal.TooMany

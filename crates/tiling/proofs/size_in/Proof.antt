@@ -9,8 +9,8 @@ use Rattle.tiling.specs.Walls.{upTo}
 use Rattle.tiling.specs.Kinds.{sizeIn, widest, largest}
 use Rattle.tiling.proofs.Walls.{in-bounds}
 use Rattle.tiling.proofs.Sizes.{some-wide, largest-few}
-use Rattle.tiling.proofs.size_of.Statement.{statement}
-use Rattle.tiling.proofs.size_of.Tie as tie
+use Rattle.tiling.proofs.size_in.Statement.{statement}
+use Rattle.tiling.proofs.size_in.Tie as tie
 
 widest-requires : tie.Need-widest-requires
 widest-requires c κs = search needs
@@ -56,8 +56,8 @@ returns-2 c =
     let wall = fits (c .before) ∙ not-false _ (c .if1 .left) in
     rw (wall, c .before .before .before .widest .ensures)
 
-pub size-of-spec : {M : Type 1} → statement M
-size-of-spec =
+pub size-in-spec : {M : Type 1} → statement M
+size-in-spec =
     tie.close
     (tie.spec
     widest-requires

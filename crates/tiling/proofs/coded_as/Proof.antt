@@ -9,8 +9,8 @@ use Rattle.tiling.specs.Walls.{upTo}
 use Rattle.tiling.specs.Kinds.{codedAs, widest, highest}
 use Rattle.tiling.proofs.Walls.{in-bounds}
 use Rattle.tiling.proofs.Sizes.{byte-few}
-use Rattle.tiling.proofs.byte_of.Statement.{statement}
-use Rattle.tiling.proofs.byte_of.Tie as tie
+use Rattle.tiling.proofs.coded_as.Statement.{statement}
+use Rattle.tiling.proofs.coded_as.Tie as tie
 
 widest-requires : tie.Need-widest-requires
 widest-requires c κs = search needs
@@ -68,8 +68,8 @@ returns-3 : tie.Need-returns-3
 unfolding codedAs
 returns-3 c = rw (tall-left c, wide-left c, c .before .before .before .before .before .widest .ensures)
 
-pub byte-of-spec : {M : Type 1} → statement M
-byte-of-spec =
+pub coded-as-spec : {M : Type 1} → statement M
+coded-as-spec =
     tie.close
     (tie.spec
     widest-requires
