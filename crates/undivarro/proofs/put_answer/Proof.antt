@@ -10,7 +10,7 @@ use Rattle.lists.specs.Lists.{laidOver}
 use Rattle.answers.specs.declared.Reply.{Reply}
 use Rattle.answers.specs.declared.Sent.{Sent}
 use Rattle.answers.specs.Reply.{sentBytes, sentOf, outputOf, mostReported}
-use Rattle.answers.proofs.Sent.{bytesSent}
+use Rattle.answers.proofs.Lengths.{bytesSent}
 use Rattle.undivarro.proofs.Lengths.{sent-few}
 use borrow.Author.Needs.{needs}
 use Rattle.undivarro.proofs.put_answer.Statement.{statement}
