@@ -80,7 +80,7 @@ pub fn panel_at(t: Table, k: usize) -> Panel
     t.panels[k]
 }
 
-// All places of a table.
+// All places of a table. A loop goes over these: a table that is passed on is copied at each call.
 pub fn places_of(t: Table) -> [Panel; MOST_PANELS]
     requires { ⌜ WellFormed t ⌝ }
     ensures { λ r. ⌜ r ≡ inPlaces (panelsOf t) ⌝ }
