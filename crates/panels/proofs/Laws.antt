@@ -1,20 +1,24 @@
 -- Walls and the tables that hold them. Assumes nothing.
-use mathlib.Core.Path.{_≡_, refl, sym, ap, subst, _∙_}
+use mathlib.Core.Path.{_≡_, refl, sym, ap, ap₂, subst, _∙_}
 use mathlib.Core.Bool.{Bool, true, false, cond}
-use mathlib.Core.List.{[], _∷_, _++_}
+use mathlib.Core.List.{List, [], _∷_, _++_, map}
 use Prim.Native.Nat.{ℕ, zero, suc, _+_, _-_, _≤_, _<_}
 use native.Mathlib.Nat.{add-zero, le-of-suc-le-suc, not-suc-le-zero}
+use native.Mathlib.Numerals.{add-one}
 use native.Mathlib.Omega.{arith}
 use borrow.Author.Tests.{eqb-true, eqb-false}
 use lib.Dec.{eqb}
-use lib.ListN.{length, getD, take, set, replicate, length-append, length-set, length-replicate, getD-replicate}
-use lib.Seq.{take-append-seam}
+use lib.ListN.{length, getD, take, drop, set, replicate, length-append, length-take, length-set, length-replicate, length-map, getD-replicate}
+use lib.Seq.{length-take-le, take-append-seam, drop-append-seam, drop-cons, getD-take, set-append-seam, set-append-left, append-snoc}
 use Rattle.packet.specs.declared.MonitorId.{MonitorId}
+use Rattle.packet.specs.declared.GroupId.{GroupId}
 use Rattle.panels.specs.declared.Panel.{Panel}
 use Rattle.panels.specs.declared.Table.{Table}
 use Rattle.panels.specs.declared.Place.{Place}
-use Rattle.panels.specs.Wall.{Wall, blank, inPlaces, tableOf, panelsOf, placeFrom, mostPanels}
+use Rattle.panels.specs.Wall.{Wall, blank, inPlaces, tableOf, panelsOf, SamePanels, placeFrom, mostPanels}
 use Rattle.panels.specs.WellFormed.{WellFormed}
+use Rattle.lists.proofs.Places.{getD-inside}
+use Rattle.lists.proofs.Mapped.{take-map}
 
 -- A wall in its places. They begin with it, and are as many as a table has.
 taken : (w : Wall) → take (length w) (inPlaces w) ≡ w
@@ -34,6 +38,96 @@ padded (p ∷ w) n (suc k) d h = padded w n k d (omega arith)
 pub place-is : (w : Wall) (k : ℕ) (d : Panel) → k < mostPanels → getD (inPlaces w) k d ≡ getD w k blank
 unfolding inPlaces
 place-is w k d h = padded w (mostPanels - length w) k d (omega arith)
+
+-- one more panel behind the last
+pub grown-places : (w : Wall) (p : Panel) → length w < mostPanels → set (inPlaces w) (length w) p ≡ inPlaces (w ++ p ∷ [])
+unfolding inPlaces
+grown-places w p h =
+    let was : mostPanels - length w ≡ suc ((mostPanels - 1) - length w) = omega arith in
+    let is : mostPanels - length (w ++ p ∷ []) ≡ (mostPanels - 1) - length w = simp length-append (omega arith) in
+    rw (was, set-append-seam, is) (sym (append-snoc w p _))
+
+-- another panel at a place that the wall has
+changed-places : (w : Wall) (k : ℕ) (p : Panel) → k < length w → set (inPlaces w) k p ≡ inPlaces (set w k p)
+unfolding inPlaces
+changed-places w k p h =
+    set-append-left w _ k p h ∙ ap (λ (m : ℕ). set w k p ++ replicate (mostPanels - m) blank) (sym (length-set w k p))
+
+-- each panel turned for itself, and the places behind the last as they were
+pub turned-places : (g : Panel → Panel) (w : Wall) → take (length w) (map g (inPlaces w)) ++ drop (length w) (inPlaces w) ≡ inPlaces (map g w)
+unfolding inPlaces
+turned-places g w =
+    ap₂ (λ (l m : Wall). l ++ m) (take-map g (length w) (inPlaces w) ∙ ap (map g) (taken w)) (drop-append-seam w _)
+    ∙ ap (λ (n : ℕ). map g w ++ replicate (mostPanels - n) blank) (sym (length-map w g))
+
+-- the panels are the same ones, where each keeps its ID and its group
+pub same-panels : (g : Panel → Panel) → ((p : Panel) → (g p .id ≡ p .id) × (g p .group ≡ p .group)) → (w : Wall) → SamePanels w (map g w)
+same-panels g keeps [] = (refl, refl)
+same-panels g keeps (p ∷ w) =
+    let rest = same-panels g keeps w in
+    (ap₂ (λ (i : MonitorId) (l : List MonitorId). i ∷ l) (sym (keeps p .0)) (rest .0), ap₂ (λ (i : GroupId) (l : List GroupId). i ∷ l) (sym (keeps p .1)) (rest .1))
+
+-- places that hold a wall hold it in their first: a table is made of them
+pub held-first : {l : List Panel} {w : Wall} (n : ℕ) → l ≡ inPlaces w → n ≡ length w → take n l ≡ w
+held-first {w = w} n e m = ap₂ take m e ∙ taken w
+
+pub may-hold : {l : List Panel} (w : Wall) (n : ℕ) → l ≡ inPlaces w → n ≡ length w → length w ≤ mostPanels → (n ≤ mostPanels) × (l ≡ inPlaces (take n l))
+may-hold w n e m few = (omega arith, e ∙ ap inPlaces (sym (held-first n e m)))
+
+-- and as many as are taken of them
+pub first-many : {l : List Panel} (n : ℕ) → n ≤ mostPanels → l ≡ inPlaces (take n l) → length (take n l) ≡ n
+first-many {l} n h e =
+    let m : length l ≡ mostPanels = ap length e ∙ places-many (take n l) (simp length-take (omega arith)) in
+    length-take-le n l (omega arith)
+
+-- places that are filled one after the other: none yet, one more
+pub none-held : replicate mostPanels blank ≡ inPlaces []
+unfolding inPlaces
+none-held = refl
+
+pub one-held : (l : List Panel) (n : ℕ) (p : Panel) → n < mostPanels → l ≡ inPlaces (take n l)
+    → (set l n p ≡ inPlaces (take (n + 1) (set l n p))) × (take (n + 1) (set l n p) ≡ take n l ++ p ∷ [])
+one-held l n p h e =
+    let w = take n l in
+    let m : length w ≡ n = first-many n (omega arith) e in
+    let on : set l n p ≡ inPlaces (w ++ p ∷ []) = ap₂ (λ (l : Wall) (k : ℕ). set l k p) e (sym m) ∙ grown-places w p (omega arith) in
+    let first = held-first (n + 1) on (simp length-append (omega arith)) in
+    (on ∙ ap inPlaces (sym first), first)
+
+pub panels-of-table : (w : Wall) → panelsOf (tableOf w) ≡ w
+unfolding tableOf
+panels-of-table w = taken w
+
+pub count-is : {t : Table} → WellFormed t → t .count ≡ length (panelsOf t)
+unfolding tableOf
+count-is f = ap (λ (t : Table). t .count) (f .held)
+
+pub count-few : {t : Table} → WellFormed t → t .count ≤ mostPanels
+count-few f = omega (arith, count-is f, f .few)
+
+-- a place below the count is the wall's
+pub in-wall : {t : Table} → WellFormed t → (k : ℕ) (d : Panel) → k < t .count → getD (t .panels) k d ≡ getD (panelsOf t) k blank
+in-wall {t} f k d h =
+    sym (getD-take (t .count) (t .panels) k d h) ∙ getD-inside (panelsOf t) k d blank (omega (arith, count-is f))
+
+-- the search at place k: what is found from there on
+unfoldable pub placeAfter : MonitorId → ℕ → Wall → Place
+placeAfter i k w = placeFrom i k (drop k w)
+
+pub place-step : (i : MonitorId) (w : Wall) (k : ℕ) → k < length w
+    → placeAfter i k w ≡ cond (eqb (getD w k blank .id .0) (i .0)) (Place.At k) (placeAfter i (k + 1) w)
+unfolding placeAfter placeFrom
+place-step i w k h = rw (drop-cons w k blank, add-one)
+
+-- the wall and its blank places are all that a table has
+pub held-places : {t : Table} → WellFormed t → t .panels ≡ inPlaces (panelsOf t)
+unfolding tableOf
+held-places f = ap (λ (t : Table). t .panels) (f .held)
+
+-- a table is known by its places and its count
+pub table-is : (t : Table) (w : Wall) → t .panels ≡ inPlaces w → t .count ≡ length w → t ≡ tableOf w
+unfolding tableOf
+table-is t w e n = λ i. record { panels = e i; count = n i }
 
 -- another panel at a place that the wall has
 pub replaced : {t : Table} → WellFormed t → (k : ℕ) → k < t .count → (p : Panel)
