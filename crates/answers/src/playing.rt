@@ -45,7 +45,8 @@ fn play_one(t: Table, k: usize, order: Order, d: &[u8]) -> Played
     requires { ⌜ WellFormed t × (k < length (panelsOf t)) × (order ≡ orderOf (command (now d))) ⌝ }
     ensures { λ r. ⌜ r ≡ asked (panelsOf t) k (command (now (d .entry))) ⌝ }
 {
-    let p = panels::panel_at(t, k);
+    let mut places = panels::places_of(t);
+    let p = places[k];
     let id = p.id;
     match order {
         Order::Report(row) => undamaged(t, judging::report_of(p, row)),
@@ -54,9 +55,8 @@ fn play_one(t: Table, k: usize, order: Order, d: &[u8]) -> Played
             if !judging::takes(p, row, allowed, d) {
                 return undamaged(t, answering::word_from(id, Control::Nav));
             }
-            let q = judging::with_values(p, row, d);
-            let values = q.values;
-            let after = panels::with_values(t, k, values);
+            places[k] = judging::with_values(p, row, d);
+            let after = panels::with_places(t, places);
             undamaged(after, answering::word_from(id, Control::Ack))
         }
         Order::NotAvailable => undamaged(t, answering::word_from(id, Control::Nav)),

@@ -48,7 +48,7 @@ grown-places w p h =
     rw (was, set-append-seam, is) (sym (append-snoc w p _))
 
 -- another panel at a place that the wall has
-changed-places : (w : Wall) (k : ℕ) (p : Panel) → k < length w → set (inPlaces w) k p ≡ inPlaces (set w k p)
+pub changed-places : (w : Wall) (k : ℕ) (p : Panel) → k < length w → set (inPlaces w) k p ≡ inPlaces (set w k p)
 unfolding inPlaces
 changed-places w k p h =
     set-append-left w _ k p h ∙ ap (λ (m : ℕ). set w k p ++ replicate (mostPanels - m) blank) (sym (length-set w k p))
@@ -66,6 +66,11 @@ same-panels g keeps [] = (refl, refl)
 same-panels g keeps (p ∷ w) =
     let rest = same-panels g keeps w in
     (ap₂ (λ (i : MonitorId) (l : List MonitorId). i ∷ l) (sym (keeps p .0)) (rest .0), ap₂ (λ (i : GroupId) (l : List GroupId). i ∷ l) (sym (keeps p .1)) (rest .1))
+
+pub same-set : (w : Wall) (k : ℕ) (q : Panel) → q .id ≡ getD w k blank .id → q .group ≡ getD w k blank .group → SamePanels w (set w k q)
+same-set [] k q i g = (refl, refl)
+same-set (p ∷ w) zero q i g = (rw i, rw g)
+same-set (p ∷ w) (suc k) q i g = let rest = same-set w k q i g in (rw (rest .0), rw (rest .1))
 
 -- places that hold a wall hold it in their first: a table is made of them
 pub held-first : {l : List Panel} {w : Wall} (n : ℕ) → l ≡ inPlaces w → n ≡ length w → take n l ≡ w
@@ -128,14 +133,6 @@ held-places f = ap (λ (t : Table). t .panels) (f .held)
 pub table-is : (t : Table) (w : Wall) → t .panels ≡ inPlaces w → t .count ≡ length w → t ≡ tableOf w
 unfolding tableOf
 table-is t w e n = λ i. record { panels = e i; count = n i }
-
--- another panel at a place that the wall has
-pub replaced : {t : Table} → WellFormed t → (k : ℕ) → k < t .count → (p : Panel)
-    → _≡_ {A = Table} (record { panels = set (t .panels) k p; count = t .count }) (tableOf (set (panelsOf t) k p))
-replaced {t} f k h p =
-    let n = count-is f in
-    let w = panelsOf t in
-    table-is _ _ (ap (λ (l : Wall). set l k p) (held-places f) ∙ changed-places w k p (omega arith)) (n ∙ sym (length-set w k p))
 
 -- What is found is a place of the wall with that ID; where nothing is found no place has it.
 abbrev pub IsPlace : MonitorId → ℕ → Wall → Place → Type 0

@@ -4,7 +4,7 @@ use mathlib.Core.Bool.{cond}
 use mathlib.Core.List.{List, [], _∷_, _++_, map}
 use mathlib.Core.Path.{_≡_}
 use lib.Dec.{eqb}
-use lib.ListN.{length, getD, take, set, replicate}
+use lib.ListN.{length, take, replicate}
 use Rattle.settings.specs.declared.Profile.{Profile}
 use Rattle.tiling.specs.declared.Kind.{Kind}
 use Rattle.tiling.specs.Kinds.{kindNumber}
@@ -57,10 +57,6 @@ tableOf w = record { panels = inPlaces w; count = length w }
 
 abbrev pub panelsOf : Table → Wall
 panelsOf t = take (t .count) (t .panels)
-
--- other values in the panel at place k, whose ID, group and profile stay
-unfoldable pub withValues : ℕ → List ℕ → Wall → Wall
-withValues k values w = let p = getD w k blank in set w k (record { id = p .id; group = p .group; profile = p .profile; values = values })
 
 -- the same panels, whatever their settings: ID and group, place by place
 abbrev pub SamePanels : Wall → Wall → Type 0

@@ -3,7 +3,7 @@ ghost use mathlib.Core.Path.{_≡_};
 ghost use mathlib.Core.List.{[]};
 ghost use Prim.Native.Nat.{_≤_};
 ghost use lib.ListN.{length, getD, take};
-ghost use Rattle.panels.specs.Wall.{mostPanels, blank, inPlaces, tableOf, panelsOf, withValues, SamePanels, placeOf, videoOf};
+ghost use Rattle.panels.specs.Wall.{mostPanels, blank, inPlaces, tableOf, panelsOf, SamePanels, placeOf, videoOf};
 ghost use Rattle.panels.specs.Addressed.{reaches};
 ghost use Rattle.panels.specs.WellFormed.{WellFormed};
 use packet::GroupId;
@@ -107,20 +107,6 @@ pub fn with_places(t: Table, places: [Panel; MOST_PANELS]) -> Table
     let mut next = t;
     next.panels = places;
     next
-}
-
-// The table with these values in the panel at place k, if there is one.
-pub fn with_values(mut t: Table, k: usize, values: [u8; VALUE_COUNT]) -> Table
-    requires { ⌜ WellFormed t ⌝ }
-    ensures { λ r. ⌜ r ≡ tableOf (withValues k values (panelsOf t)) ⌝ }
-{
-    if t.count <= k {
-        return t;
-    }
-    let mut p = t.panels[k];
-    p.values = values;
-    t.panels[k] = p;
-    t
 }
 
 pub fn place_of(t: Table, id: MonitorId) -> Place

@@ -17,14 +17,14 @@ third = refl
 at : (c : tie.After-place-of) → c .place-of .result ≡ 2
 at c = c .place-of .ensures ∙ third
 
-add-size-of : tie.Need-add-size-of
-add-size-of c = omega (arith, at c)
+add-size-in : tie.Need-add-size-in
+add-size-in c = omega (arith, at c)
 
-array-read-size-of : tie.Need-array-read-size-of
-array-read-size-of c = omega (arith, at c)
+array-read-size-in : tie.Need-array-read-size-in
+array-read-size-in c = omega (arith, at c)
 
-size-of-requires : tie.Need-size-of-requires
-size-of-requires c κs = search needs
+size-in-requires : tie.Need-size-in-requires
+size-in-requires c κs = search needs
 
 enum-known-size : tie.Need-enum-known-size
 enum-known-size c = search needs
@@ -52,9 +52,9 @@ show-place-spec =
     tie.close
     (tie.spec
     place-of-requires
-    add-size-of
-    array-read-size-of
-    size-of-requires
+    add-size-in
+    array-read-size-in
+    size-in-requires
     enum-known-size
     add-print-place
     array-read-print-place
