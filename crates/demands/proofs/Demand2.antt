@@ -30,7 +30,7 @@ use Rattle.answers.specs.Session.{Ended, byBurst}
 use Rattle.answers.proofs.Orders.{OnLine, on-line, taken-allowed}
 use Rattle.answers.proofs.Formed.{stored-own, stored-others, answered-formed}
 use Rattle.demands.proofs.Cases.{p-cases}
-use Rattle.image_read.specs.Read.{Reading as ImageReading}
+use Rattle.image_read.specs.Read.{ReadImage}
 use Rattle.image_read.proofs.Sound.{read-formed}
 use Rattle.image_read.proofs.Order.{read-any-order, read-by-code, left-out}
 use Rattle.image_back.proofs.Back.{written-back}
@@ -153,7 +153,7 @@ received w events = stream-after [] w events
 pub reads-back : ReadsBack
 reads-back form t f out n written =
     let back = written-back form (panelsOf t) (f .good) (f .few) out n written in
-    (ap (λ (r : ImageReading). r .refusal) back, ap (λ (r : ImageReading). tableOf (r .wall)) back ∙ sym (f .held))
+    (ap (λ (r : ReadImage). r .refusal) back, ap (λ (r : ReadImage). tableOf (r .wall)) back ∙ sym (f .held))
 
 pub any-order : AnyOrder
 any-order = read-any-order

@@ -10,7 +10,7 @@ use Rattle.panels.specs.WellFormed.{GoodWall}
 use Rattle.panels.proofs.Laws.{panels-of-table}
 use Rattle.image_forms.specs.declared.Form.{Form}
 use Rattle.refusals.specs.declared.Refusal.{Refusal}
-use Rattle.image_read.specs.Read.{Reading, readOf}
+use Rattle.image_read.specs.Read.{ReadImage, readOf}
 use Rattle.image_read.proofs.Sound.{read-formed}
 use Rattle.image_write.specs.Written.{setupOf, sizeOf, losesNothing, outputOf}
 use Rattle.image_write.proofs.Losing.{is-written}
@@ -32,7 +32,7 @@ is-setup {form} {image} m = sym (m .moved) ∙ front-is-image form (readOf image
 pub same-table : SameTable
 same-table form image other m =
     ap readOf (sym (m .moved)) ∙ written-back form (readOf image .wall) (good-read image) (few-read image) (m .out) (m .count) (m .written)
-    ∙ ap {B = Reading} (λ (r : Refusal). record { refusal = r; wall = readOf image .wall }) (sym (m .sound))
+    ∙ ap {B = ReadImage} (λ (r : Refusal). record { refusal = r; wall = readOf image .wall }) (sym (m .sound))
 
 -- an output of the image's size has room
 pub can-move : CanMove
@@ -48,7 +48,7 @@ reads-general image one = subst (λ (f : Form). losesNothing f (readOf image .wa
 
 pub there-and-back : ThereAndBack
 there-and-back image there back own to from mine =
-    is-setup from ∙ ap (λ (r : Reading). setupOf Form.One (r .wall)) (same-table _ image there to) ∙ sym (is-setup mine)
+    is-setup from ∙ ap (λ (r : ReadImage). setupOf Form.One (r .wall)) (same-table _ image there to) ∙ sym (is-setup mine)
 
 pub back-and-there : BackAndThere
 back-and-there image back there from to = same-table _ back there to ∙ same-table _ image back from

@@ -21,7 +21,7 @@ use Rattle.panels.specs.Wall.{Wall, placeOf, ifThere}
 use Rattle.table_calls.specs.Calls.{refusalNumber as tableNumber, addRefusal}
 use Rattle.answers.specs.declared.Sent.{Sent}
 use Rattle.answers.specs.Reply.{sentBytes, sentOf, refusalNumber as answerNumber}
-use Rattle.image_write.specs.declared.Written.{Written as ImageWriteWritten}
+use Rattle.image_write.specs.declared.Written.{Written as ImageWritten}
 use Rattle.image_forms.specs.declared.Form.{Form}
 use Rattle.image_forms.specs.Forms.{keeps}
 use Rattle.image_write.specs.Written.{sizeOf, losesNothing, writtenOf as imageWritten, refusalNumber as imageNumber}
@@ -71,7 +71,7 @@ image-number : (form : Form) (w : Wall) (out : List ℕ)
 unfolding imageWritten
 image-number form w out = go (losesNothing form w) (leb (sizeOf form w) (length out))
   where
-    go : (a b : Bool) → imageNumber (cond a (cond b (ImageWriteWritten.Bytes (sizeOf form w)) ImageWriteWritten.NoRoom) ImageWriteWritten.WouldLose) ≡ cond a (cond b 0 19) 31
+    go : (a b : Bool) → imageNumber (cond a (cond b (ImageWritten.Bytes (sizeOf form w)) ImageWritten.NoRoom) ImageWritten.WouldLose) ≡ cond a (cond b 0 19) 31
     go true true = refl
     go true false = refl
     go false b = refl

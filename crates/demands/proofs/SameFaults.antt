@@ -23,7 +23,7 @@ use Rattle.image_record.specs.Run.{runFrom}
 use Rattle.image_record.proofs.Heads.{head-known}
 use Rattle.image_record.proofs.Runs.{run-stopped}
 use Rattle.image_read.specs.Fields.{refusalAt, fieldsFrom, fieldsIn}
-use Rattle.image_read.specs.Read.{Reading, recordRefusal, panelIn, refused, readRecords, readOf}
+use Rattle.image_read.specs.Read.{ReadImage, recordRefusal, panelIn, refused, readRecords, readOf}
 use Rattle.image_read.proofs.Sound.{panel-known}
 use Rattle.image_salvage.specs.Kept.{Kept, keptOf}
 use Rattle.image_salvage.specs.Salvaged.{Salvage, behindFaults, salvagedFrom, salvageOf, textFrom}
@@ -69,7 +69,7 @@ module _ (form : Form) (profile : Profile) (left : List ℕ) where
       }
 
 -- a reading and a salvage of the records that are left
-record Agree (r : Reading) (s : Salvage) : Type 0 where
+record Agree (r : ReadImage) (s : Salvage) : Type 0 where
   number : refusalNumber (r .refusal) ≡ firstFault (s .faults)
   kept : r .refusal ≡ Refusal.Nothing → (s .wall ≡ r .wall) × ((k : ℕ) → textFrom k (s .faults) ≡ [])
 
@@ -90,8 +90,8 @@ module _ (form : Form) (w : Wall) (bytes : List ℕ) (records : List (List ℕ))
       let read = first-refused {why = Refusal.Record} (rw e) refl in
       let salvaged = record-dropped form w bytes records e in
       record {
-        number = ap (λ (r : Reading). refusalNumber (r .refusal)) read ∙ ap (λ (s : Salvage). firstFault (s .faults)) (sym salvaged);
-        kept = λ s. absurd (false≢true (ap isSound (ap (λ (r : Reading). r .refusal) (sym read) ∙ s)));
+        number = ap (λ (r : ReadImage). refusalNumber (r .refusal)) read ∙ ap (λ (s : Salvage). firstFault (s .faults)) (sym salvaged);
+        kept = λ s. absurd (false≢true (ap isSound (ap (λ (r : ReadImage). r .refusal) (sym read) ∙ s)));
       }
 
   module _ (profile : Profile) (e : headIn form (idIn w) bytes ≡ Numbered.Known profile) where
@@ -121,8 +121,8 @@ module _ (form : Form) (w : Wall) (bytes : List ℕ) (records : List (List ℕ))
         let number = fields-agree form profile left .number in
         let some : first faults ≡ 0 → ⊥ = λ z. eqb-false (refusalNumber why) 0 bad (number ∙ z) in
         record {
-          number = ap (λ (r : Reading). refusalNumber (r .refusal)) read ∙ number ∙ sym (first-of faults (salvagedFrom form wall records .faults) some) ∙ ap (λ (s : Salvage). firstFault (s .faults)) (sym salvaged);
-          kept = λ s. absurd (false≢true (sym bad ∙ ap isSound (ap (λ (r : Reading). r .refusal) (sym read) ∙ s)));
+          number = ap (λ (r : ReadImage). refusalNumber (r .refusal)) read ∙ number ∙ sym (first-of faults (salvagedFrom form wall records .faults) some) ∙ ap (λ (s : Salvage). firstFault (s .faults)) (sym salvaged);
+          kept = λ s. absurd (false≢true (sym bad ∙ ap isSound (ap (λ (r : ReadImage). r .refusal) (sym read) ∙ s)));
         }
 
     -- it has none, and the others decide
@@ -138,10 +138,10 @@ module _ (form : Form) (w : Wall) (bytes : List ℕ) (records : List (List ℕ))
         let saved : salvagedFrom form w (bytes ∷ records) ≡ behindFaults [] (salvagedFrom form wall records) =
         salvaged ∙ ap (λ (fs : List Fault). behindFaults fs (salvagedFrom form wall records)) none in
         record {
-          number = ap (λ (r : Reading). refusalNumber (r .refusal)) read ∙ ih .number ∙ ap (λ (s : Salvage). firstFault (s .faults)) (sym saved);
+          number = ap (λ (r : ReadImage). refusalNumber (r .refusal)) read ∙ ih .number ∙ ap (λ (s : Salvage). firstFault (s .faults)) (sym saved);
           kept = λ z.
-              let (walls, text) = ih .kept (ap (λ (r : Reading). r .refusal) (sym read) ∙ z) in (
-                ap (λ (s : Salvage). s .wall) saved ∙ walls ∙ ap (λ (r : Reading). r .wall) (sym read),
+              let (walls, text) = ih .kept (ap (λ (r : ReadImage). r .refusal) (sym read) ∙ z) in (
+                ap (λ (s : Salvage). s .wall) saved ∙ walls ∙ ap (λ (r : ReadImage). r .wall) (sym read),
                 λ k. ap (λ (s : Salvage). textFrom k (s .faults)) saved ∙ rw (lines-none k) (text (suc k)),
               );
         }

@@ -24,7 +24,7 @@ use Rattle.answers.specs.Reply.{sentBytes, sentOf, refusalNumber as answerNumbe
 use Rattle.answers.specs.Judged.{command, judge, notAvailable}
 use Rattle.answers.specs.Played.{answered}
 use Rattle.image_forms.specs.declared.Form.{Form}
-use Rattle.refusals.specs.declared.Refusal.{Refusal as RefusalsRefusal}
+use Rattle.refusals.specs.declared.Refusal.{Refusal as ImageRefusal}
 use Rattle.image_write.specs.Written.{sizeOf, writtenOf, refusalNumber as imageNumber, outputOf as imageOutput}
 use Rattle.image_read.specs.Read.{readOf}
 use Rattle.host.specs.declared.Host.{Host}
@@ -42,7 +42,7 @@ RemoveRefused = (w : Wall) (i : MonitorId) → (removedFrom w i .refusal ≡ Ref
 
 -- a refused image gives no panel
 abbrev pub ReadRefused : Type 0
-ReadRefused = (image : List ℕ) → (readOf image .refusal ≡ RefusalsRefusal.Nothing → ⊥) → readOf image .wall ≡ []
+ReadRefused = (image : List ℕ) → (readOf image .refusal ≡ ImageRefusal.Nothing → ⊥) → readOf image .wall ≡ []
 
 -- a refused call of the host leaves the host and the output as they were
 abbrev pub CallRefused : Type 0

@@ -1,4 +1,4 @@
--- Reading what was written gives that table. Assumes nothing.
+-- ReadImage what was written gives that table. Assumes nothing.
 use mathlib.Core.Path.{_≡_, refl, sym, ap, ap₂, _∙_}
 use mathlib.Core.Bool.{Bool, true, false, cond, false≢true}
 use mathlib.Core.List.{List, [], _∷_, _++_, flatten, append-nil}
@@ -25,7 +25,7 @@ use Rattle.image_forms.proofs.Laws.{kept-profile, kept-fresh}
 use Rattle.image_write.specs.declared.Written.{Written}
 use Rattle.image_write.specs.Written.{field, fieldIn, fieldsOf, recordOf, recordsOf, setupOf, sizeOf, losesNothing, writtenOf, outputOf}
 use Rattle.image_read.specs.Fields.{fieldsIn}
-use Rattle.image_read.specs.Read.{Reading, recordRefusal, panelIn, readRecords, readOf}
+use Rattle.image_read.specs.Read.{ReadImage, recordRefusal, panelIn, readRecords, readOf}
 use Rattle.image_read.specs.Entries.{Entry, bytesOf, Without, HasAll, KindFirst, givenOr, given}
 use Rattle.image_read.proofs.OnTheWay.{entryOf}
 use Rattle.lists.proofs.Each.{each-alike}
@@ -153,11 +153,11 @@ module _ (form : Form) where
   records-back : (w v : Wall) → GoodWall v → losesNothing form v ≡ true → Apart w v
       → readRecords form w (recordsOf form v) ≡ record { refusal = Refusal.Nothing; wall = w ++ v }
   unfolding readRecords
-  records-back w [] good held a = ap {B = Reading} (λ (u : Wall). record { refusal = Refusal.Nothing; wall = u }) (sym (append-nil w))
+  records-back w [] good held a = ap {B = ReadImage} (λ (u : Wall). record { refusal = Refusal.Nothing; wall = u }) (sym (append-nil w))
   records-back w (p ∷ v) (g, b, good) held (a, apart) =
       let (here, rest) = first-held form p v held in
       rw (record-back p g form here w a, panel-back p g form here)
-      (records-back (w ++ p ∷ []) v good rest (apart-snoc w v p apart b) ∙ ap {B = Reading} (λ (u : Wall). record { refusal = Refusal.Nothing; wall = u }) (append-snoc w p v))
+      (records-back (w ++ p ∷ []) v good rest (apart-snoc w v p apart b) ∙ ap {B = ReadImage} (λ (u : Wall). record { refusal = Refusal.Nothing; wall = u }) (append-snoc w p v))
 
   -- The image of a good wall that the form holds is sound and reads as that wall.
   module _ (w : Wall) (good : GoodWall w) (few : length w ≤ mostPanels) (held : losesNothing form w ≡ true) where
@@ -188,7 +188,7 @@ module _ (form : Form) where
       let (held, room, size) = was-written form w out n e in
       rw (size, is-written form w out held room .1) (take-at (setupOf form w) _ (sizeOf form w) (image-size w good))
 
-  -- Reading what was written of a table gives that table.
+  -- ReadImage what was written of a table gives that table.
   pub written-back : (w : Wall) → GoodWall w → length w ≤ mostPanels → (out : List ℕ) (n : ℕ) → writtenOf form w out ≡ Written.Bytes n
       → readOf (take n (outputOf form w out)) ≡ record { refusal = Refusal.Nothing; wall = w }
   written-back w good few out n e =

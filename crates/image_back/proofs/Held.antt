@@ -13,7 +13,7 @@ use Rattle.image_write.specs.Written.{losesNothing}
 use Rattle.image_write.proofs.Losing.{one-more}
 use Rattle.image_frame.specs.Frame.{formOf, frameRefusal, recordsIn}
 use Rattle.refusals.specs.Refusals.{isSound}
-use Rattle.image_read.specs.Read.{Reading, recordRefusal, panelIn, refused, readRecords, readOf}
+use Rattle.image_read.specs.Read.{ReadImage, recordRefusal, panelIn, refused, readRecords, readOf}
 use Rattle.image_read.proofs.Sound.{fields-gathered}
 
 panel-held : (form : Form) (bytes : List ℕ) → keeps form (panelIn form bytes .profile) (panelIn form bytes .values) ≡ true
@@ -21,7 +21,7 @@ unfolding panelIn
 panel-held Form.One bytes = keeps-fresh Profile.General _ Form.One refl (λ row h none. fields-gathered Form.One Profile.General (drop (headSize Form.One) bytes) .fresh row none)
 panel-held Form.Two bytes = two-keeps _ _
 
-either : (form : Form) (t : Bool) (a b : Reading) → losesNothing form (a .wall) ≡ true → losesNothing form (b .wall) ≡ true
+either : (form : Form) (t : Bool) (a b : ReadImage) → losesNothing form (a .wall) ≡ true → losesNothing form (b .wall) ≡ true
     → losesNothing form (cond t a b .wall) ≡ true
 either form true a b e d = e
 either form false a b e d = d

@@ -13,7 +13,7 @@ use Rattle.lists.proofs.Both.{both}
 use Rattle.lists.proofs.Same.{same-is}
 use Rattle.settings.specs.declared.Profile.{Profile}
 use Rattle.settings.specs.Settings.{valuesOf, freshValues, rowCount, kindRow, tilingRow}
-use Rattle.profiles.specs.declared.Numbered.{Numbered as ProfilesNumbered}
+use Rattle.profiles.specs.declared.Numbered.{Numbered as ProfileNumbered}
 use Rattle.profiles.proofs.Numbers.{number-back}
 use Rattle.image_forms.specs.declared.Form.{Form}
 use Rattle.image_forms.specs.declared.Numbered.{Numbered}
@@ -40,7 +40,7 @@ module _ (id group : ℕ) (profile : Profile) where
   head-length Form.One = refl
   head-length Form.Two = refl
 
-  pub profile-back : (form : Form) (rest : List ℕ) → holds form profile ≡ true → profileIn form (headOf form id group profile ++ rest) ≡ ProfilesNumbered.Known profile
+  pub profile-back : (form : Form) (rest : List ℕ) → holds form profile ≡ true → profileIn form (headOf form id group profile ++ rest) ≡ ProfileNumbered.Known profile
   profile-back Form.One rest h = rw (holds-general profile h)
   profile-back Form.Two rest h = number-back profile
 

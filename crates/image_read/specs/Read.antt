@@ -18,11 +18,11 @@ use Rattle.image_read.specs.declared.Read.{Read}
 use Rattle.image_read.specs.Fields.{fieldsIn}
 
 -- a wall read, or a refusal and no panels
-pub record Reading : Type 0 where
+pub record ReadImage : Type 0 where
   pub refusal : Refusal
   pub wall : Wall
 
-abbrev pub refused : Refusal → Reading
+abbrev pub refused : Refusal → ReadImage
 refused r = record { refusal = r; wall = [] }
 
 -- 16, where the IDs seen before are those of the wall so far; then the fields' 17 and 18
@@ -38,14 +38,14 @@ unfoldable pub panelIn : Form → List ℕ → Panel
 panelIn form bytes = ifKnown (profileIn form bytes) (panelWith form bytes) blank
 
 -- records in order, each a panel at the end of the wall
-unfoldable pub readRecords : Form → Wall → List (List ℕ) → Reading
+unfoldable pub readRecords : Form → Wall → List (List ℕ) → ReadImage
 readRecords form w [] = record { refusal = Refusal.Nothing; wall = w }
 readRecords form w (bytes ∷ records) =
     let why = recordRefusal form w bytes in
     cond (isSound why) (readRecords form (w ++ panelIn form bytes ∷ []) records) (refused why)
 
-unfoldable pub readOf : List ℕ → Reading
+unfoldable pub readOf : List ℕ → ReadImage
 readOf image = cond (isSound (frameRefusal image)) (readRecords (formOf image) [] (recordsIn image)) (refused (frameRefusal image))
 
-abbrev pub inTable : Reading → Read
+abbrev pub inTable : ReadImage → Read
 inTable r = record { refusal = r .refusal; table = tableOf (r .wall) }
