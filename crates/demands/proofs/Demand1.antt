@@ -32,7 +32,7 @@ use Rattle.image_write.specs.Written.{setupOf, sizeOf, losesNothing, writtenOf,
 use Rattle.refusals.specs.declared.Refusal.{Refusal as ImageRefusal}
 use Rattle.image_frame.specs.Frame.{formOf, frameRefusal, recordsIn}
 use Rattle.refusals.specs.Refusals.{isSound}
-use Rattle.image_read.specs.Read.{Reading, refused, recordRefusal, readRecords, readOf}
+use Rattle.image_read.specs.Read.{ReadImage, refused, recordRefusal, readRecords, readOf}
 use Rattle.image_read.proofs.OnTheWay.{wallWith}
 use Rattle.image_back.proofs.Back.{image-size}
 use Rattle.host.specs.declared.Refusal.{Refusal as HostRefusal}
@@ -101,10 +101,10 @@ image-alone form t f out = go (losesNothing form (panelsOf t)) (leb (sizeOf form
     go false b = refl
 
 -- a refusal gives no panel
-abbrev NoneRefused : Reading → Type 0
+abbrev NoneRefused : ReadImage → Type 0
 NoneRefused r = (r .refusal ≡ ImageRefusal.Nothing → ⊥) → r .wall ≡ []
 
-either : (t : Bool) (r : Reading) (why : ImageRefusal) → NoneRefused r → NoneRefused (cond t r (refused why))
+either : (t : Bool) (r : ReadImage) (why : ImageRefusal) → NoneRefused r → NoneRefused (cond t r (refused why))
 either true r why h = h
 either false r why h = λ n. refl
 
