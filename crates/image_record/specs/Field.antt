@@ -1,7 +1,7 @@
 -- The field at the front of a record's bytes, by the record's form and profile. 01, "Setup image, form 1", refusals 17 and 18;
 -- 02, A2 and A6: the kind is a field too, by which a tiling behind it is judged.
 use Prim.Native.Nat.{ℕ, _+_}
-use mathlib.Core.Bool.{Bool, true, false, cond, not, _&&_, _||_}
+use mathlib.Core.Bool.{Bool, false, cond, not, _&&_, _||_}
 use mathlib.Core.List.{List}
 use lib.Dec.{ltb, eqb}
 use lib.ListN.{length, getD, take, drop}

@@ -1,7 +1,6 @@
 // The fields of a record that is kept: each up to the first that is broken.
 ghost use mathlib.Core.Path.{_≡_};
-ghost use mathlib.Core.List.{List};
-ghost use Prim.Native.Nat.{ℕ, _+_, _*_, _≤_};
+ghost use Prim.Native.Nat.{_+_, _*_, _≤_};
 ghost use lib.ListN.{length};
 ghost use Rattle.lists.specs.Lists.{laidAt};
 ghost use Rattle.image_faults.specs.Lines.{lineOf, longestLine};

@@ -5,10 +5,9 @@ use mathlib.Core.List.{List, [], _∷_, _++_}
 use lib.Dec.{ltb}
 use lib.ListN.{length, take, set, replicate}
 use Rattle.packet.specs.Packet.{longest}
-use Rattle.packet.specs.Reading.{Reading, readingOf}
+use Rattle.packet.specs.Reading.{readingOf}
 use Rattle.panels.specs.declared.Table.{Table}
 use Rattle.panels.specs.Wall.{Wall}
-use Rattle.answers.specs.declared.Played.{Played}
 use Rattle.line.specs.declared.Receiver.{Receiver}
 use Rattle.line.specs.declared.Heard.{Heard}
 use Rattle.answers.specs.Played.{answered, answeredOn}

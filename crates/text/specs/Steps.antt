@@ -1,7 +1,7 @@
 -- A step that was read into a buffer. 01, "The play program". No contract can say which bytes standard input has; of those that
 -- were read, with their count before them, it says that they are one burst of that form, or the start of one.
-use Prim.Native.Nat.{ℕ, _≤_, _<_}
-use mathlib.Core.Bool.{true, false}
+use Prim.Native.Nat.{ℕ}
+use mathlib.Core.Bool.{false}
 use mathlib.Core.Path.{_≡_}
 use mathlib.Core.List.{List, [], _∷_}
 use lib.ListN.{take, drop}
