@@ -1,12 +1,12 @@
 -- What was read stands at the front of the buffer, whose length is kept. Assumes nothing.
 use mathlib.Core.Path.{_≡_, sym, ap, _∙_}
 use mathlib.Core.List.{List, _++_}
-use Prim.Native.Nat.{ℕ, _+_, _-_, _≤_}
+use Prim.Native.Nat.{ℕ, _≤_, _<_}
 use native.Mathlib.Omega.{arith}
 use borrow.Author.Needs.{needs}
-use lib.ListN.{length, take, drop, length-append}
+use lib.ListN.{length, take, drop, length-append, length-take}
 use lib.Seq.{length-take-le, take-append-seam, drop-append-seam, drop-drop}
-use Rattle.bursts.proofs.Bursts.{one-burst}
+use Rattle.bursts.proofs.Bursts.{one-burst, cut-burst}
 use Rattle.text.specs.declared.Read.{Read}
 use Rattle.text.specs.Steps.{StepIn, longestStep}
 use Rattle.text.proofs.read_step.Statement.{statement}
@@ -23,11 +23,8 @@ module _ (n : ℕ) (a before : List ℕ) (e : length a ≡ n) where
       let fits : n ≤ length (a ++ drop n before) = simp length-append (omega arith) in
       ((fits, sym (length-take-le n _ fits)), left, rw (front, ← e) (one-burst a))
 
-  cut : n ≤ longestStep → StepIn before Read.Cut (a ++ drop n before)
-  cut h =
-      let all : n + (longestStep - n) ≡ longestStep = omega arith in
-      let back : (l : List ℕ) → drop longestStep l ≡ drop (longestStep - n) (drop n l) = λ l. sym (drop-drop (longestStep - n) n l ∙ ap (λ k. drop k l) all) in
-      back _ ∙ ap (drop (longestStep - n)) left ∙ sym (back before)
+  cut : (r : ℕ) → r < n → n ≤ longestStep → StepIn before Read.Cut (a ++ drop n before)
+  cut r fewer most = (n, r, fewer, most, left, cut-burst n _ (rw length-take (omega arith)))
 
 slice-aggregate-read-full : tie.Need-slice-aggregate-read-full
 slice-aggregate-read-full c = search needs
@@ -62,7 +59,7 @@ returns-2 c =
     let n = read .before .before .count-of .result in
     let buf = read .before .before .before .before .before .before .before .before .args .buf .now in
     let fits : n ≤ length buf = omega arith in
-    cut n (read .read-full2 .last .1 .0) buf (omega (arith, length-take-le n buf fits)) (omega arith)
+    cut n (read .read-full2 .last .1 .0) buf (omega (arith, length-take-le n buf fits)) (read .read-full2 .result) (omega arith) (omega arith)
 
 same-length-2 : tie.Need-same-length-2
 same-length-2 c = search needs
