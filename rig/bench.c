@@ -4,7 +4,6 @@
 
 #include <fcntl.h>
 #include <inttypes.h>
-#include <stdbool.h>
 #include <stdio.h>
 #include <stdlib.h>
 #include <string.h>
@@ -52,13 +51,14 @@ struct outcome {
     uint8_t answer[UNDIVARRO_ANSWER_CAP], out[UNDIVARRO_IMAGE_CAP];
 };
 
-/* 32 fresh general 5 by 5 panels, all in group 9, as each form is written; and in form 2 with eleven faults each. */
+/* 32 fresh general 5 by 5 panels, all in group 9, as each form is written; and in form 2 with one of them in group 8, and with
+ * eleven faults each. */
 struct image {
     size_t len;
     uint8_t bytes[UNDIVARRO_IMAGE_CAP + PANELS];
 };
 
-static struct image form_1, form_2, wreck;
+static struct image form_1, form_2, one_apart, wreck;
 
 /* A salvage as a reading, with its lines apart. */
 static uint8_t proved_lines[UNDIVARRO_LINES_CAP], plain_lines[UNDIVARRO_LINES_CAP];
@@ -73,17 +73,19 @@ static struct undivarro_result plain_salvaged(const uint8_t *image, size_t image
     return plain_salvage(image, image_len, plain_lines, sizeof plain_lines, out, out_cap);
 }
 
-/* noipa: one piece of code for all, so that what stands around a call is the same for each. */
-__attribute__((noipa)) static uint64_t count_play(play_function *function, const uint8_t *burst, size_t len, struct outcome *o)
+/* noipa: one piece of code for all, so that what stands around a call is the same for each. Aligned: so is the stack below it,
+ * whatever the environment, and a copy there takes as many instructions at each run. */
+__attribute__((noipa)) static uint64_t count_play(play_function *function, const struct image *image, const uint8_t *burst,
+                                                  size_t len, struct outcome *o)
 {
-    uint64_t before = count_now();
-    o->result = function(form_2.bytes, form_2.len, burst, len, o->answer, sizeof o->answer, o->out, sizeof o->out);
+    _Alignas(64) volatile uint64_t before = count_now();
+    o->result = function(image->bytes, image->len, burst, len, o->answer, sizeof o->answer, o->out, sizeof o->out);
     return count_now() - before;
 }
 
 __attribute__((noipa)) static uint64_t count_read(read_function *function, const struct image *image, struct outcome *o)
 {
-    uint64_t before = count_now();
+    _Alignas(64) volatile uint64_t before = count_now();
     o->result = function(image->bytes, image->len, o->out, sizeof o->out);
     return count_now() - before;
 }
@@ -111,12 +113,15 @@ static void print_row(const char *what, struct cost cost)
     printf("| %s | %" PRIu64 " | %" PRIu64 " | %.2f |\n", what, cost.proved, cost.plain, (double)cost.proved / (double)cost.plain);
 }
 
+enum { EACH = -1, ALL = 0, ABSENT = PANELS + 1 };
+
 struct trial {
     const char *what;
-    const uint8_t *packet;              /* without size, ID and checksum */
+    const struct image *image;
+    const uint8_t *packet;              /* without size, ID, group and checksum */
     size_t len;
-    bool to_all;
-    uint8_t spoil;
+    int id;                             /* or EACH panel's in turn */
+    uint8_t group, spoil;
 };
 
 static const uint8_t get_power[] = {0, 0, 0, 0x19, 0};
@@ -124,17 +129,23 @@ static const uint8_t set_video[] = {0, 0, 0, 0x32, 10, 20, 30, 40, 60, 70, 2, 0}
 static const uint8_t set_fan[] = {0, 0, 0, 0x61, 4, 0};
 static const uint8_t set_tiling[] = {0, 0, 0, 0x22, 1, 0, 2, 8, 0};
 static const struct trial trials[] = {
-    {"get of power, 5 bytes, to one of 32, form 2", get_power, sizeof get_power, false, 0},
-    {"set of video, 12 bytes, to one of 32, form 2", set_video, sizeof set_video, false, 0},
-    {"set of fan, 6 bytes, to all 32, form 2", set_fan, sizeof set_fan, true, 0},
-    {"set of video, 12 bytes, to all 32, form 2", set_video, sizeof set_video, true, 0},
-    {"set of tiling, 9 bytes, to all 32, form 2", set_tiling, sizeof set_tiling, true, 0},
-    {"damaged burst, 5 bytes, for one of 32 (NACK), form 2", get_power, sizeof get_power, false, 1},
+    {"get of power, 5 bytes, to one of 32, form 2", &form_2, get_power, sizeof get_power, EACH, 0, 0},
+    {"set of video, 12 bytes, to one of 32, form 2", &form_2, set_video, sizeof set_video, EACH, 0, 0},
+    {"set of fan, 6 bytes, to all 32, form 2", &form_2, set_fan, sizeof set_fan, ALL, 0, 0},
+    {"set of video, 12 bytes, to all 32, form 2", &form_2, set_video, sizeof set_video, ALL, 0, 0},
+    {"set of tiling, 9 bytes, to all 32, form 2", &form_2, set_tiling, sizeof set_tiling, ALL, 0, 0},
+    {"damaged burst, 5 bytes, for one of 32 (NACK), form 2", &form_2, get_power, sizeof get_power, EACH, 0, 1},
+    {"get of power, 5 bytes, to the first of 32, form 2", &form_2, get_power, sizeof get_power, 1, 0, 0},
+    {"get of power, 5 bytes, to the last of 32, form 2", &form_2, get_power, sizeof get_power, PANELS, 0, 0},
+    {"get of power, 5 bytes, to an ID that is not there, form 2", &form_2, get_power, sizeof get_power, ABSENT, 0, 0},
+    {"set of fan, 6 bytes, to a group without panels, form 2", &form_2, set_fan, sizeof set_fan, ALL, 8, 0},
+    {"set of fan, 6 bytes, to a group with one panel, form 2", &one_apart, set_fan, sizeof set_fan, ALL, 8, 0},
+    {"set of fan, 6 bytes, to a group with all 32, form 2", &form_2, set_fan, sizeof set_fan, ALL, 9, 0},
 };
 enum { TRIALS = sizeof trials / sizeof trials[0] };
 
-/* One burst for each panel in turn, the mean of all; where no panel is named, all 32 calls are alike. The first byte is
- * put in as the size, the second is the panel's ID unless all are meant, the last is put in as the checksum plus spoil. */
+/* One burst for each panel in turn, the mean of all; where not each is named, all 32 calls are alike. Size, ID and group are
+ * put in as the first bytes, the checksum with spoil as the last. */
 static struct cost cost_of_play(const struct trial *t)
 {
     static struct outcome proved, plain, none;
@@ -143,13 +154,14 @@ static struct cost cost_of_play(const struct trial *t)
         uint8_t burst[UNDIVARRO_ANSWER_CAP];
         memcpy(burst, t->packet, t->len);
         burst[0] = (uint8_t)t->len;
-        burst[1] = t->to_all ? 0 : (uint8_t)(k + 1);
+        burst[1] = (uint8_t)(t->id == EACH ? (int)k + 1 : t->id);
+        burst[2] = t->group;
         burst[t->len - 1] = t->spoil;
         for (size_t i = 0; i < t->len - 1; i++)
             burst[t->len - 1] ^= burst[i];
-        uint64_t around = count_play(no_play, burst, t->len, &none);
-        proved_sum += count_play(undivarro_play, burst, t->len, &proved) - around;
-        plain_sum += count_play(plain_play, burst, t->len, &plain) - around;
+        uint64_t around = count_play(no_play, t->image, burst, t->len, &none);
+        proved_sum += count_play(undivarro_play, t->image, burst, t->len, &proved) - around;
+        plain_sum += count_play(plain_play, t->image, burst, t->len, &plain) - around;
         check_same(t->what, &proved, &plain);
     }
     return (struct cost){proved_sum / PANELS, plain_sum / PANELS};
@@ -212,6 +224,8 @@ static void make_images(void)
     fresh[4 * PANELS + 1] = 1;
     form_1.len = plain_back(fresh, sizeof fresh, form_1.bytes, sizeof form_1.bytes).image_len;
     form_2.len = plain_read(fresh, sizeof fresh, form_2.bytes, sizeof form_2.bytes).image_len;
+    one_apart = form_2;
+    one_apart.bytes[RECORD_LEN * 16 + GROUP_AT] = 8;
     make_wreck();
 }
 

@@ -33,15 +33,17 @@ use Rattle.demands.proofs.Cases.{p-cases}
 use Rattle.image_read.specs.Read.{ReadImage}
 use Rattle.image_read.proofs.Sound.{read-formed}
 use Rattle.image_read.proofs.Order.{read-any-order, read-by-code, left-out}
+use Rattle.image_salvage.proofs.Sound.{salvage-formed}
 use Rattle.image_back.proofs.Back.{written-back}
 use Rattle.line.proofs.Streams.{stream-after}
-use Rattle.demands.specs.Demand2.{ByReadings, ReadAsWritten, SetBy, OnlyAddressed, Answer·Is, Answers, Received, empty, add, remove, image, burst, InRange, ReadsBack, AnyOrder, ByCode, LeftOut, Cases}
+use Rattle.demands.specs.Demand2.{ByReadings, ReadAsWritten, SetBy, OnlyAddressed, Answer·Is, Answers, Received, empty, add, remove, image, salvage, burst, InRange, ReadsBack, AnyOrder, ByCode, LeftOut, Cases}
 
 pub in-range : InRange
 in-range t empty = empty-formed
 in-range t (add c i g n k) = added-formed (in-range _ c) i g n k
 in-range t (remove c i) = removed-formed (in-range _ c) i
 in-range t (image bytes) = read-formed bytes
+in-range t (salvage bytes) = salvage-formed bytes
 in-range t (burst c r) = answered-formed (in-range _ c) r
 
 pub by-readings : ByReadings

@@ -2,6 +2,7 @@ pub mod Numbers
 pub mod Cases
 pub mod Demand1
 pub mod Demand2
+pub mod Index
 pub mod Demand3
 pub mod Damage
 pub mod Profiles

@@ -40,6 +40,7 @@ use Rattle.image_read.specs.Fields.{fieldsIn}
 use Rattle.refusals.specs.Refusals.{isSound}
 use Rattle.image_read.specs.Read.{readOf, inTable}
 use Rattle.image_read.specs.Entries.{Entry, bytesOf, freshEntry, Without, Reordered, GiveAlike, SameHead}
+use Rattle.image_salvage.specs.Salvaged.{salvagedAs}
 
 -- a session goes by what is read of its bursts, one after the other,
 abbrev pub ByReadings : Type 0
@@ -90,12 +91,13 @@ Answers = (w : Wall) (r : Reading) → Answer·Is w (answered w r .reply)
 abbrev pub Received : Type 0
 Received = (w : Wall) (events : List Event) → streamed (receiverOf []) w events ≡ session w (burstsAfter [] events)
 
--- tables come from the empty one by add, remove and bursts, or from an image
+-- tables come from the empty one by add, remove and bursts, or from an image that is read or salvaged
 pub data Comes : Table → Type 0 where
   empty : Comes (tableOf [])
   add : {t : Table} → Comes t → (i : MonitorId) (g : GroupId) (n k : ℕ) → Comes (tableOf (added (panelsOf t) i g n k))
   remove : {t : Table} → Comes t → (i : MonitorId) → Comes (tableOf (removed (panelsOf t) i))
   image : (bytes : List ℕ) → Comes (inTable (readOf bytes) .table)
+  salvage : (bytes : List ℕ) → Comes (salvagedAs bytes .table)
   burst : {t : Table} → Comes t → (r : Reading) → Comes (tableOf (answered (panelsOf t) r .wall))
 
 abbrev pub InRange : Type 0

@@ -8,13 +8,11 @@ ghost use Rattle.image_forms.specs.Forms.{headSize, profileIn};
 ghost use Rattle.image_record.specs.Head.{marked, headFits, headIn};
 ghost use Rattle.image_record.specs.Run.{runFrom, stopOf};
 use image_forms::Form;
+use panels::ID_COUNT;
 use profiles::Numbered;
 use settings::Profile;
 use settings::ROW_COUNT;
 use settings::VALUE_COUNT;
-
-// How many IDs there are.
-pub const ID_COUNT: usize = 256;
 
 // What stands at the front of a record's bytes: a field of a row, one whose values are not allowed, a broken one, or the end.
 pub enum Step {

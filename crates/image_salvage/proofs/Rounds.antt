@@ -15,7 +15,7 @@ use Rattle.lists.proofs.Laid.{laid-over}
 use Rattle.profiles.specs.declared.Numbered.{Numbered}
 use Rattle.profiles.specs.Numbers.{ifKnown}
 use Rattle.panels.specs.declared.Panel.{Panel}
-use Rattle.panels.specs.Wall.{Wall, blank, inPlaces, mostPanels}
+use Rattle.panels.specs.Wall.{Wall, blank, inPlaces, mostPanels, idCount}
 use Rattle.panels.proofs.Laws.{none-held, one-held}
 use Rattle.image_forms.specs.declared.Form.{Form}
 use Rattle.image_forms.specs.Forms.{headSize}
@@ -76,7 +76,7 @@ module _ (image first : List ℕ) where
     pub room : next ≤ mostFaults * longestLine * k
     pub held : places ≡ inPlaces (take count places)
     pub panels : count ≤ k
-    pub full : length seen ≡ 256
+    pub full : length seen ≡ idCount
     pub marks : Marks seen (take count places)
     pub laying : Laying 0 first (textOf whole) lines next (textFrom (k + 1) (left (take count places) k .faults))
     pub kept : left (take count places) k .wall ≡ whole .wall
@@ -87,7 +87,7 @@ module _ (image first : List ℕ) where
     pub told : next ≡ length (textOf whole)
     pub laid : lines ≡ laidOver (textOf whole) first
 
-  pub begins : {p : Panel} → p ≡ blank → Round first (replicate mostPanels p) 0 (replicate 256 false) 0 0
+  pub begins : {p : Panel} → p ≡ blank → Round first (replicate mostPanels p) 0 (replicate idCount false) 0 0
   begins e =
       record {
         few = omega arith;
@@ -95,7 +95,7 @@ module _ (image first : List ℕ) where
         held = ap (replicate mostPanels) e ∙ none-held;
         panels = omega arith;
         full = refl;
-        marks = none-marked 256;
+        marks = none-marked idCount;
         laying = begun 0 first (textOf whole) (omega arith);
         kept = refl;
       }
@@ -175,7 +175,7 @@ module _ (image first : List ℕ) where
 
       -- or kept
       pub kept-on : {after : List ℕ} {place : ℕ} → read .kept ≡ true → after ≡ laidAt next piece lines → place ≡ read .next
-          → {panel : Panel} → panel ≡ read .panel → panel .id .0 < 256
+          → {panel : Panel} → panel ≡ read .panel → panel .id .0 < idCount
           → Round after (set places count panel) (count + 1) (set seen (panel .id .0) true) place (k + 1)
       unfolding faultsBy recordBy
       kept-on e laid placed {panel} panel-is small =

@@ -89,7 +89,7 @@ pub fn loses_nothing(form: Form, t: Table) -> bool
     ensures { λ r. ⌜ r ≡ losesNothing form (panelsOf t) ⌝ }
 {
     let n = panels::count_of(t);
-    let places = panels::places_of(t);
+    let places = panels::panels_of(t);
     let mut k = 0;
     while k < n {
         let p = places[k];

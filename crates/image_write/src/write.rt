@@ -89,7 +89,7 @@ pub fn records(form: Form, out: &mut [u8], t: Table)
 {
     let size = crate::record_size(form);
     let n = panels::count_of(t);
-    let places = panels::places_of(t);
+    let places = panels::panels_of(t);
     let mut k = 0;
     while k < n {
         let p = places[k];

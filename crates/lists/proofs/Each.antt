@@ -4,7 +4,7 @@ use Prim.Native.Nat.{ℕ, zero, suc, _<_}
 use mathlib.Core.List.{List, [], _∷_, map}
 use native.Mathlib.Nat.{le-of-suc-le-suc, not-suc-le-zero}
 use native.Mathlib.Omega.{arith}
-use lib.ListN.{length, getD}
+use lib.ListN.{length, getD, set, replicate}
 use Rattle.lists.specs.Lists.{each}
 
 pub in-each : {A : Type 0} (f : ℕ → A) (n : ℕ) {k : ℕ} (d : A) → k < n → getD (each f n) k d ≡ f k
@@ -25,6 +25,10 @@ each-alike f g zero same = refl
 each-alike f g (suc n) same =
     rw (same 0 (omega arith), each-alike (λ k. f (suc k)) (λ k. g (suc k)) n (λ k h. same (suc k) (omega arith)))
 
+pub each-same : {A : Type 0} (f : ℕ → A) (n : ℕ) (a : A) → ((k : ℕ) → k < n → f k ≡ a) → each f n ≡ replicate n a
+each-same f zero a same = refl
+each-same f (suc n) a same = rw (same 0 (omega arith), each-same (λ k. f (suc k)) n a (λ k h. same (suc k) (omega arith)))
+
 pub each-getD : {A : Type 0} (ls : List A) (d : A) → each (λ k. getD ls k d) (length ls) ≡ ls
 each-getD [] d = refl
 each-getD (l ∷ ls) d = ap (λ r. l ∷ r) (each-getD ls d)
@@ -32,3 +36,11 @@ each-getD (l ∷ ls) d = ap (λ r. l ∷ r) (each-getD ls d)
 pub map-each : {A B : Type 0} (g : A → B) (f : ℕ → A) (n : ℕ) → map g (each f n) ≡ each (λ k. g (f k)) n
 map-each g f zero = refl
 map-each g f (suc n) = ap (λ r. g (f 0) ∷ r) (map-each g (λ k. f (suc k)) n)
+
+-- a list made by one rule, with another value stored at a place, is made by a rule that differs there alone
+pub set-each : {A : Type 0} (f g : ℕ → A) (n j : ℕ) → j < n → ((k : ℕ) → (k ≡ j → ⊥) → f k ≡ g k) → set (each f n) j (g j) ≡ each g n
+set-each f g zero j h same = absurd (not-suc-le-zero h)
+set-each {A} f g (suc n) zero h same =
+    ap (λ (l : List A). g 0 ∷ l) (each-alike (λ k. f (suc k)) (λ k. g (suc k)) n (λ k l. same (suc k) (λ e. omega arith)))
+set-each f g (suc n) (suc j) h same =
+    rw (same 0 (λ e. omega arith), set-each (λ k. f (suc k)) (λ k. g (suc k)) n j (le-of-suc-le-suc h) (λ k ne. same (suc k) (λ e. ne (omega arith))))

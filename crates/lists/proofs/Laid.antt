@@ -78,6 +78,16 @@ laid-copy at s l h =
     let none : drop (length l - at) d ≡ [] = rw (drop-drop (length l - at) at l) (let e : at + (length l - at) ≡ length l = omega arith in rw e (drop-length l)) in
     rw (all, none, take-length, append-nil, drop-drop (length s) at l) (sym (append-assoc (take at l) s _))
 
+-- and into a part that is as long
+pub laid-part : (at : ℕ) (s l : List ℕ) → at + length s ≤ length l
+    → putMid at (length s) l (take (length s) s ++ drop (length s) (midOf at (length s) l)) ≡ laidAt at s l
+unfolding laidAt
+laid-part at s l h =
+    let mid = midOf at (length s) l in
+    let many : length mid ≡ length s = length-take-le (length s) (drop at l) (rw length-drop (omega arith)) in
+    let none : drop (length s) mid ≡ [] = ap (λ (n : ℕ). drop n mid) (sym many) ∙ drop-length mid in
+    rw (none, take-length, append-nil, drop-drop (length s) at l) (sym (append-assoc (take at l) s _))
+
 -- nothing laid, and bytes laid over the front
 pub laid-none : (at : ℕ) (l : List ℕ) → laidAt at [] l ≡ l
 unfolding laidAt

@@ -1,10 +1,10 @@
 -- A rule applied to every element. Assumes nothing.
-use mathlib.Core.Path.{_≡_, refl, ap, ap₂}
-use mathlib.Core.List.{List, [], _∷_, map}
-use Prim.Native.Nat.{ℕ, zero, suc, _<_}
+use mathlib.Core.Path.{_≡_, refl, sym, ap, ap₂}
+use mathlib.Core.List.{List, [], _∷_, _++_, map}
+use Prim.Native.Nat.{ℕ, zero, suc, _≤_, _<_}
 use native.Mathlib.Nat.{not-suc-le-zero, le-of-suc-le-suc}
 use native.Mathlib.Omega.{arith}
-use lib.ListN.{length, getD, take, set}
+use lib.ListN.{length, getD, take, drop, set}
 
 module _ {A : Type 0} (f : A → A) (d : A) where
   -- it changes nothing
@@ -30,3 +30,15 @@ pub take-map : {A B : Type 0} (f : A → B) (n : ℕ) (l : List A) → take n (m
 take-map f zero l = refl
 take-map f (suc n) [] = refl
 take-map {B} f (suc n) (x ∷ l) = ap (λ (m : List B). f x ∷ m) (take-map f n l)
+
+-- A list of which the first elements are turned: the seam may go on over elements that would not change.
+pub seam-on : {A : Type 0} (f : A → A) (d : A) (l : List A) (a b : ℕ) → a ≤ b → b ≤ length l → ((k : ℕ) → a ≤ k → k < b → f (getD l k d) ≡ getD l k d)
+    → take a (map f l) ++ drop a l ≡ take b (map f l) ++ drop b l
+seam-on f d l zero zero h m same = refl
+seam-on f d l (suc a) zero h m same = absurd (not-suc-le-zero h)
+seam-on f d [] a (suc b) h m same = absurd (not-suc-le-zero m)
+seam-on {A} f d (x ∷ l) zero (suc b) h m same =
+    ap₂ (λ (y : A) (r : List A). y ∷ r) (sym (same 0 (omega arith) (omega arith)))
+    (seam-on f d l zero b (omega arith) (le-of-suc-le-suc m) (λ k i j. same (suc k) (omega arith) (omega arith)))
+seam-on {A} f d (x ∷ l) (suc a) (suc b) h m same =
+    ap (λ (r : List A). f x ∷ r) (seam-on f d l a b (le-of-suc-le-suc h) (le-of-suc-le-suc m) (λ k i j. same (suc k) (omega arith) (omega arith)))

@@ -15,7 +15,7 @@ use Rattle.packet.specs.declared.GroupId.{GroupId}
 use Rattle.panels.specs.declared.Panel.{Panel}
 use Rattle.panels.specs.declared.Table.{Table}
 use Rattle.panels.specs.declared.Place.{Place}
-use Rattle.panels.specs.Wall.{Wall, blank, inPlaces, tableOf, panelsOf, SamePanels, placeFrom, mostPanels}
+use Rattle.panels.specs.Wall.{Wall, blank, inPlaces, tableOf, panelsOf, placeFrom, mostPanels}
 use Rattle.panels.specs.WellFormed.{WellFormed}
 use Rattle.lists.proofs.Places.{getD-inside}
 use Rattle.lists.proofs.Mapped.{take-map}
@@ -60,18 +60,6 @@ turned-places g w =
     ap₂ (λ (l m : Wall). l ++ m) (take-map g (length w) (inPlaces w) ∙ ap (map g) (taken w)) (drop-append-seam w _)
     ∙ ap (λ (n : ℕ). map g w ++ replicate (mostPanels - n) blank) (sym (length-map w g))
 
--- the panels are the same ones, where each keeps its ID and its group
-pub same-panels : (g : Panel → Panel) → ((p : Panel) → (g p .id ≡ p .id) × (g p .group ≡ p .group)) → (w : Wall) → SamePanels w (map g w)
-same-panels g keeps [] = (refl, refl)
-same-panels g keeps (p ∷ w) =
-    let rest = same-panels g keeps w in
-    (ap₂ (λ (i : MonitorId) (l : List MonitorId). i ∷ l) (sym (keeps p .0)) (rest .0), ap₂ (λ (i : GroupId) (l : List GroupId). i ∷ l) (sym (keeps p .1)) (rest .1))
-
-pub same-set : (w : Wall) (k : ℕ) (q : Panel) → q .id ≡ getD w k blank .id → q .group ≡ getD w k blank .group → SamePanels w (set w k q)
-same-set [] k q i g = (refl, refl)
-same-set (p ∷ w) zero q i g = (rw i, rw g)
-same-set (p ∷ w) (suc k) q i g = let rest = same-set w k q i g in (rw (rest .0), rw (rest .1))
-
 -- places that hold a wall hold it in their first: a table is made of them
 pub held-first : {l : List Panel} {w : Wall} (n : ℕ) → l ≡ inPlaces w → n ≡ length w → take n l ≡ w
 held-first {w = w} n e m = ap₂ take m e ∙ taken w
@@ -110,29 +98,18 @@ count-is f = ap (λ (t : Table). t .count) (f .held)
 pub count-few : {t : Table} → WellFormed t → t .count ≤ mostPanels
 count-few f = omega (arith, count-is f, f .few)
 
+-- of the first of some places each has its panel
+pub in-first : (l : List Panel) (n k : ℕ) (d : Panel) → length (take n l) ≡ n → k < n → getD l k d ≡ getD (take n l) k blank
+in-first l n k d m h = sym (getD-take n l k d h) ∙ getD-inside (take n l) k d blank (omega arith)
+
 -- a place below the count is the wall's
 pub in-wall : {t : Table} → WellFormed t → (k : ℕ) (d : Panel) → k < t .count → getD (t .panels) k d ≡ getD (panelsOf t) k blank
-in-wall {t} f k d h =
-    sym (getD-take (t .count) (t .panels) k d h) ∙ getD-inside (panelsOf t) k d blank (omega (arith, count-is f))
-
--- the search at place k: what is found from there on
-unfoldable pub placeAfter : MonitorId → ℕ → Wall → Place
-placeAfter i k w = placeFrom i k (drop k w)
-
-pub place-step : (i : MonitorId) (w : Wall) (k : ℕ) → k < length w
-    → placeAfter i k w ≡ cond (eqb (getD w k blank .id .0) (i .0)) (Place.At k) (placeAfter i (k + 1) w)
-unfolding placeAfter placeFrom
-place-step i w k h = rw (drop-cons w k blank, add-one)
+in-wall {t} f k d h = in-first (t .panels) (t .count) k d (sym (count-is f)) h
 
 -- the wall and its blank places are all that a table has
 pub held-places : {t : Table} → WellFormed t → t .panels ≡ inPlaces (panelsOf t)
 unfolding tableOf
 held-places f = ap (λ (t : Table). t .panels) (f .held)
-
--- a table is known by its places and its count
-pub table-is : (t : Table) (w : Wall) → t .panels ≡ inPlaces w → t .count ≡ length w → t ≡ tableOf w
-unfolding tableOf
-table-is t w e n = λ i. record { panels = e i; count = n i }
 
 -- What is found is a place of the wall with that ID; where nothing is found no place has it.
 abbrev pub IsPlace : MonitorId → ℕ → Wall → Place → Type 0

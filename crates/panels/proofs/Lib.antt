@@ -2,4 +2,5 @@
 -- well-formed.
 pub mod Values
 pub mod Laws
+pub mod Index
 pub mod Formed

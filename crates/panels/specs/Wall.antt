@@ -1,10 +1,10 @@
 -- A wall is a list of panels; a table holds it in its places. 01, "The settings", "Table calls and numbers".
 use Prim.Native.Nat.{ℕ, suc, _-_}
 use mathlib.Core.Bool.{cond}
-use mathlib.Core.List.{List, [], _∷_, _++_, map}
-use mathlib.Core.Path.{_≡_}
+use mathlib.Core.List.{List, [], _∷_, _++_}
 use lib.Dec.{eqb}
 use lib.ListN.{length, take, replicate}
+use Rattle.lists.specs.Lists.{each}
 use Rattle.settings.specs.declared.Profile.{Profile}
 use Rattle.tiling.specs.declared.Kind.{Kind}
 use Rattle.tiling.specs.Kinds.{kindNumber}
@@ -26,6 +26,13 @@ Wall = List Panel
 -- how many panels a table has places for
 abbrev pub mostPanels : ℕ
 mostPanels = 32
+
+-- an ID is a byte, and so is a group
+abbrev pub idCount : ℕ
+idCount = 256
+
+abbrev pub groupCount : ℕ
+groupCount = 256
 
 -- a panel before anything is set; 02, A1 and A6: profile and kind are given when it is added
 abbrev pub freshPanel : MonitorId → GroupId → Profile → Kind → Panel
@@ -52,16 +59,6 @@ blank = record { id = monitorId 0; group = groupId 0; profile = Profile.General;
 unfoldable pub inPlaces : Wall → List Panel
 inPlaces w = w ++ replicate (mostPanels - length w) blank
 
-unfoldable pub tableOf : Wall → Table
-tableOf w = record { panels = inPlaces w; count = length w }
-
-abbrev pub panelsOf : Table → Wall
-panelsOf t = take (t .count) (t .panels)
-
--- the same panels, whatever their settings: ID and group, place by place
-abbrev pub SamePanels : Wall → Wall → Type 0
-SamePanels w v = (map (λ p. p .id) w ≡ map (λ p. p .id) v) × (map (λ p. p .group) w ≡ map (λ p. p .group) v)
-
 -- the place of the first panel, counted from k, that has the ID
 unfoldable pub placeFrom : MonitorId → ℕ → Wall → Place
 placeFrom i k [] = Place.Nowhere
@@ -69,6 +66,28 @@ placeFrom i k (p ∷ w) = cond (eqb (p .id .0) (i .0)) (Place.At k) (placeFrom i
 
 abbrev pub placeOf : MonitorId → Wall → Place
 placeOf i w = placeFrom i 0 w
+
+-- 02, A8: how many panels are in a group
+unfoldable pub membersOf : GroupId → Wall → ℕ
+membersOf g [] = 0
+membersOf g (p ∷ w) = cond (eqb (p .group .0) (g .0)) (suc (membersOf g w)) (membersOf g w)
+
+-- a place as the index has it: past the last where there is none
+abbrev pub placeNumber : Place → ℕ
+placeNumber (Place.At k) = k
+placeNumber Place.Nowhere = mostPanels
+
+-- the table that holds a wall, with the index: the place of each ID, and the members of each group
+unfoldable pub tableOf : Wall → Table
+tableOf w = record {
+  panels = inPlaces w;
+  places = each (λ i. placeNumber (placeOf (monitorId i) w)) idCount;
+  members = each (λ g. membersOf (groupId g) w) groupCount;
+  count = length w;
+}
+
+abbrev pub panelsOf : Table → Wall
+panelsOf t = take (t .count) (t .panels)
 
 abbrev pub ifThere : {A : Type 0} → Place → A → A → A
 ifThere (Place.At k) a b = a

@@ -3,7 +3,7 @@ ghost use mathlib.Core.Path.{_≡_};
 ghost use mathlib.Core.List.{[]};
 ghost use Prim.Native.Nat.{_≤_};
 ghost use lib.ListN.{length, getD, take};
-ghost use Rattle.panels.specs.Wall.{mostPanels, blank, inPlaces, tableOf, panelsOf, SamePanels, placeOf, videoOf};
+ghost use Rattle.panels.specs.Wall.{mostPanels, blank, inPlaces, tableOf, panelsOf, placeOf, videoOf};
 ghost use Rattle.panels.specs.Addressed.{reaches};
 ghost use Rattle.panels.specs.WellFormed.{WellFormed};
 use packet::GroupId;
@@ -15,6 +15,15 @@ use settings::VALUE_COUNT;
 // How many panels a table has places for.
 pub const MOST_PANELS: usize = 32;
 
+// How many IDs there are.
+pub const ID_COUNT: usize = 256;
+
+// How many groups there are.
+pub const GROUP_COUNT: usize = 256;
+
+// What the index has for an ID that no panel has.
+const NOWHERE: u8 = MOST_PANELS as u8;
+
 pub struct Panel {
     pub id: MonitorId,
     pub group: GroupId,
@@ -22,8 +31,12 @@ pub struct Panel {
     pub values: [u8; VALUE_COUNT],
 }
 
+// The panels in their places, and the index: the place of each ID, which is MOST_PANELS where no panel has it, and how many
+// panels each group has. A table that is passed on is copied, so who holds one looks at its places and its index in it.
 pub struct Table {
-    panels: [Panel; MOST_PANELS],
+    pub panels: [Panel; MOST_PANELS],
+    pub places: [u8; ID_COUNT],
+    pub members: [u8; GROUP_COUNT],
     count: usize,
 }
 
@@ -57,6 +70,8 @@ pub fn empty_table() -> Table
     let p = blank_panel();
     Table {
         panels: [p; MOST_PANELS],
+        places: [NOWHERE; ID_COUNT],
+        members: [0; GROUP_COUNT],
         count: 0,
     }
 }
@@ -80,46 +95,45 @@ pub fn panel_at(t: Table, k: usize) -> Panel
     t.panels[k]
 }
 
-// All places of a table. A loop goes over these: a table that is passed on is copied at each call.
-pub fn places_of(t: Table) -> [Panel; MOST_PANELS]
+// All panels of a table, and the blanks behind them.
+pub fn panels_of(t: Table) -> [Panel; MOST_PANELS]
     requires { ⌜ WellFormed t ⌝ }
     ensures { λ r. ⌜ r ≡ inPlaces (panelsOf t) ⌝ }
 {
     t.panels
 }
 
-// The table of the panels in the first of some places, behind which all are blank.
-pub fn table_of(places: [Panel; MOST_PANELS], count: usize) -> Table
-    requires { ⌜ (count ≤ mostPanels) × (places ≡ inPlaces (take count places)) ⌝ }
-    ensures { λ r. ⌜ r ≡ tableOf (take count places) ⌝ }
+// The table of the panels in the first of some places, behind which all are blank. Its index is made from the last panel to the
+// first, so that of two with one ID it has the first.
+pub fn table_of(panels: [Panel; MOST_PANELS], count: usize) -> Table
+    requires { ⌜ (count ≤ mostPanels) × (panels ≡ inPlaces (take count panels)) ⌝ }
+    ensures { λ r. ⌜ r ≡ tableOf (take count panels) ⌝ }
 {
+    let mut places = [NOWHERE; ID_COUNT];
+    let mut members = [0u8; GROUP_COUNT];
+    let mut k = count;
+    while 0 < k {
+        k -= 1;
+        let p = panels[k];
+        places[p.id.0 as usize] = k as u8;
+        members[p.group.0 as usize] += 1;
+    }
     Table {
-        panels: places,
+        panels,
+        places,
+        members,
         count,
     }
 }
 
-// The table with other settings: these places have its panels, each with its ID and its group.
-pub fn with_places(t: Table, places: [Panel; MOST_PANELS]) -> Table
-    requires { ⌜ WellFormed t × (places ≡ inPlaces (take (length (panelsOf t)) places)) × SamePanels (panelsOf t) (take (length (panelsOf t)) places) ⌝ }
-    ensures { λ r. ⌜ r ≡ tableOf (take (length (panelsOf t)) places) ⌝ }
-{
-    let mut next = t;
-    next.panels = places;
-    next
-}
-
+// The place of the panel with an ID.
 pub fn place_of(t: Table, id: MonitorId) -> Place
     requires { ⌜ WellFormed t ⌝ }
     ensures { λ r. ⌜ r ≡ placeOf id (panelsOf t) ⌝ }
 {
-    let mut k = 0;
-    while k < t.count {
-        let p = t.panels[k];
-        if p.id.0 == id.0 {
-            return Place::At(k);
-        }
-        k += 1;
+    let k = t.places[id.0 as usize] as usize;
+    if k < MOST_PANELS {
+        return Place::At(k);
     }
     Place::Nowhere
 }

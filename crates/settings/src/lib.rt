@@ -135,7 +135,8 @@ pub fn place_of(row: usize) -> usize
     values_at(row).1 as usize
 }
 
-// A row's values stored at their place among a panel's; most rows have one, for which a copy is long-winded.
+// A row's values stored at their place among a panel's. Most rows have one, for which a copy is long-winded; that of the longest
+// row is short where its length is known.
 pub fn store(row: usize, vs: &[u8], values: &mut [u8])
     requires { ⌜ (row < rowCount) × (length (now vs) ≡ byteCount row) × (length (now values) ≡ valueCount) ⌝ }
     ensures { λ _. ⌜ now (values .exit) ≡ valuesWith row (now (vs .entry)) (now (values .entry)) ⌝ }
@@ -143,6 +144,10 @@ pub fn store(row: usize, vs: &[u8], values: &mut [u8])
     let at = place_of(row);
     if vs.len() == 1 {
         values[at] = vs[0];
+        return;
+    }
+    if vs.len() == MOST_VALUES {
+        bytes::copy(vs, &mut values[at..at + MOST_VALUES]);
         return;
     }
     bytes::copy(vs, &mut values[at..]);

@@ -82,7 +82,7 @@ pub fn add(t: Table, id: MonitorId, group: GroupId, number: u8, kind: u8) -> Cha
         return refused(t, Refusal::UnknownKind);
     };
     let p = fresh_panel(id, group, profile, kind);
-    let mut places = panels::places_of(t);
+    let mut places = panels::panels_of(t);
     places[n] = p;
     let table = panels::table_of(places, n + 1);
     Changed {
@@ -112,7 +112,7 @@ fn closed_up(t: Table, k: usize) -> Table
     requires { ⌜ WellFormed t × (k < length (panelsOf t)) ⌝ }
     ensures { λ r. ⌜ r ≡ tableOf (without (Place.At k) (panelsOf t)) ⌝ }
 {
-    let mut places = panels::places_of(t);
+    let mut places = panels::panels_of(t);
     let last = panels::count_of(t) - 1;
     let mut j = k;
     while j < last {

@@ -8,9 +8,10 @@ use borrow.Author.Tests.{eq-eqb, ne-eqb, eqb-false, leb-true}
 use lib.Dec.{leb}
 use lib.ListN.{length}
 use Rattle.lists.proofs.Both.{both}
-use Rattle.packet.specs.Packet.{verdictOf, damageIn, longest}
+use Rattle.packet.specs.Packet.{verdictOf, longest}
 use Rattle.packet.specs.Reading.{Reading, readingOf}
-use Rattle.panels.specs.Wall.{Wall, panelsOf, tableOf}
+use Rattle.panels.specs.declared.Table.{Table}
+use Rattle.panels.specs.Wall.{Wall, panelsOf}
 use Rattle.panels.specs.WellFormed.{WellFormed}
 use Rattle.panels.proofs.Laws.{panels-of-table}
 use Rattle.answers.specs.declared.Played.{Played}
@@ -24,7 +25,7 @@ use Rattle.image_write.specs.Written.{setupOf, sizeOf, losesNothing, panelSize}
 use Rattle.refusals.specs.Refusals.{isSound, refusalNumber, noRoom, wouldLose}
 use Rattle.image_read.specs.Read.{readOf, inTable}
 use Rattle.image_read.proofs.Sound.{read-formed}
-use Rattle.undivarro.specs.Calls.{refused, given, refusalFor, afterReading}
+use Rattle.undivarro.specs.Calls.{refused, given, refusalFor, afterBurst, afterReading}
 
 -- where nothing is refused nothing would be lost, and there is room
 pub all-there : (read : Refusal) (held room : Bool) → refusalFor read held room ≡ 0 → (held ≡ true) × (room ≡ true)
@@ -58,31 +59,22 @@ module _ (image : List ℕ) (read : Read) (is-read : read ≡ inTable (readOf im
         let (a, b) = both _ _ room in
         (held, (leb-true _ _ a, leb-true _ _ b))
 
--- What was answered to a burst on it.
-module _ (image : List ℕ) (burst : Reading) (read : Read) (is-read : read ≡ inTable (readOf image)) (p : Played)
-    (is-played : p ≡ answeredOn (read .table) burst) where
+-- What was answered to a burst on a table.
+module _ {t : Table} (f : WellFormed t) (burst : Reading) {p : Played} (is : p ≡ answeredOn t burst) where
   pub formed-played : WellFormed (p .table)
-  formed-played = subst WellFormed (sym (ap (λ (q : Played). q .table) is-played)) (answered-formed (formed-read image read is-read) burst)
+  formed-played = subst WellFormed (sym (ap (λ (q : Played). q .table) is)) (answered-formed f burst)
 
-  same-played : let o = answered (readOf image .wall) burst in p ≡ record { table = tableOf (o .wall); reply = o .reply; damage = damageIn (burst .verdict) }
-  same-played =
-      is-played
-      ∙ ap {B = Played} (λ (w : Wall). record { table = tableOf (answered w burst .wall); reply = answered w burst .reply; damage = damageIn (burst .verdict) })
-      (wall-read image read is-read)
+  wall-played : panelsOf (p .table) ≡ answered (panelsOf t) burst .wall
+  wall-played = ap (λ (q : Played). panelsOf (q .table)) is ∙ panels-of-table _
 
-  wall-played : panelsOf (p .table) ≡ answered (readOf image .wall) burst .wall
-  wall-played = ap (λ (q : Played). panelsOf (q .table)) same-played ∙ panels-of-table _
-
-  pub size-played : (form : Form) → sizeOf form (panelsOf (p .table)) ≡ sizeOf form (readOf image .wall)
-  size-played form = ap (λ (k : ℕ). panelSize form * k + 2) (ap length wall-played ∙ answered-count (readOf image .wall) burst)
+  pub size-played : (form : Form) → sizeOf form (panelsOf (p .table)) ≡ sizeOf form (panelsOf t)
+  size-played form = ap (λ (k : ℕ). panelSize form * k + 2) (ap length wall-played ∙ answered-count (panelsOf t) burst)
 
   pub given-played : (form : Form) (answer out : List ℕ)
-      → let o = answered (readOf image .wall) burst in
-      given (sentBytes (p .reply)) (setupOf form (panelsOf (p .table))) (p .damage) answer out
-      ≡ given (sentBytes (o .reply)) (setupOf form (o .wall)) (damageIn (burst .verdict)) answer out
+      → given (sentBytes (p .reply)) (setupOf form (panelsOf (p .table))) (p .damage) answer out ≡ afterBurst form (panelsOf t) burst answer out
   given-played form answer out =
       ap (λ (w : Wall). given (sentBytes (p .reply)) (setupOf form w) (p .damage) answer out) wall-played
-      ∙ ap (λ (q : Played). given (sentBytes (q .reply)) (setupOf form (answered (readOf image .wall) burst .wall)) (q .damage) answer out) same-played
+      ∙ ap (λ (q : Played). given (sentBytes (q .reply)) (setupOf form (answered (panelsOf t) burst .wall)) (q .damage) answer out) is
 
 -- Both ends of each call.
 module _ (form : Form) (image : List ℕ) (burst : Reading) (answer out : List ℕ) (n : ℕ)
@@ -91,10 +83,7 @@ module _ (form : Form) (image : List ℕ) (burst : Reading) (answer out : List �
   unfolding afterReading
   play-refused h = sym (rw (sym is, ne-eqb n 0 h))
 
-  pub play-given : n ≡ 0
-      → let o = answered (readOf image .wall) burst in
-      given (sentBytes (o .reply)) (setupOf form (o .wall)) (damageIn (burst .verdict)) answer out
-      ≡ afterReading form image burst answer out
+  pub play-given : n ≡ 0 → afterBurst form (readOf image .wall) burst answer out ≡ afterReading form image burst answer out
   unfolding afterReading
   play-given z = sym (rw (sym is, eq-eqb n 0 z))
 

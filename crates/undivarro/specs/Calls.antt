@@ -9,6 +9,7 @@ use Rattle.packet.specs.declared.Damage.{Damage}
 use Rattle.packet.specs.Packet.{longest, damageIn, damageNumber}
 use Rattle.packet.specs.Reading.{Reading, readingOf}
 use Rattle.lists.specs.Lists.{laidOver}
+use Rattle.panels.specs.Wall.{Wall}
 use Rattle.answers.specs.Reply.{sentBytes}
 use Rattle.answers.specs.Played.{answered}
 use Rattle.refusals.specs.declared.Refusal.{Refusal}
@@ -37,19 +38,21 @@ given sent setup damage answer out = record {
   out = laidOver setup out;
 }
 
+-- a burst answered by what was read of it, and the wall then written in a form
+abbrev pub afterBurst : Form → Wall → Reading → List ℕ → List ℕ → After
+afterBurst form w burst answer out = let o = answered w burst in given (sentBytes (o .reply)) (setupOf form (o .wall)) (damageIn (burst .verdict)) answer out
+
 -- reading faults are 11 to 18; then 31 where the form would lose something; then 19 where there is no room
 unfoldable pub refusalFor : Refusal → Bool → Bool → ℕ
 refusalFor read held room = cond (isSound read) (cond held (cond room 0 noRoom) wouldLose) (refusalNumber read)
 
--- A burst answered by what was read of it, and the setup then written in a form. There is room where the answer buffer has it for
--- any packet, and the output for the image.
+-- The same on the wall of a setup. There is room where the answer buffer has it for any packet, and the output for the image.
 unfoldable pub afterReading : Form → List ℕ → Reading → List ℕ → List ℕ → After
 afterReading form image burst answer out =
     let r = readOf image in
-    let o = answered (r .wall) burst in
     let room = leb longest (length answer) && leb (sizeOf form (r .wall)) (length out) in
     let n = refusalFor (r .refusal) (losesNothing form (r .wall)) room in
-    cond (eqb n 0) (given (sentBytes (o .reply)) (setupOf form (o .wall)) (damageIn (burst .verdict)) answer out) (refused n answer out)
+    cond (eqb n 0) (afterBurst form (r .wall) burst answer out) (refused n answer out)
 
 -- writing a setup again in a form is playing no bytes, where there is room for an answer
 unfoldable pub afterMove : Form → List ℕ → List ℕ → After

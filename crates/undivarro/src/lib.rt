@@ -6,19 +6,24 @@ ghost use Prim.Native.Nat.{_≤_};
 ghost use mathlib.Core.Bool.{true, _&&_};
 ghost use lib.Dec.{leb};
 ghost use lib.ListN.{length, take};
-ghost use Rattle.packet.specs.Packet.{longest};
+ghost use Rattle.packet.specs.Packet.{longest, damageIn, damageNumber};
+ghost use Rattle.packet.specs.Reading.{readingOf};
+ghost use Rattle.image_forms.specs.declared.Form.{Form};
 ghost use Rattle.lists.specs.Lists.{laidOver};
 ghost use Rattle.panels.specs.Wall.{panelsOf};
 ghost use Rattle.panels.specs.WellFormed.{WellFormed};
 ghost use Rattle.answers.specs.Reply.{sentBytes};
 ghost use Rattle.image_write.specs.Written.{sizeOf, setupOf, losesNothing};
-ghost use Rattle.undivarro.specs.Calls.{refused, refusalFor, afterMove, afterPlay, afterRead, afterBack, afterSalvage};
+ghost use Rattle.undivarro.specs.Calls.{refused, refusalFor, afterBurst, afterMove, afterPlay, afterRead, afterBack, afterSalvage};
+use answers::Entry;
 use answers::Reply;
 use answers::Sent;
 use image_forms::Form;
 use image_salvage::LINES_CAP;
 use image_write::Written;
 use packet::LONGEST;
+use packet::Verdict;
+use panels::MOST_PANELS;
 use panels::Table;
 use refusals::NO_ROOM;
 use refusals::Refusal;
@@ -132,6 +137,51 @@ fn moved(form: Form, image: &[u8], out: &mut [u8]) -> Outcome
     }
 }
 
+// The outcome of a burst that was played.
+fn given(answered: u32, written: u32, verdict: Verdict) -> Outcome
+    ensures { λ r. ⌜ r ≡ record { refusal = 0; answered = answered; written = written; damage = damageNumber (damageIn verdict) } ⌝ }
+{
+    let damage = packet::damage_in(verdict);
+    Outcome {
+        refusal: 0,
+        answered,
+        written,
+        damage: packet::damage_number(damage) as u32,
+    }
+}
+
+// A burst played on a table: the answer, and the setup as it then is, in outputs with room for them. It does what
+// answers::play does, but a table that nothing changes is written where it lies.
+fn played(t: Table, burst: &[u8], answer: &mut [u8], out: &mut [u8]) -> Outcome
+    requires { ⌜ WellFormed t × (longest ≤ length (now answer)) × (sizeOf Form.Two (panelsOf t) ≤ length (now out)) ⌝ }
+    ensures { λ r. ⌜ r ≡ afterBurst Form.Two (panelsOf t) (readingOf (now (burst .entry))) (now (answer .entry)) (now (out .entry)) .outcome ⌝ }
+    ensures { λ _. ⌜ now (answer .exit) ≡ afterBurst Form.Two (panelsOf t) (readingOf (now (burst .entry))) (now (answer .entry)) (now (out .entry)) .answer ⌝ }
+    ensures { λ _. ⌜ now (out .exit) ≡ afterBurst Form.Two (panelsOf t) (readingOf (now (burst .entry))) (now (answer .entry)) (now (out .entry)) .out ⌝ }
+{
+    let verdict = packet::verdict_of(burst);
+    let d = packet::data_of(burst, verdict);
+    let seems = packet::seems_for(burst);
+    let names = answers::names_in(verdict, seems);
+    let at = t.places[names.id.0 as usize] as usize;
+    let entry = Entry {
+        count: panels::count_of(t),
+        members: t.members[names.group.0 as usize] as usize,
+        at,
+        panel: t.panels[at % MOST_PANELS],
+    };
+    let turn = answers::turn_of(entry, verdict, d, seems);
+    let reply = turn.reply;
+    let change = turn.change;
+    let answered = put_answer(reply, answer);
+    if change.first == change.end {
+        let written = put_setup(Form::Two, t, out);
+        return given(answered, written, verdict);
+    }
+    let after = answers::stored(t, change, d);
+    let written = put_setup(Form::Two, after, out);
+    given(answered, written, verdict)
+}
+
 // A burst played on a setup image of either form: the answer, and the setup as it then is, in form 2, which holds every table.
 #[no_mangle]
 pub extern "C" fn undivarro_play(
@@ -152,18 +202,7 @@ pub extern "C" fn undivarro_play(
     if refusal != 0 {
         return refused(refusal);
     }
-    let played = answers::play(table, burst);
-    let reply = played.reply;
-    let after = played.table;
-    let damage = played.damage;
-    let answered = put_answer(reply, answer);
-    let written = put_setup(Form::Two, after, out);
-    Outcome {
-        refusal: 0,
-        answered,
-        written,
-        damage: packet::damage_number(damage) as u32,
-    }
+    played(table, burst, answer, out)
 }
 
 // A setup image of either form, written in form 2.

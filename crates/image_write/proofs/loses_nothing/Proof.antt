@@ -33,8 +33,8 @@ abbrev μ-loop : tie.MeasureT-loop
 count-of-requires : tie.Need-count-of-requires Inv-loop μ-loop
 count-of-requires c κs = search needs
 
-places-of-requires : tie.Need-places-of-requires Inv-loop μ-loop
-places-of-requires c κs = search needs
+panels-of-requires : tie.Need-panels-of-requires Inv-loop μ-loop
+panels-of-requires c κs = search needs
 
 loop-holds : tie.Need-loop-holds Inv-loop μ-loop
 loop-holds c = (omega arith, refl)
@@ -52,16 +52,16 @@ abbrev wall : tie.At-loop Inv-loop μ-loop → Wall
 wall c = panelsOf (start c .args .t)
 
 -- the places are the wall's
-its-places : (c : tie.At-loop Inv-loop μ-loop) → take (c .before .before .count-of .result) (c .before .places-of .result) ≡ wall c
-its-places c = held-first _ (c .before .places-of .ensures) (c .before .before .count-of .ensures)
+its-places : (c : tie.At-loop Inv-loop μ-loop) → take (c .before .before .count-of .result) (c .before .panels-of .result) ≡ wall c
+its-places c = held-first _ (c .before .panels-of .ensures) (c .before .before .count-of .ensures)
 
-its-panel : (c : tie.In-loop Inv-loop μ-loop) (d : Panel) → let k = c .before .loop .k in getD (c .before .before .places-of .result) k d ≡ getD (wall (c .before)) k blank
+its-panel : (c : tie.In-loop Inv-loop μ-loop) (d : Panel) → let k = c .before .loop .k in getD (c .before .before .panels-of .result) k d ≡ getD (wall (c .before)) k blank
 its-panel c d =
     let k = c .before .loop .k in
-    ap (λ (l : Wall). getD l k d) (c .before .before .places-of .ensures) ∙ place-is _ k d (omega arith)
+    ap (λ (l : Wall). getD l k d) (c .before .before .panels-of .ensures) ∙ place-is _ k d (omega arith)
 
 -- a panel of the wall has all its values
-full : (c : tie.In-loop Inv-loop μ-loop) (d : Panel) → length (getD (c .before .before .places-of .result) (c .before .loop .k) d .values) ≡ valueCount
+full : (c : tie.In-loop Inv-loop μ-loop) (d : Panel) → length (getD (c .before .before .panels-of .result) (c .before .loop .k) d .values) ≡ valueCount
 full c d =
     let f = start (c .before) .pre in
     ap (λ (p : Panel). length (p .values)) (its-panel c d) ∙ good-at (wall (c .before)) (f .good) (c .before .loop .k) (omega arith) .full
@@ -112,7 +112,7 @@ loses-nothing-spec =
     Inv-loop
     μ-loop
     count-of-requires
-    places-of-requires
+    panels-of-requires
     loop-holds
     mul-p
     array-copy-out-p

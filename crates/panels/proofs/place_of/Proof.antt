@@ -1,73 +1,40 @@
--- The invariant: the answer is what is found from place k on. Assumes nothing.
-use mathlib.Core.Path.{_≡_, refl, sym, ap, _∙_}
-use Prim.Native.Nat.{_-_, _≤_}
+-- The index has the place. Assumes nothing.
+use mathlib.Core.Path.{_≡_, sym}
+use Prim.Native.Nat.{_≤_, _<_}
 use native.Mathlib.Omega.{arith}
-use borrow.Author.Tests.{eq-eqb, ne-eqb}
-use lib.ListN.{length, getD}
-use lib.Seq.{drop-length}
-use Rattle.panels.specs.declared.Panel.{Panel}
-use Rattle.panels.specs.Wall.{blank, panelsOf, placeFrom}
-use Rattle.panels.proofs.Laws.{count-is, count-few, in-wall, placeAfter, place-step}
+use borrow.Author.Needs.{needs}
+use lib.ListN.{getD}
+use Rattle.panels.specs.declared.Place.{Place}
+use Rattle.panels.specs.Wall.{panelsOf, placeOf, mostPanels}
+use Rattle.panels.proofs.Index.{place-found, place-by}
 use Rattle.panels.proofs.place_of.Statement.{statement}
 use Rattle.panels.proofs.place_of.Tie as tie
 
-abbrev Inv-loop : tie.InvT-loop
-Inv-loop id t k₀ k = (k ≤ t .count) × (placeAfter id 0 (panelsOf t) ≡ placeAfter id k (panelsOf t))
+cast-k : tie.Need-cast-k
+cast-k c = search needs
 
-abbrev μ-loop : tie.MeasureT-loop
-μ-loop id t k₀ k = t .count - k
+element-copy-out-k : tie.Need-element-copy-out-k
+element-copy-out-k c = search needs
 
-loop-holds : tie.Need-loop-holds Inv-loop μ-loop
-loop-holds c = (omega arith, refl)
+cast-k-2 : tie.Need-cast-k-2
+cast-k-2 c = search needs
 
-mul-p : tie.Need-mul-p Inv-loop μ-loop
-mul-p c = omega (arith, count-few (c .before .before .pre))
+abbrev start : tie.After-k → tie.Start
+start c = c .before .before
 
-element-copy-out-p : tie.Need-element-copy-out-p Inv-loop μ-loop
-element-copy-out-p c = omega (arith, count-few (c .before .before .pre))
+by-index : (c : tie.After-k) → let s = start c in
+    let n = getD (s .args .t1 .places) (s .args .id .0) 0 in
+    let place = placeOf (s .args .id) (panelsOf (s .args .t1)) in
+    (n < mostPanels → place ≡ Place.At n) × (mostPanels ≤ n → place ≡ Place.Nowhere)
+by-index c =
+    let s = start c in
+    place-by (s .args .id) _ (s .pre .few) _ (place-found (s .pre) (s .args .id) (search needs) 0)
 
-returns : tie.Need-returns Inv-loop μ-loop
-unfolding placeAfter
-returns c =
-    let loop = c .before .before .before .before .before in
-    let t = loop .before .args .t1 in
-    let here : getD (panelsOf t) (loop .loop .k) blank .id .0 ≡ loop .before .args .id .0 =
-    ap (λ (p : Panel). p .id .0) (sym (in-wall (loop .before .pre) (loop .loop .k) _ (omega arith))) ∙ c .if1 .taken in
-    sym (loop .loop .inv .1 ∙ place-step (loop .before .args .id) (panelsOf t) (loop .loop .k) (omega (arith, count-is (loop .before .pre))) ∙ simp (eq-eqb _ _ here))
+returns : tie.Need-returns
+returns c = sym (by-index (c .before) .0 (c .if1 .taken))
 
-add-k : tie.Need-add-k Inv-loop μ-loop
-add-k c = omega (arith, count-few (c .before .before .before .before .before .before .pre))
-
-loop-less : tie.Need-loop-less Inv-loop μ-loop
-loop-less c = omega arith
-
-loop-again : tie.Need-loop-again Inv-loop μ-loop
-loop-again c =
-    let loop = c .before .before .before .before .before in
-    let t = loop .before .args .t1 in
-    let here : getD (panelsOf t) (loop .loop .k) blank .id .0 ≡ loop .before .args .id .0 → ⊥ =
-    λ e. c .if1 .left (ap (λ (p : Panel). p .id .0) (in-wall (loop .before .pre) (loop .loop .k) _ (omega arith)) ∙ e) in
-    (omega arith, loop .loop .inv .1 ∙ place-step _ _ _ (omega (arith, count-is (loop .before .pre))) ∙ simp (ne-eqb _ _ here))
-
-returns-2 : tie.Need-returns-2 Inv-loop μ-loop
-unfolding placeAfter placeFrom
-returns-2 c =
-    let loop = c .before in
-    let w = panelsOf (loop .before .args .t1) in
-    let all : loop .loop .k ≡ length w = omega (arith, count-is (loop .before .pre)) in
-    sym (loop .loop .inv .1 ∙ rw (all, drop-length w))
+returns-2 : tie.Need-returns-2
+returns-2 c = sym (by-index (c .before) .1 (omega arith))
 
 pub place-of-spec : {M : Type 1} → statement M
-place-of-spec =
-    tie.close
-    (tie.spec
-    Inv-loop
-    μ-loop
-    loop-holds
-    mul-p
-    element-copy-out-p
-    returns
-    add-k
-    loop-less
-    loop-again
-    returns-2)
+place-of-spec = tie.close (tie.spec cast-k element-copy-out-k cast-k-2 returns returns-2)

@@ -153,8 +153,8 @@ returns-6 c =
 fresh-panel-requires : tie.Need-fresh-panel-requires
 fresh-panel-requires c κs = search needs
 
-places-of-requires : tie.Need-places-of-requires
-places-of-requires c κs = search needs
+panels-of-requires : tie.Need-panels-of-requires
+panels-of-requires c κs = search needs
 
 mul-places : tie.Need-mul-places
 mul-places c = search needs
@@ -166,20 +166,20 @@ add-table-of : tie.Need-add-table-of
 add-table-of c = search needs
 
 -- the places hold the wall and the fresh panel
-abbrev kinded : tie.After-places-of → tie.After-known-told2
+abbrev kinded : tie.After-panels-of → tie.After-known-told2
 kinded c = c .before .before
 
-abbrev counted : tie.After-places-of → tie.After-count-of
+abbrev counted : tie.After-panels-of → tie.After-count-of
 counted c = first (kinded c .before .before .before .before) .before
 
-grown : (c : tie.After-places-of)
+grown : (c : tie.After-panels-of)
     → let n = counted c .count-of .result in
     let w = panelsOf (counted c .before .args .t) ++ c .before .fresh-panel .result ∷ [] in
-    (set (c .places-of .result) n (c .before .fresh-panel .result) ≡ inPlaces w) × (n + 1 ≡ length w)
+    (set (c .panels-of .result) n (c .before .fresh-panel .result) ≡ inPlaces w) × (n + 1 ≡ length w)
 grown c =
     let n = counted c .count-of .ensures in
     let p = c .before .fresh-panel .result in (
-      ap₂ (λ (l : Wall) (k : ℕ). set l k p) (c .places-of .ensures) n ∙ grown-places _ p (omega arith),
+      ap₂ (λ (l : Wall) (k : ℕ). set l k p) (c .panels-of .ensures) n ∙ grown-places _ p (omega arith),
       simp length-append (omega arith),
     )
 
@@ -225,7 +225,7 @@ add-spec =
     refused-requires-6
     returns-6
     fresh-panel-requires
-    places-of-requires
+    panels-of-requires
     mul-places
     array-set-from-places
     add-table-of

@@ -58,8 +58,8 @@ Inv-loop k places₀ last j₀ places j = (k ≤ j) × (j ≤ last) × (places �
 abbrev μ-loop : tie.MeasureT-loop
 μ-loop k places₀ last j₀ places j = last - j
 
-places-of-requires : tie.Need-places-of-requires Inv-loop μ-loop
-places-of-requires c κs = search needs
+panels-of-requires : tie.Need-panels-of-requires Inv-loop μ-loop
+panels-of-requires c κs = search needs
 
 count-of-requires : tie.Need-count-of-requires Inv-loop μ-loop
 count-of-requires c κs = search needs
@@ -68,12 +68,12 @@ sub-last : tie.Need-sub-last Inv-loop μ-loop
 sub-last c = omega arith
 
 -- the table's places
-wide : (c : tie.After-count-of Inv-loop μ-loop) → length (c .before .places-of .result) ≡ mostPanels
-wide c = let f = c .before .before .pre .0 in ap length (c .before .places-of .ensures) ∙ places-many _ (f .few)
+wide : (c : tie.After-count-of Inv-loop μ-loop) → length (c .before .panels-of .result) ≡ mostPanels
+wide c = let f = c .before .before .pre .0 in ap length (c .before .panels-of .ensures) ∙ places-many _ (f .few)
 
 loop-holds : tie.Need-loop-holds Inv-loop μ-loop
 loop-holds c =
-    let l = c .before .places-of .result in
+    let l = c .before .panels-of .result in
     let many = wide c in
     (omega arith, omega arith, begins l (suc (c .count-of .result - 1)) (c .before .before .args .k) (omega arith) (omega arith))
 
@@ -102,7 +102,7 @@ loop-again : tie.Need-loop-again Inv-loop μ-loop
 loop-again c =
     let loop = c .before .before in
     let many = wide (loop .before) in
-    let e = turns (loop .before .before .places-of .result) (suc (loop .before .count-of .result - 1)) _ (loop .loop .j) _ (loop .loop .inv .0) (omega arith) (omega arith) in
+    let e = turns (loop .before .before .panels-of .result) (suc (loop .before .count-of .result - 1)) _ (loop .loop .j) _ (loop .loop .inv .0) (omega arith) (omega arith) in
     (omega arith, omega arith, rw (loop .loop .inv .2, add-one) e)
 
 blank-panel-requires : tie.Need-blank-panel-requires Inv-loop μ-loop
@@ -130,10 +130,10 @@ moved c =
     let w = panelsOf (start .args .t) in
     let all : loop .loop .j ≡ m = omega arith in
     let n : suc m ≡ length w = omega (arith, start .pre .1) in
-    let whole = ap (take (suc m)) (loop .before .before .places-of .ensures) ∙ held-first (suc m) refl n in
+    let whole = ap (take (suc m)) (loop .before .before .panels-of .ensures) ∙ held-first (suc m) refl n in
     let here : k < length w = start .pre .1 in (
       ap₂ (λ (l : Wall) (p : Panel). set l m p) (rw all at (loop .loop .inv .2)) (c .blank-panel .ensures)
-          ∙ ap₂ (λ (v l : Wall). set (take m (without (Place.At k) v) ++ drop m l) m blank) whole (loop .before .before .places-of .ensures)
+          ∙ ap₂ (λ (v l : Wall). set (take m (without (Place.At k) v) ++ drop m l) m blank) whole (loop .before .before .panels-of .ensures)
           ∙ ends w k m here (sym n) (f .few),
       omega (arith, length-without w k here),
     )
@@ -150,7 +150,7 @@ closed-up-spec =
     (tie.spec
     Inv-loop
     μ-loop
-    places-of-requires
+    panels-of-requires
     count-of-requires
     sub-last
     loop-holds

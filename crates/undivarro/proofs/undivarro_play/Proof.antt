@@ -1,24 +1,21 @@
 -- The numbers and the buffers are those of the definition, on a refusal and otherwise. Assumes nothing.
-use mathlib.Core.Path.{_≡_, sym, ap, ap₂, _∙_}
+use mathlib.Core.Path.{_≡_, sym, ap, _∙_}
 use mathlib.Core.Bool.{_&&_}
-use Prim.Native.Nat.{ℕ, _≤_}
+use Prim.Native.Nat.{_≤_}
 use lib.Dec.{leb}
 use lib.ListN.{length}
-use Rattle.packet.specs.Packet.{longest, damageNumber}
+use Rattle.packet.specs.Packet.{longest}
 use Rattle.packet.specs.Reading.{readingOf}
+use Rattle.panels.specs.Wall.{Wall}
 use Rattle.image_forms.specs.declared.Form.{Form}
 use Rattle.image_write.specs.Written.{sizeOf, losesNothing}
 use Rattle.image_write.proofs.Losing.{two-holds}
 use Rattle.image_read.specs.Read.{readOf}
-use Rattle.undivarro.specs.declared.Outcome.{Outcome}
-use Rattle.undivarro.specs.Calls.{After, refusalFor}
-use Rattle.undivarro.proofs.Calls.{formed-read, refusal-is, enough, formed-played, size-played, given-played, play-refused, play-given}
+use Rattle.undivarro.specs.Calls.{After, refusalFor, afterBurst}
+use Rattle.undivarro.proofs.Calls.{formed-read, wall-read, refusal-is, enough, play-refused, play-given}
 use borrow.Author.Needs.{needs}
 use Rattle.undivarro.proofs.undivarro_play.Statement.{statement}
 use Rattle.undivarro.proofs.undivarro_play.Tie as tie
-
-abbrev numbers : ℕ → ℕ → ℕ → Outcome
-numbers n m d = record { refusal = 0; answered = n; written = m; damage = d }
 
 abbrev start : tie.After-read-image → tie.Start
 start c = c .before .before .before .before .before
@@ -61,24 +58,12 @@ returns c =
     let e = play-refused Form.Two (a .image .now) (readingOf (a .burst .now)) (a .answer .now) (a .out .now) _ (number refusal) (c .before .if1 .taken) in
     (c .refused .ensures ∙ ap (λ (r : After). r .outcome) e, (ap (λ (r : After). r .answer) e, ap (λ (r : After). r .out) e))
 
-play-requires : tie.Need-play-requires
-play-requires c κs = formed-read _ _ (read-of (c .before) .read-image .ensures)
-
-put-answer-requires : tie.Need-put-answer-requires
-put-answer-requires c κs = there (c .before .before .before .before) .0
-
-put-setup-requires : tie.Need-put-setup-requires
-put-setup-requires c κs =
-    let play = c .before .before .before .before .before .before .before in
-    let e = read-of (play .before .before) .read-image .ensures in
-    let f = play .play .ensures in
-    (formed-played _ _ _ e _ f, two-holds _, rw (size-played _ _ _ e _ f Form.Two) (there (play .before) .1))
-
-damage-number-requires : tie.Need-damage-number-requires
-damage-number-requires c κs = search needs
-
-cast-t25 : tie.Need-cast-t25
-cast-t25 c = search needs
+played-requires : tie.Need-played-requires
+played-requires c κs =
+    let past = c .before .before in
+    let read = read-of (past .before) .read-image .ensures in
+    let (answer, out) = there past in
+    (formed-read _ _ read, answer, rw (wall-read _ _ read) out)
 
 same-length : tie.Need-same-length
 same-length c = search needs
@@ -88,20 +73,15 @@ same-length-2 c = search needs
 
 returns-2 : tie.Need-returns-2
 returns-2 c =
-    let put = c .before .before .before in
-    let sent = put .before .before .before .before in
-    let play = sent .before .before .before .before in
-    let past = play .before in
+    let played = c .before .before .before .before in
+    let past = played .before .before .before in
     let read = read-of (past .before) in
     let a = start read .args in
-    let all =
-    given-played (a .image .now) (readingOf (a .burst .now)) _ (read .read-image .ensures) _ (play .play .ensures) Form.Two (a .answer .now) (a .out .now)
-    ∙ play-given Form.Two (a .image .now) (readingOf (a .burst .now)) (a .answer .now) (a .out .now) _ (number (past .before)) (past .if1 .left)
-    in (
-      ap (numbers (sent .put-answer .result) (put .put-setup .result)) (c .damage-number .ensures)
-          ∙ ap₂ (λ (n m : ℕ). numbers n m (damageNumber (play .play .result .damage))) (sent .put-answer .ensures .0) (put .put-setup .ensures .0)
-          ∙ ap (λ (r : After). r .outcome) all,
-      (sent .put-answer .ensures .1 ∙ ap (λ (r : After). r .answer) all, put .put-setup .ensures .1 ∙ ap (λ (r : After). r .out) all),
+    let burst = readingOf (a .burst .now) in
+    let all = ap (λ (w : Wall). afterBurst Form.Two w burst (a .answer .now) (a .out .now)) (wall-read _ _ (read .read-image .ensures))
+    ∙ play-given Form.Two (a .image .now) burst (a .answer .now) (a .out .now) _ (number (past .before)) (past .if1 .left) in (
+      played .played .ensures .0 ∙ ap (λ (r : After). r .outcome) all,
+      (played .played .ensures .1 .0 ∙ ap (λ (r : After). r .answer) all, played .played .ensures .1 .1 ∙ ap (λ (r : After). r .out) all),
     )
 
 pub undivarro-play-spec : {M : Type 1} → statement M
@@ -113,11 +93,7 @@ undivarro-play-spec =
     refusal-for-requires
     refused-requires
     returns
-    play-requires
-    put-answer-requires
-    put-setup-requires
-    damage-number-requires
-    cast-t25
+    played-requires
     same-length
     same-length-2
     returns-2)

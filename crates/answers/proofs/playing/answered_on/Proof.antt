@@ -1,112 +1,109 @@
--- The verdict decides who answers, and says the damage. Assumes nothing.
-use mathlib.Core.Path.{_≡_, sym, ap, ap₂, _∙_}
-use mathlib.Core.List.{List}
-use Prim.Native.Nat.{ℕ}
-use Rattle.packet.specs.declared.Addressee.{Addressee}
-use Rattle.packet.specs.declared.GroupId.{GroupId}
-use Rattle.packet.specs.declared.Verdict.{Verdict}
-use Rattle.packet.specs.Packet.{groupId}
-use Rattle.packet.specs.Reading.{Reading}
+-- The entry is the wall's, so the turn leaves what the definition says. Assumes nothing.
+use mathlib.Core.Path.{_≡_, ap, _∙_}
+use Prim.Native.Nat.{_<_}
+use native.Mathlib.Omega.{arith}
+use Rattle.packet.specs.declared.Damage.{Damage}
 use Rattle.panels.specs.declared.Table.{Table}
-use Rattle.panels.specs.Wall.{panelsOf}
-use Rattle.answers.specs.declared.Reply.{Reply}
+use Rattle.panels.specs.Wall.{panelsOf, idCount, groupCount}
+use Rattle.answers.specs.declared.Entry.{Entry}
+use Rattle.answers.specs.declared.Names.{Names}
 use Rattle.answers.specs.declared.Played.{Played}
-use Rattle.answers.specs.Judged.{command}
-use Rattle.answers.specs.Played.{playedPacket, answered, answeredOn}
-use Rattle.answers.specs.Private.Orders.{undamaged, inTable}
-use Rattle.answers.proofs.Turns.{heard-means}
+use Rattle.answers.specs.declared.Reply.{Reply}
+use Rattle.answers.specs.Turn.{namesIn, turnBy}
+use Rattle.answers.proofs.Turns.{entryOf}
+use Rattle.answers.proofs.Entries.{entry-is, nothing-left, fits, something-left}
 use borrow.Author.Needs.{needs}
 use Rattle.answers.proofs.playing.answered_on.Statement.{statement}
 use Rattle.answers.proofs.playing.answered_on.Tie as tie
 
-enum-told : tie.Need-enum-told
-enum-told c = search needs
+abbrev damaged : Table → Reply → Damage → Played
+damaged t r d = record { table = t; reply = r; damage = d }
 
-silence-requires : tie.Need-silence-requires
-silence-requires c κs = search needs
+abbrev start : tie.After-turn-of → tie.Start
+start c = c .before .before .before .before .before .before .before .before .before
 
-undamaged-requires : tie.Need-undamaged-requires
-undamaged-requires c κs = search needs
+names-in-requires : tie.Need-names-in-requires
+names-in-requires c κs = search needs
 
-enum-known-verdict : tie.Need-enum-known-verdict
-enum-known-verdict c = search needs
+cast-at : tie.Need-cast-at
+cast-at c = search needs
 
-nack-from-requires : tie.Need-nack-from-requires
-nack-from-requires c κs = search needs
+element-copy-out-at : tie.Need-element-copy-out-at
+element-copy-out-at c = search needs
 
-enum-known-verdict-2 : tie.Need-enum-known-verdict-2
-enum-known-verdict-2 c = search needs
+cast-at-2 : tie.Need-cast-at-2
+cast-at-2 c = search needs
 
-is-heard-requires : tie.Need-is-heard-requires
-is-heard-requires c κs = search needs
+count-of-requires : tie.Need-count-of-requires
+count-of-requires c κs = search needs
 
-abbrev reading : List ℕ → Addressee → Verdict → Reading
-reading d a v = record { verdict = v; part = d; seems = a }
+cast-t19 : tie.Need-cast-t19
+cast-t19 c = search needs
 
-by-verdict : (t : Table) (d : List ℕ) (a : Addressee) (v u : Verdict) → v ≡ u → answeredOn t (reading d a u) ≡ answeredOn t (reading d a v)
-by-verdict t d a v u e = ap (λ (x : Verdict). answeredOn t (reading d a x)) (sym e)
+element-copy-out-t17 : tie.Need-element-copy-out-t17
+element-copy-out-t17 c = search needs
 
-abbrev start : tie.After-is-heard → tie.Start
-start c = c .before .before .before .before .before
+cast-t22 : tie.Need-cast-t22
+cast-t22 c = search needs
 
-play-heard-requires : tie.Need-play-heard-requires
-play-heard-requires c κs =
-    let call = c .before in
-    (start call .pre, heard-means _ _ (sym (call .is-heard .ensures) ∙ c .if1 .taken) .1)
+mul-t24 : tie.Need-mul-t24
+mul-t24 c = search needs
+
+element-copy-out-t27 : tie.Need-element-copy-out-t27
+element-copy-out-t27 c = search needs
+
+turn-is : (c : tie.After-turn-of) → let a = start c .args in
+    c .turn-of .result ≡ turnBy (entryOf (panelsOf (a .t1)) (namesIn (a .verdict) (a .seems))) (a .verdict) (a .d .now) (a .seems)
+turn-is c =
+    let a = start c .args in
+    let f = start c .pre in
+    let known = c .before .before .before in
+    let count = known .before in
+    let names = count .before .before .before in
+    let there = entry-is f (names .names-in .result) (element-copy-out-at (count .before .before)) (element-copy-out-t17 known) _ (count .count-of .ensures) _ in
+    c .turn-of .ensures ∙ ap (λ (e : Entry). turnBy e (a .verdict) (a .d .now) (a .seems)) (there ∙ ap (entryOf (panelsOf (a .t1))) (names .names-in .ensures))
+
+turn-of-requires : tie.Need-turn-of-requires
+turn-of-requires c κs = search needs
+
+damage-in-requires : tie.Need-damage-in-requires
+damage-in-requires c κs = search needs
 
 returns : tie.Need-returns
-unfolding answered
 returns c =
-    let call = c .before .before in
-    let a = start call .args in
-    let v = call .before .before .verdict2 .given in
-    let heard = heard-means _ _ (sym (call .is-heard .ensures) ∙ c .before .if1 .taken) in
-    let group : groupId 0 ≡ v .0 .1 .0 = λ t. record { 0 = sym (heard .0) t } in
-    c .play-heard .ensures ∙ ap (λ (g : GroupId). inTable (playedPacket (panelsOf (a .t)) (v .0 .0) g (command (a .d .now)))) group
-    ∙ by-verdict (a .t) (a .d .now) (a .seems) _ _ (v .1)
+    let turn = c .before .before .before .before .before in
+    let a = start turn .args in
+    ap (damaged _ _) (c .before .before .damage-in .ensures) ∙ nothing-left (start turn .pre) (a .verdict) (a .d .now) (a .seems) (turn-is turn) (c .if1 .taken)
 
-play-unheard-requires : tie.Need-play-unheard-requires
-play-unheard-requires c κs =
-    let call = c .before in
-    (start call .pre, sym (call .is-heard .ensures) ∙ c .if1 .left)
+stored-requires : tie.Need-stored-requires
+stored-requires c κs =
+    let turn = c .before .before .before .before .before in
+    let a = start turn .args in
+    (start turn .pre, fits (start turn .pre) (a .verdict) (a .d .now) (a .seems) (turn-is turn) (c .if1 .left))
 
 returns-2 : tie.Need-returns-2
-unfolding answered
 returns-2 c =
-    let silent = c .before in
-    let told = silent .before in
-    let s = told .before .before .before in
-    c .undamaged .ensures ∙ ap₂ undamaged (s .pre .held) (silent .silence .ensures)
-    ∙ by-verdict (s .args .t) (s .args .d .now) (s .args .seems) _ _ (told .enum-told .given .1)
-
-returns-3 : tie.Need-returns-3
-unfolding answered
-returns-3 c =
-    let v = c .before .before in
-    let s = v .before .before .before in
-    ap₂ {C = Played} (λ (t : Table) (r : Reply). record { table = t; reply = r; damage = v .verdict .given .0 .0 }) (s .pre .held) (c .nack-from .ensures) ∙ by-verdict (s .args .t) (s .args .d .now) (s .args .seems) _ _ (v .verdict .given .1)
-
-returns-4 : tie.Need-returns-4
-unfolding answered
-returns-4 c =
-    let call = c .before .before in
-    let a = start call .args in
-    c .play-unheard .ensures ∙ by-verdict (a .t) (a .d .now) (a .seems) _ _ (call .before .before .verdict2 .given .1)
+    let past = c .before in
+    let turn = past .before .before .before .before .before in
+    let a = start turn .args in
+    ap (damaged _ _) (past .before .before .damage-in .ensures) ∙ something-left (start turn .pre) (a .verdict) (a .d .now) (a .seems) (turn-is turn) (past .if1 .left) (c .stored .ensures)
 
 pub answered-on-spec : {M : Type 1} → statement M
 answered-on-spec =
     tie.close
     (tie.spec
-    enum-told
-    silence-requires
-    undamaged-requires
-    enum-known-verdict
-    nack-from-requires
-    enum-known-verdict-2
-    is-heard-requires
-    play-heard-requires
+    names-in-requires
+    cast-at
+    element-copy-out-at
+    cast-at-2
+    count-of-requires
+    cast-t19
+    element-copy-out-t17
+    cast-t22
+    mul-t24
+    element-copy-out-t27
+    turn-of-requires
+    damage-in-requires
     returns
-    play-unheard-requires
-    returns-2
-    returns-3
-    returns-4)
+    stored-requires
+    returns-2)

@@ -11,7 +11,7 @@ use lib.ListN.{length, take, drop, set, replicate, length-set}
 use lib.Seq.{drop-length}
 use Rattle.panels.specs.declared.Panel.{Panel}
 use Rattle.panels.specs.declared.Table.{Table}
-use Rattle.panels.specs.Wall.{Wall, inPlaces, mostPanels}
+use Rattle.panels.specs.Wall.{Wall, inPlaces, mostPanels, idCount}
 use Rattle.panels.proofs.Laws.{none-held, one-held}
 use Rattle.image_forms.specs.declared.Form.{Form}
 use Rattle.refusals.specs.declared.Refusal.{Refusal}
@@ -33,7 +33,7 @@ use Rattle.image_read.proofs.records.all.Tie as tie
 abbrev Inv-loop : tie.InvT-loop
 Inv-loop image form n places₀ seen₀ start₀ k₀ places seen start k =
     let w = take k places in
-    (k ≤ n) × (places ≡ inPlaces w) × (start ≡ edge image k) × (length seen ≡ 256) × Marks seen w
+    (k ≤ n) × (places ≡ inPlaces w) × (start ≡ edge image k) × (length seen ≡ idCount) × Marks seen w
     × (readRecords (formOf image) [] (recordsIn image) ≡ readRecords (formOf image) w (drop k (recordsIn image)))
 
 abbrev μ-loop : tie.MeasureT-loop
@@ -107,7 +107,7 @@ loop-holds : tie.Need-loop-holds Inv-loop μ-loop
 loop-holds c =
     let start = c .before .before .before .before in
     let image = start .args .image .now in
-    (omega arith, ap (replicate mostPanels) (c .blank-panel .ensures) ∙ none-held, sym (first-edge (fits image (start .pre))), refl, none-marked 256, refl)
+    (omega arith, ap (replicate mostPanels) (c .blank-panel .ensures) ∙ none-held, sym (first-edge (fits image (start .pre))), refl, none-marked idCount, refl)
 
 add-edge-at : tie.Need-add-edge-at Inv-loop μ-loop
 add-edge-at c = omega arith

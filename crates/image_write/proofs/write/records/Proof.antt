@@ -40,13 +40,13 @@ place : (c : tie.At-loop Inv-loop μ-loop) → c .before .before .before .record
 place c = ap (λ (n : ℕ). n * c .loop .k) (sized c)
 
 -- the places are the wall's
-its-panel : (c : tie.In-loop Inv-loop μ-loop) (d : Panel) → let k = c .before .loop .k in getD (c .before .before .places-of .result) k d ≡ getD (wall (c .before)) k blank
+its-panel : (c : tie.In-loop Inv-loop μ-loop) (d : Panel) → let k = c .before .loop .k in getD (c .before .before .panels-of .result) k d ≡ getD (wall (c .before)) k blank
 its-panel c d =
     let k = c .before .loop .k in
-    ap (λ (l : Wall). getD l k d) (c .before .before .places-of .ensures) ∙ place-is _ k d (omega arith)
+    ap (λ (l : Wall). getD l k d) (c .before .before .panels-of .ensures) ∙ place-is _ k d (omega arith)
 
 laid : (c : tie.At-loop Inv-loop μ-loop) → let a = start c .args in c .loop .out ≡ laidAt 0 (flatten (take (c .loop .k) (recordsOf (a .form) (wall c)))) (a .out .now)
-laid c = rw (held-first _ (c .before .places-of .ensures) (c .before .before .count-of .ensures)) at (c .loop .inv .1)
+laid c = rw (held-first _ (c .before .panels-of .ensures) (c .before .before .count-of .ensures)) at (c .loop .inv .1)
 
 -- how many bytes stand there, and how long the output still is
 so-far : (c : tie.At-loop Inv-loop μ-loop) → let a = start c .args in
@@ -64,8 +64,8 @@ record-size-requires c κs = search needs
 count-of-requires : tie.Need-count-of-requires Inv-loop μ-loop
 count-of-requires c κs = search needs
 
-places-of-requires : tie.Need-places-of-requires Inv-loop μ-loop
-places-of-requires c κs = search needs
+panels-of-requires : tie.Need-panels-of-requires Inv-loop μ-loop
+panels-of-requires c κs = search needs
 
 loop-holds : tie.Need-loop-holds Inv-loop μ-loop
 unfolding flatten
@@ -116,7 +116,7 @@ loop-again c =
     let len : length (getD (recordsOf form w) k []) ≡ recordSize form = rw (record-at form w k at) (record-length form (getD w k blank) (good-at w (f .good) k at .full)) in
     let more = laid-more 0 (recordSize form * k) k (recordsOf form w) (a .out .now) (rw (length-map w (recordOf form)) at) (rw n (omega arith)) (rw len (omega (arith, product loop .1 at, start loop .pre .1))) in (
       omega arith,
-      rw (held-first _ (loop .before .places-of .ensures) (loop .before .before .count-of .ensures))
+      rw (held-first _ (loop .before .panels-of .ensures) (loop .before .before .count-of .ensures))
           (one .one-record .ensures
           ∙ ap₂ (λ (m : ℕ) (p : Panel). laidAt m (recordOf form p) (loop .loop .out)) (place loop) (its-panel inside _)
           ∙ ap (laidAt (recordSize form * k) (recordOf form (getD w k blank))) (laid loop) ∙ rw (← record-at form w k at) more),
@@ -142,7 +142,7 @@ records-spec =
     μ-loop
     record-size-requires
     count-of-requires
-    places-of-requires
+    panels-of-requires
     loop-holds
     mul-p
     array-copy-out-p
