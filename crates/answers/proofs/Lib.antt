@@ -1,5 +1,6 @@
--- `Orders` has what an order says of the data that it was made of, `Turns` what a packet does to the wall, `Readings` what a
--- reading does by its verdict, `Formed` that a burst keeps a wall good, `Lengths` how many bytes went out.
+-- `Orders` has what an order says of the data that it was made of, `Reports` a report's bytes, `Turns` what a packet does to the wall
+-- and in which places, `Entries` what a burst leaves by what the table has of its names, `Readings` what a reading does by its
+-- verdict, `Formed` that a burst keeps a wall good, `Lengths` how many bytes went out.
 pub mod Orders
 pub mod Reports
 pub mod Turns

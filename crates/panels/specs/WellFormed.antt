@@ -1,5 +1,6 @@
--- Tables come only from the empty one by add, remove, image reading and bursts. 01, "The settings": every setting of every
--- panel is in its allowed range at all times; 02, A1 and A6: in that of its own profile and kind, so that its position is one of its wall.
+-- Tables come only from the empty one by add, remove, images that are read or salvaged, and bursts. 01, "The settings": every
+-- setting of every panel is in its allowed range at all times; 02, A1 and A6: in that of its own profile and kind, so that its
+-- position is one of its wall.
 use Prim.Native.Nat.{ℕ, _≤_, _<_}
 use mathlib.Core.Bool.{true}
 use mathlib.Core.List.{[], _∷_}
