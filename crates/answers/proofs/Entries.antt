@@ -5,22 +5,19 @@ use Prim.Native.Nat.{ℕ, _%_, _<_}
 use native.Mathlib.Omega.{arith}
 use lib.ListN.{length, getD}
 use Rattle.packet.specs.declared.Addressee.{Addressee}
-use Rattle.packet.specs.declared.Damage.{Damage}
 use Rattle.packet.specs.declared.Verdict.{Verdict}
 use Rattle.packet.specs.Packet.{damageIn}
 use Rattle.packet.specs.Reading.{Reading}
 use Rattle.panels.specs.declared.Panel.{Panel}
 use Rattle.panels.specs.declared.Table.{Table}
-use Rattle.panels.specs.Wall.{Wall, blank, panelsOf, tableOf, mostPanels, idCount, groupCount}
+use Rattle.panels.specs.Wall.{blank, panelsOf, tableOf, mostPanels, idCount, groupCount}
 use Rattle.panels.specs.WellFormed.{WellFormed}
 use Rattle.lists.proofs.Places.{getD-inside}
 use Rattle.panels.proofs.Laws.{held-places, places-many}
 use Rattle.panels.proofs.Index.{place-found, members-found}
-use Rattle.answers.specs.declared.Change.{Change}
 use Rattle.answers.specs.declared.Entry.{Entry}
 use Rattle.answers.specs.declared.Names.{Names}
 use Rattle.answers.specs.declared.Played.{Played}
-use Rattle.answers.specs.declared.Reply.{Reply}
 use Rattle.answers.specs.declared.Turn.{Turn}
 use Rattle.answers.specs.Played.{answeredBy, answered, answeredOn}
 use Rattle.answers.specs.Turn.{namesIn, turnBy, turnedBy, Fits}

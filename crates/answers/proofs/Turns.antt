@@ -1,6 +1,6 @@
 -- What a packet does to the wall, and that the places it goes to are all that it can change. Assumes nothing.
 use mathlib.Core.Path.{_≡_, refl, sym, ap, subst, _∙_}
-use mathlib.Core.Bool.{Bool, true, false, cond, not, _&&_, _||_, false≢true}
+use mathlib.Core.Bool.{Bool, true, false, cond, not, _&&_, false≢true}
 use mathlib.Core.List.{List, [], _∷_, _++_, map}
 use mathlib.Core.Logic.{_⊎_, inl, inr}
 use Prim.Native.Nat.{ℕ, zero, suc, _+_, _%_, _≤_, _<_}
@@ -11,7 +11,6 @@ use lib.Dec.{eqb, ltb}
 use lib.ListN.{length, getD, take, drop, set, length-map, List·getD-map}
 use Rattle.settings.specs.Settings.{byteCount, rowCount}
 use Rattle.packet.specs.declared.Addressee.{Addressee}
-use Rattle.packet.specs.declared.Control.{Control}
 use Rattle.packet.specs.declared.GroupId.{GroupId}
 use Rattle.packet.specs.declared.MonitorId.{MonitorId}
 use Rattle.packet.specs.declared.Verdict.{Verdict}
@@ -30,12 +29,10 @@ use Rattle.panels.proofs.Index.{not-member}
 use Rattle.answers.specs.declared.Change.{Change}
 use Rattle.answers.specs.declared.Entry.{Entry}
 use Rattle.answers.specs.declared.Names.{Names}
-use Rattle.answers.specs.declared.Order.{Order}
-use Rattle.answers.specs.declared.Reply.{Reply}
 use Rattle.answers.specs.declared.Span.{Span}
-use Rattle.answers.specs.Reply.{silence, wordFrom}
+use Rattle.answers.specs.Reply.{silence}
 use Rattle.answers.specs.Judged.{Command, Judged, getOf, setOf, unavailable, command, judge, takes, stored, heldThen, panelAfter, replyBy}
-use Rattle.answers.specs.Played.{turned, replyFrom, nackFrom, playedPacket, answeredBy}
+use Rattle.answers.specs.Played.{turned, replyFrom, answeredBy}
 use Rattle.answers.specs.Turn.{named, namesIn, from, spanOf, noChange, changeOf, replyTo, nackTo, turnBy, turnedBy, Fits}
 use Rattle.answers.specs.Private.Orders.{orderOf, isStored}
 use Rattle.answers.proofs.Orders.{OrderIs, order-right, taken-many, judge-get, judge-set, judge-not}

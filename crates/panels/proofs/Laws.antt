@@ -4,14 +4,12 @@ use mathlib.Core.Bool.{Bool, true, false, cond}
 use mathlib.Core.List.{List, [], _∷_, _++_, map}
 use Prim.Native.Nat.{ℕ, zero, suc, _+_, _-_, _≤_, _<_}
 use native.Mathlib.Nat.{add-zero, le-of-suc-le-suc, not-suc-le-zero}
-use native.Mathlib.Numerals.{add-one}
 use native.Mathlib.Omega.{arith}
 use borrow.Author.Tests.{eqb-true, eqb-false}
 use lib.Dec.{eqb}
 use lib.ListN.{length, getD, take, drop, set, replicate, length-append, length-take, length-set, length-replicate, length-map, getD-replicate}
-use lib.Seq.{length-take-le, take-append-seam, drop-append-seam, drop-cons, getD-take, set-append-seam, set-append-left, append-snoc}
+use lib.Seq.{length-take-le, take-append-seam, drop-append-seam, getD-take, set-append-seam, set-append-left, append-snoc}
 use Rattle.packet.specs.declared.MonitorId.{MonitorId}
-use Rattle.packet.specs.declared.GroupId.{GroupId}
 use Rattle.panels.specs.declared.Panel.{Panel}
 use Rattle.panels.specs.declared.Table.{Table}
 use Rattle.panels.specs.declared.Place.{Place}

@@ -1,7 +1,6 @@
 -- The damage is the verdict's. Assumes nothing.
 use mathlib.Core.Path.{ap, _∙_}
 use Prim.Native.Nat.{ℕ}
-use Rattle.packet.specs.declared.Damage.{Damage}
 use Rattle.packet.specs.Packet.{damageNumber}
 use Rattle.undivarro.specs.declared.Outcome.{Outcome}
 use borrow.Author.Needs.{needs}

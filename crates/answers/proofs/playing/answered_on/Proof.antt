@@ -1,12 +1,9 @@
 -- The entry is the wall's, so the turn leaves what the definition says. Assumes nothing.
 use mathlib.Core.Path.{_≡_, ap, _∙_}
-use Prim.Native.Nat.{_<_}
-use native.Mathlib.Omega.{arith}
 use Rattle.packet.specs.declared.Damage.{Damage}
 use Rattle.panels.specs.declared.Table.{Table}
-use Rattle.panels.specs.Wall.{panelsOf, idCount, groupCount}
+use Rattle.panels.specs.Wall.{panelsOf}
 use Rattle.answers.specs.declared.Entry.{Entry}
-use Rattle.answers.specs.declared.Names.{Names}
 use Rattle.answers.specs.declared.Played.{Played}
 use Rattle.answers.specs.declared.Reply.{Reply}
 use Rattle.answers.specs.Turn.{namesIn, turnBy}

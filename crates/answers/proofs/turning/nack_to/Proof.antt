@@ -1,7 +1,7 @@
 -- The place of the entry decides. Assumes nothing.
 use Prim.Native.Nat.{_<_}
 use Rattle.panels.specs.Wall.{mostPanels}
-use mathlib.Core.Path.{sym, ap, _∙_}
+use mathlib.Core.Path.{_∙_}
 use borrow.Author.Tests.{lt-ltb, le-ltb}
 use native.Mathlib.Omega.{arith}
 use Rattle.answers.specs.Turn.{nackTo}

@@ -1,7 +1,4 @@
 -- Each case of the verdict, and of whom a damaged burst seems to be for, is one of the definition. Assumes nothing.
-use mathlib.Core.Path.{sym, ap}
-use Rattle.packet.specs.declared.Verdict.{Verdict}
-use Rattle.answers.specs.Turn.{namesIn}
 use borrow.Author.Needs.{needs}
 use Rattle.answers.proofs.turning.names_in.Statement.{statement}
 use Rattle.answers.proofs.turning.names_in.Tie as tie

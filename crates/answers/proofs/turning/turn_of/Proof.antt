@@ -1,5 +1,5 @@
 -- Each verdict is a case of the definition. Assumes nothing.
-use mathlib.Core.Path.{_≡_, sym, ap, ap₂, _∙_}
+use mathlib.Core.Path.{ap₂, _∙_}
 use Rattle.answers.specs.declared.Change.{Change}
 use Rattle.answers.specs.declared.Reply.{Reply}
 use Rattle.answers.specs.declared.Turn.{Turn}
