@@ -1,8 +1,9 @@
--- `Orders` has what an order says of the data that it was made of, `Reports` a report's bytes, `Turns` what a packet does to the wall
--- and in which places, `Entries` what a burst leaves by what the table has of its names, `Readings` what a reading does by its
--- verdict, `Formed` that a burst keeps a wall good, `Lengths` how many bytes went out.
+-- `Orders` has what an order says of the data that it was made of, `Reports` a report's bytes, `Turned` what a packet makes of a
+-- panel, `Turns` what a burst comes to and in which places, `Entries` what it leaves by what the table has of its names, `Readings`
+-- what a reading does by its verdict, `Formed` that a burst keeps a wall good, `Lengths` how many bytes went out.
 pub mod Orders
 pub mod Reports
+pub mod Turned
 pub mod Turns
 pub mod Entries
 pub mod Readings

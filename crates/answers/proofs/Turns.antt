@@ -1,15 +1,15 @@
--- What a packet does to the wall, and that the places it goes to are all that it can change. Assumes nothing.
+-- What a burst comes to is what it leaves, and the places that a packet goes to are all that it can change. Assumes nothing.
 use mathlib.Core.Path.{_≡_, refl, sym, ap, subst, _∙_}
-use mathlib.Core.Bool.{Bool, true, false, cond, not, _&&_, false≢true}
-use mathlib.Core.List.{List, [], _∷_, _++_, map}
+use mathlib.Core.Bool.{Bool, true, false, cond, not, and-false, _&&_}
+use mathlib.Core.List.{List, map}
 use mathlib.Core.Logic.{_⊎_, inl, inr}
-use Prim.Native.Nat.{ℕ, zero, suc, _+_, _%_, _≤_, _<_}
-use native.Mathlib.Nat.{le-of-suc-le-suc, not-suc-le-zero}
+use Prim.Native.Nat.{ℕ, zero, suc, _%_, _≤_, _<_}
+use native.Mathlib.Nat.{not-suc-le-zero}
 use native.Mathlib.Omega.{arith}
 use borrow.Author.Tests.{eq-eqb, ne-eqb, eqb-true, eqb-false, lt-ltb, ltb-true, ltb-false}
 use lib.Dec.{eqb, ltb}
-use lib.ListN.{length, getD, take, drop, set, length-map, List·getD-map}
-use Rattle.settings.specs.Settings.{byteCount, rowCount}
+use lib.ListN.{length, getD, drop}
+use Rattle.settings.specs.Settings.{rowCount}
 use Rattle.packet.specs.declared.Addressee.{Addressee}
 use Rattle.packet.specs.declared.GroupId.{GroupId}
 use Rattle.packet.specs.declared.MonitorId.{MonitorId}
@@ -20,86 +20,28 @@ use Rattle.panels.specs.declared.Panel.{Panel}
 use Rattle.panels.specs.declared.Place.{Place}
 use Rattle.panels.specs.Wall.{Wall, blank, inPlaces, placeOf, placeNumber, membersOf, ifThere, mostPanels}
 use Rattle.panels.specs.Addressed.{reaches}
-use Rattle.panels.specs.WellFormed.{Absent, GoodWall}
-use Rattle.lists.proofs.Both.{both}
-use Rattle.lists.proofs.Places.{getD-inside, store, from-seam}
+use Rattle.panels.specs.WellFormed.{GoodWall}
 use Rattle.lists.proofs.Mapped.{map-same}
 use Rattle.panels.proofs.Laws.{place-is, place-there, place-nowhere}
 use Rattle.panels.proofs.Index.{not-member}
+use Rattle.panels.proofs.Formed.{apart}
 use Rattle.answers.specs.declared.Change.{Change}
 use Rattle.answers.specs.declared.Entry.{Entry}
 use Rattle.answers.specs.declared.Names.{Names}
 use Rattle.answers.specs.declared.Span.{Span}
 use Rattle.answers.specs.Reply.{silence}
-use Rattle.answers.specs.Judged.{Command, Judged, getOf, setOf, unavailable, command, judge, takes, stored, heldThen, panelAfter, replyBy}
+use Rattle.answers.specs.Judged.{Command, Judged, getOf, setOf, unavailable, command, judge, panelAfter, replyBy}
 use Rattle.answers.specs.Played.{turned, replyFrom, answeredBy}
 use Rattle.answers.specs.Turn.{named, namesIn, from, spanOf, noChange, changeOf, replyTo, nackTo, turnBy, turnedBy, Fits}
-use Rattle.answers.specs.Private.Orders.{orderOf, isStored}
-use Rattle.answers.proofs.Orders.{OrderIs, order-right, taken-many, judge-get, judge-set, judge-not}
+use Rattle.answers.specs.Private.Orders.{orderOf}
+use Rattle.answers.proofs.Orders.{OrderIs, order-right, judge-get}
+use Rattle.answers.proofs.Turned.{either-way, stays}
 
 -- what a wall has of them; where no panel has the ID the panel is any
 unfoldable pub entryOf : Wall → Names → Entry
 entryOf w n =
     let at = placeNumber (placeOf (n .id) w) in
     record { count = length w; members = membersOf (n .group) w; at = at; panel = getD (inPlaces w) (at % mostPanels) blank }
-
-absent-at : (i : MonitorId) (w : Wall) (j : ℕ) → Absent i w → j < length w → getD w j blank .id .0 ≡ i .0 → ⊥
-absent-at i [] j a h = absurd (not-suc-le-zero h)
-absent-at i (p ∷ w) zero (n, a) h = n
-absent-at i (p ∷ w) (suc j) (n, a) h = absent-at i w j a (le-of-suc-le-suc h)
-
--- two places of a good wall have two IDs
-pub apart : (w : Wall) (j k : ℕ) → GoodWall w → j < length w → k < length w → getD w j blank .id .0 ≡ getD w k blank .id .0 → j ≡ k
-apart [] j k good h m e = absurd (not-suc-le-zero h)
-apart (p ∷ w) zero zero good h m e = refl
-apart (p ∷ w) zero (suc k) (g, a, good) h m e = absurd (absent-at (p .id) w k a (le-of-suc-le-suc m) (sym e))
-apart (p ∷ w) (suc j) zero (g, a, good) h m e = absurd (absent-at (p .id) w j a (le-of-suc-le-suc h) e)
-apart (p ∷ w) (suc j) (suc k) (g, a, good) h m e = ap suc (apart w j k good (le-of-suc-le-suc h) (le-of-suc-le-suc m) e)
-
--- a panel that would be turned into itself stays, turned or not
-pub either-way : (t : Bool) {q p : Panel} → q ≡ p → cond t q p ≡ p
-either-way true e = e
-either-way false e = refl
-
-pub stays : (i : MonitorId) (g : GroupId) (c : Command) (p : Panel) → reaches i g p ≡ false → turned i g c p ≡ p
-unfolding turned
-stays i g c p r = rw r
-
--- a set: stored where the panel is addressed and takes it, and nowhere else
-module _ (i : MonitorId) (g : GroupId) (row : ℕ) (vs : List ℕ) (p : Panel) where
-  pub set-stored : isStored i g row vs p ≡ true → turned i g (setOf row vs) p ≡ stored row (heldThen row vs p) p
-  unfolding turned isStored
-  set-stored e = let (r, t) = both (reaches i g p) _ e in rw (r, judge-set (setOf row vs) row vs p refl t)
-
-  pub set-not : isStored i g row vs p ≡ false → turned i g (setOf row vs) p ≡ p
-  unfolding turned isStored
-  set-not e = go (reaches i g p) refl e
-    where
-      go : (t : Bool) → reaches i g p ≡ t → (t && takes row vs p) ≡ false → cond t (panelAfter (judge (setOf row vs) p) p) p ≡ p
-      go true r n = rw (judge-not (setOf row vs) row vs p refl n)
-      go false r n = refl
-
-pub stored-many : (i : MonitorId) (g : GroupId) (row : ℕ) (d : List ℕ) (p : Panel) → 0 < length d → isStored i g row (drop 1 d) p ≡ true → length d ≡ byteCount row + 1
-unfolding isStored
-stored-many i g row d p h e = taken-many row d p h (both (reaches i g p) _ e .1)
-
-pub heard-means : (i : MonitorId) (g : GroupId) → isHeard i g ≡ true → (g .0 ≡ 0) × (i .0 ≡ 0 → ⊥)
-unfolding isHeard
-heard-means i g e = go (eqb (g .0) 0) refl (eqb (i .0) 0) refl e
-  where
-    go : (a : Bool) → eqb (g .0) 0 ≡ a → (b : Bool) → eqb (i .0) 0 ≡ b → (a && not b) ≡ true → (g .0 ≡ 0) × (i .0 ≡ 0 → ⊥)
-    go true ea false eb t = (eqb-true _ _ ea, eqb-false _ _ eb)
-    go true ea true eb t = absurd (false≢true t)
-    go false ea b eb t = absurd (false≢true t)
-
--- The pass over the table: the first k places are turned, the others are still to come.
-pub turn-next : (f : Panel → Panel) (w : Wall) (k : ℕ) → k < length w
-    → let l = take k (map f w) ++ drop k w in set l k (f (getD l k blank)) ≡ take (suc k) (map f w) ++ drop (suc k) w
-turn-next f w k h =
-    let n = length-map w f in
-    let here = ap f (from-seam (map f w) w k k blank (omega arith) (omega arith) (omega arith)) ∙ sym (List·getD-map f w k blank)
-    ∙ getD-inside (map f w) k (f blank) blank (omega arith) in
-    rw here (store (map f w) w k blank (omega arith) h)
 
 -- Who is not among the places of a packet is not addressed.
 abbrev Outside : ℕ → Span → Type 0
@@ -147,10 +89,6 @@ module _ (i : MonitorId) (g : GroupId) (w : Wall) (few : length w ≤ mostPanels
   group : (g .0 ≡ 0 → ⊥) → (n : ℕ) → membersOf g w ≡ n → Holds i g w (cond (eqb n 0) (from 0 0) (from 0 (length w)))
   unfolding reaches
   group z zero e = none (λ j t. rw (ne-eqb _ _ z, not-member g w e j t) (and-false (not (eqb (g .0) 255))))
-    where
-      and-false : (b : Bool) → (b && false) ≡ false
-      and-false true = refl
-      and-false false = refl
   group z (suc n) e = rw (ne-eqb (suc n) 0 (λ (s : suc n ≡ 0). omega arith)) all
 
   span-holds : Holds i g w (spanOf (entryOf w (named i g)) i g)

@@ -21,7 +21,7 @@ use Rattle.answers.specs.Judged.{Command, getOf, setOf, unavailable, command, h
 use Rattle.answers.specs.Played.{turned, answeredBy, answered, played}
 use Rattle.answers.proofs.Orders.{taken-allowed}
 use Rattle.answers.proofs.Formed.{stored-own, stored-twice, turned-keeps}
-use Rattle.answers.proofs.Turns.{stays}
+use Rattle.answers.proofs.Turned.{stays}
 use Rattle.answers.specs.Session.{byBurst, session}
 use Rattle.demands.specs.Again.{addressedBy, Again, done, again, other, SentAgain}
 

@@ -25,7 +25,7 @@ use Rattle.answers.specs.Reply.{sentBytes, sentOf, refusalNumber as answerNumbe
 use Rattle.answers.specs.Judged.{command}
 use Rattle.answers.specs.Played.{turned, answeredBy, answered}
 use Rattle.lists.proofs.Mapped.{map-same}
-use Rattle.answers.proofs.Turns.{either-way, stays}
+use Rattle.answers.proofs.Turned.{either-way, stays}
 use Rattle.image_forms.specs.declared.Form.{Form}
 use Rattle.image_write.specs.declared.Written.{Written}
 use Rattle.image_write.specs.Written.{setupOf, sizeOf, losesNothing, writtenOf, refusalNumber as imageNumber, outputOf as imageOutput}

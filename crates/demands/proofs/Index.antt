@@ -16,7 +16,7 @@ use Rattle.panels.specs.declared.Table.{Table}
 use Rattle.panels.specs.Wall.{Wall, tableOf, panelsOf, placeOf, placeNumber, membersOf}
 use Rattle.panels.proofs.Laws.{place-there, place-nowhere}
 use Rattle.panels.proofs.Index.{place-found, members-found}
-use Rattle.answers.proofs.Turns.{apart}
+use Rattle.panels.proofs.Formed.{apart}
 use Rattle.demands.proofs.Demand2.{in-range}
 use Rattle.demands.specs.Index.{HasId, PlaceKept, MembersKept, IndexWhole}
 

@@ -24,7 +24,7 @@ use Rattle.answers.specs.Judged.{setOf, command, offAlready, heldThen, takes, j
 use Rattle.requests.specs.Request.{isPowerOff}
 use Rattle.host.specs.Machine.{navEnds, ending}
 use Rattle.answers.proofs.Orders.{is-off}
-use Rattle.answers.proofs.Turns.{either-way}
+use Rattle.answers.proofs.Turned.{either-way}
 use Rattle.answers.proofs.Formed.{off-same}
 use Rattle.demands.proofs.Profiles.{own-model}
 use Rattle.demands.proofs.ToOne.{set-reply, panel, asked-good, asked-replies}

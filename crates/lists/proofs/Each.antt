@@ -1,7 +1,7 @@
 -- Lists made by a rule. Assumes nothing.
 use mathlib.Core.Path.{_≡_, refl, sym, ap, _∙_}
 use Prim.Native.Nat.{ℕ, zero, suc, _<_}
-use mathlib.Core.List.{List, [], _∷_, map}
+use mathlib.Core.List.{List, [], _∷_}
 use native.Mathlib.Nat.{le-of-suc-le-suc, not-suc-le-zero}
 use native.Mathlib.Omega.{arith}
 use lib.ListN.{length, getD, set, replicate}
@@ -32,10 +32,6 @@ each-same f (suc n) a same = rw (same 0 (omega arith), each-same (λ k. f (suc k
 pub each-getD : {A : Type 0} (ls : List A) (d : A) → each (λ k. getD ls k d) (length ls) ≡ ls
 each-getD [] d = refl
 each-getD (l ∷ ls) d = ap (λ r. l ∷ r) (each-getD ls d)
-
-pub map-each : {A B : Type 0} (g : A → B) (f : ℕ → A) (n : ℕ) → map g (each f n) ≡ each (λ k. g (f k)) n
-map-each g f zero = refl
-map-each g f (suc n) = ap (λ r. g (f 0) ∷ r) (map-each g (λ k. f (suc k)) n)
 
 -- a list made by one rule, with another value stored at a place, is made by a rule that differs there alone
 pub set-each : {A : Type 0} (f g : ℕ → A) (n j : ℕ) → j < n → ((k : ℕ) → (k ≡ j → ⊥) → f k ≡ g k) → set (each f n) j (g j) ≡ each g n

@@ -4,22 +4,13 @@ use mathlib.Core.List.{List, [], _∷_, _++_, map}
 use Prim.Native.Nat.{ℕ, zero, suc, _≤_, _<_}
 use native.Mathlib.Nat.{not-suc-le-zero, le-of-suc-le-suc}
 use native.Mathlib.Omega.{arith}
-use lib.ListN.{length, getD, take, drop, set}
+use lib.ListN.{length, getD, take, drop}
 
 module _ {A : Type 0} (f : A → A) (d : A) where
   -- it changes nothing
   pub map-same : (l : List A) → ((j : ℕ) → j < length l → f (getD l j d) ≡ getD l j d) → map f l ≡ l
   map-same [] h = refl
   map-same (x ∷ l) h = ap₂ (λ (y : A) (m : List A). y ∷ m) (h 0 (omega arith)) (map-same l (λ j s. h (suc j) (omega arith)))
-
-  -- it changes one element alone
-  pub map-one : (l : List A) (k : ℕ) → k < length l → ((j : ℕ) → j < length l → (j ≡ k → ⊥) → f (getD l j d) ≡ getD l j d)
-      → map f l ≡ set l k (f (getD l k d))
-  map-one [] k s h = absurd (not-suc-le-zero s)
-  map-one (x ∷ l) zero s h = ap (λ (m : List A). f x ∷ m) (map-same l (λ j t. h (suc j) (omega arith) (λ e. omega arith)))
-  map-one (x ∷ l) (suc k) s h =
-      ap₂ (λ (y : A) (m : List A). y ∷ m) (h 0 (omega arith) (λ e. omega arith))
-      (map-one l k (le-of-suc-le-suc s) (λ j t n. h (suc j) (omega arith) (λ e. n (omega arith))))
 
 -- two rules that agree on every element
 pub map-alike : {A B : Type 0} (f g : A → B) (d : A) (l : List A) → ((j : ℕ) → j < length l → f (getD l j d) ≡ g (getD l j d)) → map f l ≡ map g l

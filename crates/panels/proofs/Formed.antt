@@ -63,6 +63,19 @@ good-at [] good k h = absurd (not-suc-le-zero h)
 good-at (p ∷ w) (g, a, good) zero h = g
 good-at (p ∷ w) (g, a, good) (suc k) h = good-at w good k (le-of-suc-le-suc h)
 
+-- an absent ID is nowhere, and two places of a good wall have two IDs
+absent-at : (i : MonitorId) (w : Wall) (j : ℕ) → Absent i w → j < length w → getD w j blank .id .0 ≡ i .0 → ⊥
+absent-at i [] j a h = absurd (not-suc-le-zero h)
+absent-at i (p ∷ w) zero (n, a) h = n
+absent-at i (p ∷ w) (suc j) (n, a) h = absent-at i w j a (le-of-suc-le-suc h)
+
+pub apart : (w : Wall) (j k : ℕ) → GoodWall w → j < length w → k < length w → getD w j blank .id .0 ≡ getD w k blank .id .0 → j ≡ k
+apart [] j k good h m e = absurd (not-suc-le-zero h)
+apart (p ∷ w) zero zero good h m e = refl
+apart (p ∷ w) zero (suc k) (g, a, good) h m e = absurd (absent-at (p .id) w k a (le-of-suc-le-suc m) (sym e))
+apart (p ∷ w) (suc j) zero (g, a, good) h m e = absurd (absent-at (p .id) w j a (le-of-suc-le-suc h) e)
+apart (p ∷ w) (suc j) (suc k) (g, a, good) h m e = ap suc (apart w j k good (le-of-suc-le-suc h) (le-of-suc-le-suc m) e)
+
 pub fresh-good : (i : MonitorId) (g : GroupId) (profile : Profile) (kind : Kind) → (i .0 ≡ 0 → ⊥) → (g .0 ≡ 0 → ⊥) → GoodPanel (freshPanel i g profile kind)
 fresh-good i g profile kind named grouped =
     let fresh = modelIn profile (freshValues profile) in

@@ -7,8 +7,8 @@ use native.Mathlib.Nat.{add-zero, le-of-suc-le-suc, not-suc-le-zero}
 use native.Mathlib.Omega.{arith}
 use borrow.Author.Tests.{eqb-true, eqb-false}
 use lib.Dec.{eqb}
-use lib.ListN.{length, getD, take, drop, set, replicate, length-append, length-take, length-set, length-replicate, length-map, getD-replicate}
-use lib.Seq.{length-take-le, take-append-seam, drop-append-seam, getD-take, set-append-seam, set-append-left, append-snoc}
+use lib.ListN.{length, getD, take, drop, set, replicate, length-append, length-take, length-replicate, length-map, getD-replicate}
+use lib.Seq.{length-take-le, take-append-seam, drop-append-seam, getD-take, set-append-seam, append-snoc}
 use Rattle.packet.specs.declared.MonitorId.{MonitorId}
 use Rattle.panels.specs.declared.Panel.{Panel}
 use Rattle.panels.specs.declared.Table.{Table}
@@ -44,12 +44,6 @@ grown-places w p h =
     let was : mostPanels - length w ≡ suc ((mostPanels - 1) - length w) = omega arith in
     let is : mostPanels - length (w ++ p ∷ []) ≡ (mostPanels - 1) - length w = simp length-append (omega arith) in
     rw (was, set-append-seam, is) (sym (append-snoc w p _))
-
--- another panel at a place that the wall has
-pub changed-places : (w : Wall) (k : ℕ) (p : Panel) → k < length w → set (inPlaces w) k p ≡ inPlaces (set w k p)
-unfolding inPlaces
-changed-places w k p h =
-    set-append-left w _ k p h ∙ ap (λ (m : ℕ). set w k p ++ replicate (mostPanels - m) blank) (sym (length-set w k p))
 
 -- each panel turned for itself, and the places behind the last as they were
 pub turned-places : (g : Panel → Panel) (w : Wall) → take (length w) (map g (inPlaces w)) ++ drop (length w) (inPlaces w) ≡ inPlaces (map g w)
@@ -92,9 +86,6 @@ panels-of-table w = taken w
 pub count-is : {t : Table} → WellFormed t → t .count ≡ length (panelsOf t)
 unfolding tableOf
 count-is f = ap (λ (t : Table). t .count) (f .held)
-
-pub count-few : {t : Table} → WellFormed t → t .count ≤ mostPanels
-count-few f = omega (arith, count-is f, f .few)
 
 -- of the first of some places each has its panel
 pub in-first : (l : List Panel) (n k : ℕ) (d : Panel) → length (take n l) ≡ n → k < n → getD l k d ≡ getD (take n l) k blank

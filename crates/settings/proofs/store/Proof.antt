@@ -1,5 +1,4 @@
 -- The one value is set at the row's place, or the values are copied there. Assumes nothing.
-
 use mathlib.Core.Path.{_≡_, refl, ap, ap₂, _∙_}
 use mathlib.Core.List.{List, [], _∷_, _++_}
 use Prim.Native.Nat.{ℕ, _+_, _-_, _≤_}

@@ -19,7 +19,7 @@ use Rattle.answers.specs.Judged.{setOf, stored}
 use Rattle.answers.specs.Turn.{turnedBy}
 use Rattle.answers.specs.Played.{turned}
 use Rattle.answers.proofs.Formed.{turned-keeps}
-use Rattle.answers.proofs.Turns.{turn-next, set-stored, set-not, stored-many}
+use Rattle.answers.proofs.Turned.{turn-next, set-stored, set-not, stored-many}
 use Rattle.answers.proofs.playing.stored.Statement.{statement}
 use Rattle.answers.proofs.playing.stored.Tie as tie
 
