@@ -231,6 +231,10 @@ class Play:
         line = self.process.stdout.readline()
         return bytes.fromhex(line.strip().replace("-", "")) if line else None
 
+    def ended(self):
+        """Waits until it has ended: its output is closed before that. Its status is left to be asked for."""
+        wait_for(lambda: os.waitid(os.P_PID, self.process.pid, os.WEXITED | os.WNOHANG | os.WNOWAIT), "the end of rig play")
+
     def end(self):
         """Its status and what it has said."""
         errors = self.process.communicate(timeout=PATIENCE)[1]

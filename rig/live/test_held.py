@@ -296,6 +296,7 @@ def leftovers(site, _):
     for start in (lambda: site.run("play", image).stderr, lambda: started(site, image)):
         killed = Play(site, image, stop_at="killed-before-rename")      # its status is not asked for before the next start
         same("the answer of one that is killed", killed.ask(fan_set(1, 4)), None)
+        killed.ended()
         left = [n for n in beside("w") if n not in stay]
         same("files beside", len(left), 1)
         same("what was told", start(), f"rig: removed {left[0]}, which a program that is gone left beside w\n")
