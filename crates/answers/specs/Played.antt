@@ -3,6 +3,7 @@ use Prim.Native.Nat.{ℕ}
 use mathlib.Core.Bool.{cond}
 use mathlib.Core.List.{List, map}
 use lib.ListN.{getD}
+use Rattle.packet.specs.declared.Edition.{Edition}
 use Rattle.packet.specs.declared.MonitorId.{MonitorId}
 use Rattle.packet.specs.declared.GroupId.{GroupId}
 use Rattle.packet.specs.declared.Verdict.{Verdict}
@@ -51,8 +52,8 @@ answeredBy (Verdict.Intact i g n) w d seems = playedPacket w i g (command d)
 unfoldable pub answered : Wall → Reading → Outcome
 answered w r = answeredBy (r .verdict) w (r .part) (r .seems)
 
-abbrev pub played : Wall → List ℕ → Outcome
-played w burst = answered w (readingOf burst)
+abbrev pub played : Edition → Wall → List ℕ → Outcome
+played edition w burst = answered w (readingOf edition burst)
 
 -- the same of a table; and what is wrong with the burst, which is a fact about the burst alone (02, A3)
 abbrev pub answeredOn : Table → Reading → Played

@@ -1,6 +1,7 @@
 -- Many bursts. 01, "Packet and burst".
 use Prim.Native.Nat.{ℕ}
 use mathlib.Core.List.{List, [], _∷_}
+use Rattle.packet.specs.declared.Edition.{Edition}
 use Rattle.panels.specs.Wall.{Wall}
 use Rattle.answers.specs.declared.Reply.{Reply}
 use Rattle.answers.specs.Played.{Outcome, played}
@@ -17,6 +18,6 @@ byBurst rule w (b ∷ bs) =
     let e = byBurst rule (o .wall) bs in
     record { wall = e .wall; replies = o .reply ∷ e .replies }
 
--- and played
-abbrev pub session : Wall → List (List ℕ) → Ended
-session = byBurst played
+-- and played, on a line of an edition
+abbrev pub session : Edition → Wall → List (List ℕ) → Ended
+session edition = byBurst (played edition)

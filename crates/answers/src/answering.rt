@@ -10,6 +10,7 @@ use crate::MOST_REPORTED;
 use crate::Reply;
 use crate::Sent;
 use packet::Control;
+use packet::Edition;
 use packet::GroupId;
 use packet::LONGEST;
 use packet::MonitorId;
@@ -37,12 +38,12 @@ pub fn word_from(id: MonitorId, word: Control) -> Reply
     }
 }
 
-fn send(out: &mut [u8], id: MonitorId, d: &[u8]) -> Sent
-    requires { ⌜ (longest ≤ length (now out)) × (length (now d) ≤ mostData) ⌝ }
-    ensures { λ r. ⌜ r ≡ Sent.Bytes (length (now (d .entry)) + shortest) ⌝ }
-    ensures { λ _. ⌜ now (out .exit) ≡ laidOver (packetOf id (groupId 0) (now (d .entry))) (now (out .entry)) ⌝ }
+fn send(edition: Edition, out: &mut [u8], id: MonitorId, d: &[u8]) -> Sent
+    requires { ⌜ (longest ≤ length (now out)) × (length (now d) ≤ mostData edition) ⌝ }
+    ensures { λ r. ⌜ r ≡ Sent.Bytes (length (now (d .entry)) + shortest edition) ⌝ }
+    ensures { λ _. ⌜ now (out .exit) ≡ laidOver (packetOf edition id (groupId 0) (now (d .entry))) (now (out .entry)) ⌝ }
 {
-    let written = packet::write_packet(out, id, GroupId(0), d);
+    let written = packet::write_packet(edition, out, id, GroupId(0), d);
     match written {
         Written::Bytes(n) => Sent::Bytes(n),
         Written::TooLong => Sent::NoRoom,
@@ -50,10 +51,10 @@ fn send(out: &mut [u8], id: MonitorId, d: &[u8]) -> Sent
     }
 }
 
-// The packet that goes out, at the front of an output with room for any packet, of which the rest stays as it was.
-pub fn write_answer(reply: Reply, out: &mut [u8]) -> Sent
-    ensures { λ r. ⌜ r ≡ sentOf (now (out .entry)) reply ⌝ }
-    ensures { λ _. ⌜ now (out .exit) ≡ outputOf (now (out .entry)) reply ⌝ }
+// The packet that goes out on a line of an edition, at the front of an output with room for any packet, of which the rest stays as it was.
+pub fn write_answer(edition: Edition, reply: Reply, out: &mut [u8]) -> Sent
+    ensures { λ r. ⌜ r ≡ sentOf edition (now (out .entry)) reply ⌝ }
+    ensures { λ _. ⌜ now (out .exit) ≡ outputOf edition (now (out .entry)) reply ⌝ }
 {
     if out.len() < LONGEST {
         return Sent::NoRoom;
@@ -64,15 +65,15 @@ pub fn write_answer(reply: Reply, out: &mut [u8]) -> Sent
         Answer::Silence => Sent::Bytes(0),
         Answer::Word(word) => {
             let d = [0u8, packet::control_byte(word)];
-            send(out, id, &d)
+            send(edition, out, id, &d)
         }
         Answer::Report => {
             let bytes = reply.bytes;
             let n = reply.count;
             if MOST_REPORTED < n {
-                return send(out, id, &bytes);
+                return send(edition, out, id, &bytes);
             }
-            send(out, id, &bytes[..n])
+            send(edition, out, id, &bytes[..n])
         }
     }
 }

@@ -12,6 +12,7 @@ use crate::Played;
 use crate::judging;
 use crate::turning;
 use packet::Addressee;
+use packet::Edition;
 use packet::Verdict;
 use panels::MOST_PANELS;
 use panels::Table;
@@ -70,13 +71,13 @@ pub fn answered_on(t: Table, verdict: Verdict, d: &[u8], seems: Addressee) -> Pl
     }
 }
 
-// A whole burst.
-pub fn play(t: Table, burst: &[u8]) -> Played
+// A whole burst, heard on a line of an edition.
+pub fn play(edition: Edition, t: Table, burst: &[u8]) -> Played
     requires { ⌜ WellFormed t ⌝ }
-    ensures { λ r. ⌜ r ≡ answeredOn t (readingOf (now (burst .entry))) ⌝ }
+    ensures { λ r. ⌜ r ≡ answeredOn t (readingOf edition (now (burst .entry))) ⌝ }
 {
-    let verdict = packet::verdict_of(burst);
-    let d = packet::data_of(burst, verdict);
-    let seems = packet::seems_for(burst);
+    let verdict = packet::verdict_of(edition, burst);
+    let d = packet::data_of(edition, burst, verdict);
+    let seems = packet::seems_for(edition, burst);
     answered_on(t, verdict, d, seems)
 }

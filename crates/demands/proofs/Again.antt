@@ -8,21 +8,23 @@ use Rattle.lists.proofs.Mapped.{map-alike}
 use Rattle.settings.specs.Settings.{valuesOf}
 use Rattle.models.specs.Models.{filled}
 use Rattle.models.proofs.Filled.{filled-again}
+use Rattle.packet.specs.declared.Edition.{Edition}
 use Rattle.packet.specs.declared.MonitorId.{MonitorId}
 use Rattle.packet.specs.declared.GroupId.{GroupId}
 use Rattle.packet.specs.declared.Verdict.{Verdict}
-use Rattle.packet.specs.Reading.{readingOf}
+use Rattle.packet.specs.Reading.{Reading, readingOf}
 use Rattle.panels.specs.declared.Panel.{Panel}
 use Rattle.panels.specs.Wall.{Wall, blank, panelsOf}
 use Rattle.panels.specs.Addressed.{reaches}
 use Rattle.panels.specs.WellFormed.{GoodPanel}
 use Rattle.panels.proofs.Formed.{good-at}
 use Rattle.answers.specs.Judged.{Command, getOf, setOf, unavailable, command, heldThen, takes, judge, stored}
-use Rattle.answers.specs.Played.{turned, answeredBy, answered, played}
+use Rattle.answers.specs.Played.{turned, answeredBy, answered}
 use Rattle.answers.proofs.Orders.{taken-allowed}
 use Rattle.answers.proofs.Formed.{stored-own, stored-twice, turned-keeps}
 use Rattle.answers.proofs.Turned.{stays}
-use Rattle.answers.specs.Session.{byBurst, session}
+use Rattle.answers.specs.Session.{Ended, byBurst, session}
+use Rattle.demands.proofs.Demand2.{by-readings}
 use Rattle.demands.specs.Again.{addressedBy, Again, done, again, other, SentAgain}
 
 -- what a burst with this verdict and data makes of a panel, and bursts one after the other
@@ -31,32 +33,29 @@ changedBy Verdict.Empty d p = p
 changedBy (Verdict.Damaged damage) d p = p
 changedBy (Verdict.Intact i g n) d p = turned i g (command d) p
 
-abbrev verdict : List ℕ → Verdict
-verdict b = readingOf b .verdict
+abbrev changed : Reading → Panel → Panel
+changed r = changedBy (r .verdict) (r .part)
 
-abbrev part : List ℕ → List ℕ
-part b = readingOf b .part
-
-abbrev changed : List ℕ → Panel → Panel
-changed b = changedBy (verdict b) (part b)
-
-abbrev changedByAll : List (List ℕ) → Panel → Panel
+abbrev changedByAll : List Reading → Panel → Panel
 changedByAll [] p = p
-changedByAll (b ∷ bs) p = changedByAll bs (changed b p)
+changedByAll (r ∷ rs) p = changedByAll rs (changed r p)
 
-played-each : (w : Wall) (b : List ℕ) → played w b .wall ≡ map (changed b) w
+answered-each : (w : Wall) (r : Reading) → answered w r .wall ≡ map (changed r) w
 unfolding answered
-played-each w b = go (verdict b)
+answered-each w r = go (r .verdict)
   where
-    go : (v : Verdict) → answeredBy v w (part b) (readingOf b .seems) .wall ≡ map (changedBy v (part b)) w
+    go : (v : Verdict) → answeredBy v w (r .part) (r .seems) .wall ≡ map (changedBy v (r .part)) w
     go Verdict.Empty = sym (map-id w)
     go (Verdict.Damaged d) = sym (map-id w)
     go (Verdict.Intact i g n) = refl
 
-session-each : (w : Wall) (bs : List (List ℕ)) → session w bs .wall ≡ map (changedByAll bs) w
+all-each : (w : Wall) (rs : List Reading) → byBurst answered w rs .wall ≡ map (changedByAll rs) w
 unfolding byBurst
-session-each w [] = sym (map-id w)
-session-each w (b ∷ bs) = session-each (played w b .wall) bs ∙ ap (map (changedByAll bs)) (played-each w b) ∙ map-map (changedByAll bs) (changed b) w
+all-each w [] = sym (map-id w)
+all-each w (r ∷ rs) = all-each (answered w r .wall) rs ∙ ap (map (changedByAll rs)) (answered-each w r) ∙ map-map (changedByAll rs) (changed r) w
+
+session-each : (edition : Edition) (w : Wall) (bs : List (List ℕ)) → session edition w bs .wall ≡ map (changedByAll (map (readingOf edition) bs)) w
+session-each edition w bs = ap (λ (e : Ended). e .wall) (by-readings edition w bs) ∙ all-each w (map (readingOf edition) bs)
 
 -- a panel that is not addressed stays, and whom another burst addresses stays so too
 not-addressed : (v : Verdict) (d : List ℕ) (p : Panel) → addressedBy v p ≡ false → changedBy v d p ≡ p
@@ -70,10 +69,10 @@ same-reached i g Verdict.Empty d p = refl
 same-reached i g (Verdict.Damaged damage) d p = refl
 same-reached i g (Verdict.Intact j h n) d p = turned-keeps (reaches i g) p (λ row vs. refl) j h _
 
-same-addressed : (v : Verdict) (c : List ℕ) (p : Panel) → addressedBy v (changed c p) ≡ addressedBy v p
+same-addressed : (v : Verdict) (c : Reading) (p : Panel) → addressedBy v (changed c p) ≡ addressedBy v p
 same-addressed Verdict.Empty c p = refl
 same-addressed (Verdict.Damaged d) c p = refl
-same-addressed (Verdict.Intact i g n) c p = same-reached i g (verdict c) (part c) p
+same-addressed (Verdict.Intact i g n) c p = same-reached i g (c .verdict) (c .part) p
 
 -- A panel that a packet turned is not turned further by it.
 module _ (i : MonitorId) (g : GroupId) (p : Panel) (good : GoodPanel p) where
@@ -130,34 +129,38 @@ changed-again (Verdict.Damaged damage) d p good = refl
 changed-again (Verdict.Intact i g n) d p good = turned-again i g p good _
 
 -- Nor after a burst that does not address it as well.
-among-others : (b c : List ℕ) (q : Panel) → (addressedBy (verdict b) q && addressedBy (verdict c) q) ≡ false → changed b q ≡ q
+among-others : (b c : Reading) (q : Panel) → (addressedBy (b .verdict) q && addressedBy (c .verdict) q) ≡ false → changed b q ≡ q
     → changed b (changed c q) ≡ changed c q
-among-others b c q apart settled = go (addressedBy (verdict b) q) refl
+among-others b c q apart settled = go (addressedBy (b .verdict) q) refl
   where
-    go : (t : Bool) → addressedBy (verdict b) q ≡ t → changed b (changed c q) ≡ changed c q
+    go : (t : Bool) → addressedBy (b .verdict) q ≡ t → changed b (changed c q) ≡ changed c q
     go true e =
-        let still = not-addressed (verdict c) (part c) q (rw e at apart) in
+        let still = not-addressed (c .verdict) (c .part) q (rw e at apart) in
         ap (changed b) still ∙ settled ∙ sym still
-    go false e = not-addressed (verdict b) (part b) (changed c q) (same-addressed (verdict b) c q ∙ e)
+    go false e = not-addressed (b .verdict) (b .part) (changed c q) (same-addressed (b .verdict) c q ∙ e)
 
-module _ (w : Wall) (b : List ℕ) (k : ℕ) (inside : k < length w) where
+module _ (edition : Edition) (w : Wall) (b : List ℕ) (k : ℕ) (inside : k < length w) where
   abbrev p : Panel
   p = getD w k blank
 
-  sent-among : {bs others : List (List ℕ)} → Again w b bs others → (q : Panel) → ((v : Verdict) → addressedBy v q ≡ addressedBy v p)
-      → changed b q ≡ q → changedByAll bs q ≡ changedByAll others q
+  abbrev read : List ℕ → Reading
+  read = readingOf edition
+
+  sent-among : {bs others : List (List ℕ)} → Again edition w b bs others → (q : Panel) → ((v : Verdict) → addressedBy v q ≡ addressedBy v p)
+      → changed (read b) q ≡ q → changedByAll (map read bs) q ≡ changedByAll (map read others) q
   sent-among done q alike settled = refl
-  sent-among (again {bs} rest) q alike settled = ap (changedByAll bs) settled ∙ sent-among rest q alike settled
+  sent-among (again {bs} rest) q alike settled = ap (changedByAll (map read bs)) settled ∙ sent-among rest q alike settled
   sent-among (other c apart rest) q alike settled =
-      sent-among rest (changed c q) (λ v. same-addressed v c q ∙ alike v)
-      (among-others b c q (rw (alike (verdict b), alike (verdict c)) (apart k inside)) settled)
+      sent-among rest (changed (read c) q) (λ v. same-addressed v (read c) q ∙ alike v)
+      (among-others (read b) (read c) q (rw (alike (read b .verdict), alike (read c .verdict)) (apart k inside)) settled)
 
 pub sent-again : SentAgain
-sent-again t f b bs others sent =
+sent-again edition t f b bs others sent =
     let w = panelsOf t in
-    session-each w (b ∷ bs)
+    let r = readingOf edition b in
+    session-each edition w (b ∷ bs)
     ∙ map-alike _ _ blank w
     (λ k h.
     let p = getD w k blank in
-    sent-among w b k h sent (changed b p) (λ v. same-addressed v b p) (changed-again (verdict b) (part b) p (good-at w (f .good) k h)))
-    ∙ sym (session-each w (b ∷ others))
+    sent-among edition w b k h sent (changed r p) (λ v. same-addressed v r p) (changed-again (r .verdict) (r .part) p (good-at w (f .good) k h)))
+    ∙ sym (session-each edition w (b ∷ others))

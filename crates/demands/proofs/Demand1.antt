@@ -8,6 +8,7 @@ use lib.Dec.{leb, ltb, eqb}
 use lib.ListN.{length, getD, drop}
 use Rattle.lists.proofs.Laid.{behind-over}
 use Rattle.packet.specs.Answered.{isHeard}
+use Rattle.packet.specs.declared.Edition.{Edition}
 use Rattle.packet.specs.declared.MonitorId.{MonitorId}
 use Rattle.packet.specs.declared.GroupId.{GroupId}
 use Rattle.packet.specs.declared.Verdict.{Verdict}
@@ -82,11 +83,13 @@ bad-burst w r bad = go (r .verdict) bad
 
 pub answer-alone : AnswerAlone
 unfolding sentOf answerOutput
-answer-alone out r = go (leb longest (length out))
+answer-alone edition out r = go (leb longest (length out))
   where
     go : (t : Bool)
-        → let n = cond (eqb (answerNumber (cond t (Sent.Bytes (length (sentBytes r))) Sent.NoRoom)) 0) (length (sentBytes r)) 0 in drop n (cond t (laidOver (sentBytes r) out) out) ≡ drop n out
-    go true = behind-over (sentBytes r) out
+        → let bytes = sentBytes edition r in
+        let n = cond (eqb (answerNumber (cond t (Sent.Bytes (length bytes)) Sent.NoRoom)) 0) (length bytes) 0 in
+        drop n (cond t (laidOver bytes out) out) ≡ drop n out
+    go true = behind-over (sentBytes edition r) out
     go false = refl
 
 pub image-alone : ImageAlone
@@ -151,15 +154,15 @@ ending-stays s d Said.Nav = taken _ refl
 ending-stays s d Said.Report = taken _ refl
 ending-stays s d Said.Nothing = taken _ refl
 
-begun-stays : (s : State) (r : Request) → Stays s (begun r)
+begun-stays : (s : State) (edition : Edition) (r : Request) → Stays s (begun edition r)
 unfolding begun
-begun-stays s r = one-of s (isHeard (r .id) (r .group)) _ _ (taken _ refl) (taken _ refl)
+begun-stays s edition r = one-of s (isHeard (r .id) (r .group)) _ _ (taken _ refl) (taken _ refl)
 
 step-stays : (s : State) (h : Happening) → Stays s (step s h)
 unfolding step heard
 step-stays s (start r) =
-    one-of s (waits s) _ _ (quiet-stays s _) (one-of s (isRequest r) _ _ (begun-stays s r) (quiet-stays s _))
-step-stays s (burst b) = one-of s (waits s) (heard s (readingOf b)) (quiet s Outcome.Idle) (ending-stays s _ _) (quiet-stays s _)
+    one-of s (waits s) _ _ (quiet-stays s _) (one-of s (isRequest (s .edition) r) _ _ (begun-stays s (s .edition) r) (quiet-stays s _))
+step-stays s (burst b) = one-of s (waits s) (heard s (readingOf (s .edition) b)) (quiet s Outcome.Idle) (ending-stays s _ _) (quiet-stays s _)
 step-stays s mark = one-of s (waits s) _ _ (again-stays s) (quiet-stays s _)
 
 pub call-refused : CallRefused

@@ -48,13 +48,13 @@ in-range t (burst c r) = answered-formed (in-range _ c) r
 
 pub by-readings : ByReadings
 unfolding byBurst
-by-readings w [] = refl
-by-readings w (b ∷ bs) =
-    let o = answered w (readingOf b) in
-    ap {B = Ended} (λ (e : Ended). record { wall = e .wall; replies = o .reply ∷ e .replies }) (by-readings (o .wall) bs)
+by-readings edition w [] = refl
+by-readings edition w (b ∷ bs) =
+    let o = answered w (readingOf edition b) in
+    ap {B = Ended} (λ (e : Ended). record { wall = e .wall; replies = o .reply ∷ e .replies }) (by-readings edition (o .wall) bs)
 
 pub read-as-written : ReadAsWritten
-read-as-written i g d short = (packet-verdict i g d short, packet-data i g d short)
+read-as-written edition i g d short = (packet-verdict edition i g d short, packet-data edition i g d short)
 
 -- one panel and a command: it stays, or values that are allowed are stored
 module _ (read : Reading) (i : MonitorId) (g : GroupId) (n : ℕ) (e : read .verdict ≡ Verdict.Intact i g n) (p : Panel) (ok : GoodPanel p) where
@@ -149,7 +149,7 @@ answers w read = go (read .verdict)
 
 -- The line.
 pub received : Received
-received w events = stream-after [] w events
+received edition w events = stream-after edition [] w events
 
 -- The image.
 pub reads-back : ReadsBack

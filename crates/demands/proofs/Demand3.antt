@@ -1,15 +1,18 @@
 -- Demand 3: a spoiled intact packet is damaged, and a damaged burst changes no panel. Assumes nothing.
 use Prim.Native.Nat.{ℕ}
+use mathlib.Core.Bool.{true}
 use mathlib.Core.Logic.{inl, inr}
 use mathlib.Core.Path.{_≡_, refl, sym, ap, subst, _∙_}
 use mathlib.Core.List.{List, [], _∷_, _++_, map, append-assoc, append-nil}
+use Rattle.packet.specs.declared.Edition.{Edition}
 use Rattle.packet.specs.declared.Control.{Control}
 use Rattle.packet.specs.declared.Addressee.{Addressee}
 use Rattle.packet.specs.declared.Damage.{Damage}
 use Rattle.packet.specs.declared.MonitorId.{MonitorId}
 use Rattle.packet.specs.declared.Verdict.{Verdict}
 use Rattle.packet.specs.Reading.{Reading, readingOf}
-use Rattle.packet.specs.Spoiled.{spoiled}
+use Rattle.packet.specs.Packet.{isIntact}
+use Rattle.packet.specs.Spoiled.{Spoiling, spoiled, Spoils}
 use Rattle.packet.proofs.Spoiled.{spoiled-damaged}
 use Rattle.panels.specs.declared.Place.{Place}
 use Rattle.panels.specs.Wall.{Wall, placeOf, ifThere}
@@ -30,24 +33,33 @@ damaged-answer : (w : Wall) (a : Addressee) → SilenceOrNack (nackFrom w a)
 damaged-answer w Addressee.Nobody = inl refl
 damaged-answer w (Addressee.One i) = nack-or-silent i (placeOf i w)
 
--- A box that takes each burst by itself withstands spoiled packets if no damaged burst changes its wall, and each gets what it may.
-module _ (May : Reply → Type 0) (rule : Wall → List ℕ → Outcome)
-    (still : (w : Wall) (b : List ℕ) (d : Damage) → readingOf b .verdict ≡ Verdict.Damaged d → rule w b .wall ≡ w)
-    (may : (w : Wall) (b : List ℕ) (d : Damage) → readingOf b .verdict ≡ Verdict.Damaged d → May (rule w b .reply)) where
+-- A box that takes each burst by itself withstands spoiled packets if none of them changes its wall, and each gets what it may.
+module _ (edition : Edition) (May : Reply → Type 0) (rule : Wall → List ℕ → Outcome)
+    (still : (w : Wall) (p : List ℕ) (s : Spoiling) → isIntact edition p ≡ true → Spoils s p → rule w (spoiled s p) .wall ≡ w)
+    (may : (w : Wall) (p : List ℕ) (s : Spoiling) → isIntact edition p ≡ true → Spoils s p → May (rule w (spoiled s p) .reply)) where
   -- a session after its first reply
   abbrev then : Wall → Reply → List (List ℕ) → Ended
   then w r bs = record { wall = byBurst rule w bs .wall; replies = r ∷ byBurst rule w bs .replies }
 
-  pub withstands : Withstands May (byBurst rule)
+  pub withstands-by : Withstands edition May (byBurst rule)
   unfolding byBurst
-  withstands w [] = (refl, tt)
-  withstands w (whole b ∷ items) = let ih = withstands (rule w b .wall) items in (ih .0, (refl, ih .1))
-  withstands w (spoilt p s i h ∷ items) =
-      let damaged = spoiled-damaged s p i h in
-      let ih = withstands w items in
+  withstands-by w [] = (refl, tt)
+  withstands-by w (whole b ∷ items) = let ih = withstands-by (rule w b .wall) items in (ih .0, (refl, ih .1))
+  withstands-by w (spoilt p s i h ∷ items) =
+      let ih = withstands-by w items in
       subst (λ (v : Wall). AsIfNeverSent May (spoilt p s i h ∷ items) (then v (rule w (spoiled s p) .reply) (sent items)) (byBurst rule w (kept items)))
-      (sym (still w (spoiled s p) _ damaged))
-      (ih .0, (may w (spoiled s p) _ damaged, ih .1))
+      (sym (still w p s i h))
+      (ih .0, (may w p s i h, ih .1))
+
+-- And so if that is so of every damaged burst.
+module _ (edition : Edition) (May : Reply → Type 0) (rule : Wall → List ℕ → Outcome)
+    (still : (w : Wall) (b : List ℕ) (d : Damage) → readingOf edition b .verdict ≡ Verdict.Damaged d → rule w b .wall ≡ w)
+    (may : (w : Wall) (b : List ℕ) (d : Damage) → readingOf edition b .verdict ≡ Verdict.Damaged d → May (rule w b .reply)) where
+  pub withstands : Withstands edition May (byBurst rule)
+  withstands =
+      withstands-by edition May rule
+      (λ w p s i h. still w (spoiled s p) _ (spoiled-damaged edition s p i h))
+      (λ w p s i h. may w (spoiled s p) _ (spoiled-damaged edition s p i h))
 
 pub damaged-still : (w : Wall) (r : Reading) (d : Damage) → r .verdict ≡ Verdict.Damaged d → answered w r .wall ≡ w
 damaged-still w r d e = ap (λ (o : Outcome). o .wall) (answered-damaged w r d e)
@@ -56,7 +68,7 @@ pub damaged-may : (w : Wall) (r : Reading) (d : Damage) → r .verdict ≡ Verdi
 damaged-may w r d e = rw (answered-damaged w r d e) (damaged-answer w (r .seems))
 
 pub demand3 : Demand3
-demand3 = withstands SilenceOrNack played (λ w b. damaged-still w (readingOf b)) (λ w b. damaged-may w (readingOf b))
+demand3 edition = withstands edition SilenceOrNack (played edition) (λ w b. damaged-still w (readingOf edition b)) (λ w b. damaged-may w (readingOf edition b))
 
 -- what is put on the line burst by burst is heard burst by burst
 heard : (l b : List ℕ) (es : List Event) → burstsAfter l (map byte b ++ quiet ∷ es) ≡ (l ++ b) ∷ burstsAfter [] es
@@ -69,8 +81,8 @@ unfolding burstsAfter
 heard-all [] = refl
 heard-all (b ∷ bs) = heard [] b (onLine bs) ∙ ap (λ (m : List (List ℕ)). b ∷ m) (heard-all bs)
 
-streamed-is : (w : Wall) (bs : List (List ℕ)) → streamed (receiverOf []) w (onLine bs) ≡ session w bs
-streamed-is w bs = stream-after [] w (onLine bs) ∙ ap (session w) (heard-all bs)
+streamed-is : (edition : Edition) (w : Wall) (bs : List (List ℕ)) → streamed (receiverOf edition []) w (onLine bs) ≡ session edition w bs
+streamed-is edition w bs = stream-after edition [] w (onLine bs) ∙ ap (session edition w) (heard-all bs)
 
 pub demand3-line : Demand3·line
-demand3-line w items = rw (streamed-is w (sent items), streamed-is w (kept items)) (demand3 w items)
+demand3-line edition w items = rw (streamed-is edition w (sent items), streamed-is edition w (kept items)) (demand3 edition w items)

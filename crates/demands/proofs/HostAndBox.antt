@@ -20,12 +20,15 @@ use Rattle.models.proofs.Laws.{allowed-many}
 use Rattle.models.proofs.Filled.{filled-other, filled-there, length-filled}
 use Rattle.tiling.specs.Kinds.{largest, inWall}
 use Rattle.lists.proofs.Each.{alike}
+use Rattle.packet.specs.declared.Edition.{Edition}
+use Rattle.packet.specs.Edition.{carries}
 use Rattle.packet.specs.declared.Control.{Control}
 use Rattle.packet.specs.declared.Damage.{Damage}
 use Rattle.packet.specs.Packet.{groupId, packetOf, mostData}
 use Rattle.packet.specs.Control.{controlData}
 use Rattle.packet.specs.Reading.{readingOf}
 use Rattle.packet.specs.Answered.{isHeard}
+use Rattle.packet.proofs.EachEdition.{head-few, group-none}
 use Rattle.packet.proofs.Packets.{packet-verdict, packet-data}
 use Rattle.panels.specs.declared.Panel.{Panel}
 use Rattle.panels.specs.declared.Place.{Place}
@@ -110,26 +113,26 @@ may-hold p row vs may = go (eqb row tilingRow) (eqb (getD vs 3 0) 0) refl refl
         subst (λ (r : ℕ). allowedFor model r (heldThen r vs p) ≡ not (pastWall r vs p)) (sym same-row)
         (open-wall p vs (four ∙ ap byteCount same-row ∙ tiling-count) (subst (λ (r : ℕ). maySet model r vs ≡ true) same-row may) (eqb-true (getD vs 3 0) 0 ez))
 
-module _ (w : Wall) (r : Request) (k : ℕ) (asked : isRequest r ≡ true) (due : isHeard (r .id) (r .group) ≡ true) (there : placeOf (r .id) w ≡ Place.At k)
+module _ (edition : Edition) (w : Wall) (r : Request) (k : ℕ) (asked : isRequest edition r ≡ true) (due : isHeard (r .id) (r .group) ≡ true) (there : placeOf (r .id) w ≡ Place.At k)
     (told : modelOf (getD w k blank) ≡ r .model) where
   abbrev panel : Panel
   panel = getD w k blank
 
-  box-answers : played w (requestPacket r) .reply ≡ replyBy (r .id) (judge (command (requestData r)) panel)
+  box-answers : played edition w (requestPacket edition r) .reply ≡ replyBy (r .id) (judge (command (requestData r)) panel)
   box-answers =
-      let (verdict, part) = packet-reads r asked in
-      rw (answered-intact w (readingOf (requestPacket r)) _ _ _ verdict, part, due, there)
+      let (verdict, part) = packet-reads edition r asked in
+      rw (answered-intact w (readingOf edition (requestPacket edition r)) _ _ _ verdict, part, due, there)
 
   -- and the host, which waits and has sent the packet so often, hears one from that panel
-  starts : step idle (start r) .next ≡ waiting r 1
+  starts : step (idle edition) (start r) .next ≡ waiting edition r 1
   unfolding step begun
   starts = rw (asked, due)
 
-  sends : (n : ℕ) → suc n < mostSendings → step (waiting r (suc n)) mark .next ≡ waiting r (suc (suc n))
+  sends : (n : ℕ) → suc n < mostSendings → step (waiting edition r (suc n)) mark .next ≡ waiting edition r (suc (suc n))
   unfolding step again
   sends n h = rw (length-replicate, lt-ltb 0 (suc n) (omega arith), lt-ltb (suc n) mostSendings h)
 
-  waits-on : (n : ℕ) → n < mostSendings → asking r n ≡ waiting r (suc n)
+  waits-on : (n : ℕ) → n < mostSendings → asking edition r n ≡ waiting edition r (suc n)
   waits-on zero h = starts
   waits-on (suc n) h = ap (λ (s : State). step s mark .next) (waits-on n (omega arith)) ∙ sends n h
 
@@ -154,7 +157,7 @@ module _ (w : Wall) (r : Request) (k : ℕ) (asked : isRequest r ≡ true) (due 
       let code = sym (subst (IsFound (r .code)) found (found-right (r .code)) .1) ∙ ap setCode (eqb-true row powerRow at) in
       rw (eq-eqb (r .code) (setCode powerRow) code) (both (same (requestValues r) off) _ sets .0)
 
-  nav-ends : (n : ℕ) → isPowerOff r ≡ true → navEnds (waiting r (suc n)) ≡ cond (eqb (suc n) 1) End.Nav End.OffOrRefused
+  nav-ends : (n : ℕ) → isPowerOff r ≡ true → navEnds (waiting edition r (suc n)) ≡ cond (eqb (suc n) 1) End.Nav End.OffOrRefused
   unfolding navEnds
   nav-ends zero e = rw e
   nav-ends (suc n) e = rw (e, length-replicate, lt-ltb 1 (suc (suc n)) (omega arith), ne-eqb (suc (suc n)) 1 (λ d. omega arith))
@@ -167,35 +170,35 @@ module _ (w : Wall) (r : Request) (k : ℕ) (asked : isRequest r ≡ true) (due 
       let code = sym (subst (IsFound (r .code)) found (found-right (r .code)) .1) ∙ ap setCode (eqb-true row tilingRow at) in
       rw code
 
-  nav-plain : (n : ℕ) → isPowerOff r ≡ false → navEnds (waiting r (suc n)) ≡ End.Nav
+  nav-plain : (n : ℕ) → isPowerOff r ≡ false → navEnds (waiting edition r (suc n)) ≡ End.Nav
   unfolding navEnds
   nav-plain n e = rw e
 
-  hears : (n : ℕ) → n < mostSendings → (d : List ℕ) → length d ≤ mostData
-      → step (asking r n) (burst (packetOf (r .id) (groupId 0) d)) ≡ ending (waiting r (suc n)) d (wordIn (r .model) (r .code) d)
+  hears : (n : ℕ) → n < mostSendings → (d : List ℕ) → length d ≤ mostData edition
+      → step (asking edition r n) (burst (packetOf edition (r .id) (groupId 0) d)) ≡ ending (waiting edition r (suc n)) d (wordIn (r .model) (r .code) d)
   unfolding step heard saidTo saidBy
   hears n few d short =
-      rw (waits-on n few, length-replicate, lt-ltb 0 (suc n) (omega arith), packet-data (r .id) (groupId 0) d short, packet-verdict (r .id) (groupId 0) d short, eq-eqb (r .id .0) _ refl)
-      (untold (waiting r (suc n)) d (wordIn (r .model) (r .code) d))
+      rw (waits-on n few, length-replicate, lt-ltb 0 (suc n) (omega arith), packet-data edition (r .id) (groupId 0) d short, packet-verdict edition (r .id) (groupId 0) d short, group-none edition, eq-eqb (r .id .0) _ refl)
+      (untold (waiting edition r (suc n)) d (wordIn (r .model) (r .code) d))
 
   -- a set to which the panel says the word
   set-ends : (n : ℕ) → n < mostSendings → (row : ℕ) → foundBy (r .code) ≡ Found.Set row
       → allowedFor (modelOf panel) row (heldThen row (requestValues r) panel) ≡ not (pastWall row (requestValues r) panel)
       → (off past : Bool) → offAlready row (requestValues r) panel ≡ off → pastWall row (requestValues r) panel ≡ past
-      → EndsWith (Found.Set row) r panel (suc n) (step (asking r n) (burst (sentBytes (played w (requestPacket r) .reply))))
+      → EndsWith edition (Found.Set row) r panel (suc n) (step (asking edition r n) (burst (sentBytes edition (played edition w (requestPacket edition r) .reply))))
   unfolding command takes judge sentBytes ending
   set-ends n few row found allowed true past e f =
-      let reply : played w (requestPacket r) .reply ≡ wordFrom (r .id) Control.Nav = box-answers ∙ rw (found, allowed, e, and-false (not (pastWall row (requestValues r) panel))) in
-      rw (reply, e) (hears n few (controlData Control.Nav) (omega arith) ∙ (unfold wordIn isControl same in ap (λ (e : End). over (waiting r (suc n)) [] e []) (nav-ends n (power-off row found e))))
+      let reply : played edition w (requestPacket edition r) .reply ≡ wordFrom (r .id) Control.Nav = box-answers ∙ rw (found, allowed, e, and-false (not (pastWall row (requestValues r) panel))) in
+      rw (reply, e) (hears n few (controlData Control.Nav) (omega (arith, head-few edition)) ∙ (unfold wordIn isControl same in ap (λ (e : End). over (waiting edition r (suc n)) [] e []) (nav-ends n (power-off row found e))))
   set-ends n few row found allowed false true e f =
-      let reply : played w (requestPacket r) .reply ≡ wordFrom (r .id) Control.Nav = box-answers ∙ rw (found, allowed, f) in
-      rw (reply, e, f) (hears n few (controlData Control.Nav) (omega arith) ∙ (unfold wordIn isControl same in ap (λ (e : End). over (waiting r (suc n)) [] e []) (nav-plain n (not-power row found f))))
+      let reply : played edition w (requestPacket edition r) .reply ≡ wordFrom (r .id) Control.Nav = box-answers ∙ rw (found, allowed, f) in
+      rw (reply, e, f) (hears n few (controlData Control.Nav) (omega (arith, head-few edition)) ∙ (unfold wordIn isControl same in ap (λ (e : End). over (waiting edition r (suc n)) [] e []) (nav-plain n (not-power row found f))))
   set-ends n few row found allowed false false e f =
-      let reply : played w (requestPacket r) .reply ≡ wordFrom (r .id) Control.Ack = box-answers ∙ rw (found, allowed, e, f) in
-      rw (reply, e, f) (hears n few (controlData Control.Ack) (omega arith) ∙ (unfold wordIn isControl same endedBy in rw found))
+      let reply : played edition w (requestPacket edition r) .reply ≡ wordFrom (r .id) Control.Ack = box-answers ∙ rw (found, allowed, e, f) in
+      rw (reply, e, f) (hears n few (controlData Control.Ack) (omega (arith, head-few edition)) ∙ (unfold wordIn isControl same endedBy in rw found))
 
   ends : (n : ℕ) → n < mostSendings → GoodPanel panel → (f : Found) → foundBy (r .code) ≡ f → isTaken r f ≡ true
-      → EndsWith f r panel (suc n) (step (asking r n) (burst (sentBytes (played w (requestPacket r) .reply))))
+      → EndsWith edition f r panel (suc n) (step (asking edition r n) (burst (sentBytes edition (played edition w (requestPacket edition r) .reply))))
   unfolding isTaken command judge sentBytes ending
   ends n few good Found.Nothing found t = absurd (false≢true t)
   ends n few good (Found.Set row) found t =
@@ -205,15 +208,15 @@ module _ (w : Wall) (r : Request) (k : ℕ) (asked : isRequest r ≡ true) (due 
       let none = eqb-true (r .count) 0 (both (eqb (r .count) 0) _ t .0) in
       let (inTable, _, setting) = subst (IsFound (r .code)) found (found-right (r .code)) in
       let d = getCode row ∷ valuesOf row (panel .values) in
-      let short : length d ≤ mostData = simp length-take (omega (arith, byte-count-few inTable)) in
-      let reply : played w (requestPacket r) .reply ≡ reportFrom (r .id) d = box-answers ∙ rw (found, none) in
-      let sent : sentBytes (reportFrom (r .id) d) ≡ packetOf (r .id) (groupId 0) d = ap (packetOf (r .id) (groupId 0)) (take-append-seam d _) in
+      let short : length d ≤ mostData edition = simp length-take (omega (arith, head-few edition, byte-count-few inTable)) in
+      let reply : played edition w (requestPacket edition r) .reply ≡ reportFrom (r .id) d = box-answers ∙ rw (found, none) in
+      let sent : sentBytes edition (reportFrom (r .id) d) ≡ packetOf edition (r .id) (groupId 0) d = ap (packetOf edition (r .id) (groupId 0)) (take-append-seam d _) in
       let notZero = codes-some row setting inTable in
       rw (reply, sent)
-      (hears n few d short ∙ ap (ending (waiting r (suc n)) d) (word-report (r .model) (r .code) row (valuesOf row (panel .values)) found notZero (subst (λ (m : Model). allowedFor m row (valuesOf row (panel .values)) ≡ true) told (good .inRange row inTable))))
+      (hears n few d short ∙ ap (ending (waiting edition r (suc n)) d) (word-report (r .model) (r .code) row (valuesOf row (panel .values)) found notZero (subst (λ (m : Model). allowedFor m row (valuesOf row (panel .values)) ≡ true) told (good .inRange row inTable))))
 
 pub lossless : Lossless
 unfolding isRequest
-lossless t f r k n asked due there told few =
+lossless edition t f r k n asked due there told few =
     let h = place-there (r .id) (panelsOf t) k there .0 in
-    ends (panelsOf t) r k asked due there told n few (good-at (panelsOf t) (f .good) k h) (foundBy (r .code)) refl (both (leb (r .count) mostValues) _ asked .1)
+    ends edition (panelsOf t) r k asked due there told n few (good-at (panelsOf t) (f .good) k h) (foundBy (r .code)) refl (both (carries edition (r .group)) _ (both (leb (r .count) mostValues) _ asked .1) .1)

@@ -17,4 +17,5 @@ pub mod SalvageCases
 pub mod Power
 pub mod Again
 pub mod HostAndBox
+pub mod Editions
 pub mod WrongBoxes

@@ -13,8 +13,11 @@ use Rattle.tiling.specs.Kinds.{kindWith, ifKnown as ifKind}
 use Rattle.settings.specs.Settings.{settings, freshValues, allowedByRow}
 use Rattle.profiles.specs.declared.Numbered.{Numbered}
 use Rattle.profiles.specs.Numbers.{profileWith, ifKnown}
+use Rattle.packet.specs.declared.Edition.{Edition}
+use Rattle.packet.specs.declared.Numbered.{Numbered as EditionNumbered}
 use Rattle.packet.specs.declared.Written.{Written}
-use Rattle.packet.specs.Packet.{writtenOf as packetWritten, refusalNumber as packetNumber}
+use Rattle.packet.specs.Edition.{editionWith, openRefusal}
+use Rattle.packet.specs.Packet.{shortest, mostData as packetData, writtenOf as packetWritten, refusalNumber as packetNumber}
 use Rattle.panels.specs.declared.Place.{Place}
 use Rattle.table_calls.specs.declared.Refusal.{Refusal}
 use Rattle.panels.specs.Wall.{Wall, placeOf, ifThere}
@@ -26,7 +29,7 @@ use Rattle.image_forms.specs.declared.Form.{Form}
 use Rattle.image_forms.specs.Forms.{keeps}
 use Rattle.image_write.specs.Written.{sizeOf, losesNothing, writtenOf as imageWritten, refusalNumber as imageNumber}
 use Rattle.image_write.proofs.Losing.{two-holds}
-use Rattle.demands.specs.Numbers.{Add, Remove, isPlain, allPlain, ImageOne, ImageTwo, Answer, Packet}
+use Rattle.demands.specs.Numbers.{Add, Remove, isPlain, allPlain, ImageOne, ImageTwo, Answer, mostData, Packet, Open}
 
 pub add-number : Add
 unfolding addRefusal profileWith kindWith
@@ -85,17 +88,30 @@ image-two w out = image-number Form.Two w out ∙ ap (λ (t : Bool). cond t (con
 
 pub answer-number : Answer
 unfolding sentOf
-answer-number out r = go (leb 40 (length out))
+answer-number edition out r = go (leb 40 (length out))
   where
-    go : (t : Bool) → answerNumber (cond t (Sent.Bytes (length (sentBytes r))) Sent.NoRoom) ≡ cond t 0 19
+    go : (t : Bool) → answerNumber (cond t (Sent.Bytes (length (sentBytes edition r))) Sent.NoRoom) ≡ cond t 0 19
     go true = refl
     go false = refl
 
 pub packet-number : Packet
 unfolding packetWritten
-packet-number out d = go (leb 40 (length out)) (leb (length d) 36)
+packet-number edition out d = rw (data-most edition) (go (leb 40 (length out)) (leb (length d) (mostData edition)))
   where
-    go : (a b : Bool) → packetNumber (cond a (cond b (Written.Bytes (length d + 4)) Written.TooLong) Written.NoRoom) ≡ cond a (cond b (some 0) none) (some 19)
+    data-most : (edition : Edition) → packetData edition ≡ mostData edition
+    data-most Edition.Sicp185 = refl
+    data-most Edition.Sicp201 = refl
+
+    go : (a b : Bool) → packetNumber (cond a (cond b (Written.Bytes (length d + shortest edition)) Written.TooLong) Written.NoRoom) ≡ cond a (cond b (some 0) none) (some 19)
     go true true = refl
     go true false = refl
     go false b = refl
+
+pub open-number : Open
+unfolding editionWith
+open-number n = go (eqb n 185) (eqb n 201)
+  where
+    go : (a b : Bool) → openRefusal (cond a (EditionNumbered.Known Edition.Sicp185) (cond b (EditionNumbered.Known Edition.Sicp201) EditionNumbered.Unknown)) ≡ cond (a || b) 0 23
+    go true b = refl
+    go false true = refl
+    go false false = refl

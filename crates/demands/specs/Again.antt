@@ -4,6 +4,7 @@ use mathlib.Core.Bool.{Bool, false, _&&_}
 use mathlib.Core.Path.{_≡_}
 use mathlib.Core.List.{List, [], _∷_}
 use lib.ListN.{length, getD}
+use Rattle.packet.specs.declared.Edition.{Edition}
 use Rattle.packet.specs.declared.Verdict.{Verdict}
 use Rattle.packet.specs.Reading.{readingOf}
 use Rattle.panels.specs.declared.Panel.{Panel}
@@ -20,18 +21,19 @@ addressedBy (Verdict.Damaged damage) p = false
 addressedBy (Verdict.Intact i g n) p = reaches i g p
 
 -- no panel of the wall is addressed by both bursts
-abbrev pub Apart : Wall → List ℕ → List ℕ → Type 0
-Apart w b c =
-    (k : ℕ) → k < length w → let p = getD w k blank in (addressedBy (readingOf b .verdict) p && addressedBy (readingOf c .verdict) p) ≡ false
+abbrev pub Apart : Edition → Wall → List ℕ → List ℕ → Type 0
+Apart edition w b c =
+    (k : ℕ) → k < length w
+    → let p = getD w k blank in (addressedBy (readingOf edition b .verdict) p && addressedBy (readingOf edition c .verdict) p) ≡ false
 
 -- bursts among which b is sent again, the others to other panels; and these others alone
-pub data Again (w : Wall) (b : List ℕ) : List (List ℕ) → List (List ℕ) → Type 0 where
-  done : Again w b [] []
-  again : {bs others : List (List ℕ)} → Again w b bs others → Again w b (b ∷ bs) others
-  other : {bs others : List (List ℕ)} (c : List ℕ) → Apart w b c → Again w b bs others → Again w b (c ∷ bs) (c ∷ others)
+pub data Again (edition : Edition) (w : Wall) (b : List ℕ) : List (List ℕ) → List (List ℕ) → Type 0 where
+  done : Again edition w b [] []
+  again : {bs others : List (List ℕ)} → Again edition w b bs others → Again edition w b (b ∷ bs) others
+  other : {bs others : List (List ℕ)} (c : List ℕ) → Apart edition w b c → Again edition w b bs others → Again edition w b (c ∷ bs) (c ∷ others)
 
 -- A burst, and so a set, leaves the same table however often it is sent, also with bursts to other panels between.
 abbrev pub SentAgain : Type 0
 SentAgain =
-    (t : Table) → WellFormed t → (b : List ℕ) (bs others : List (List ℕ)) → Again (panelsOf t) b bs others
-    → session (panelsOf t) (b ∷ bs) .wall ≡ session (panelsOf t) (b ∷ others) .wall
+    (edition : Edition) (t : Table) → WellFormed t → (b : List ℕ) (bs others : List (List ℕ)) → Again edition (panelsOf t) b bs others
+    → session edition (panelsOf t) (b ∷ bs) .wall ≡ session edition (panelsOf t) (b ∷ others) .wall

@@ -7,6 +7,7 @@ use mathlib.Core.Path.{_≡_}
 use mathlib.Core.List.{List, []}
 use lib.Dec.{eqb}
 use lib.ListN.{length, getD, drop}
+use Rattle.packet.specs.declared.Edition.{Edition}
 use Rattle.packet.specs.declared.MonitorId.{MonitorId}
 use Rattle.packet.specs.declared.GroupId.{GroupId}
 use Rattle.packet.specs.declared.Verdict.{Verdict}
@@ -63,7 +64,10 @@ BadBurst = (w : Wall) (r : Reading) → ((k : ℕ) → k < length w → Bad (r .
 
 -- behind the bytes that were written, none on a refusal, the output is as before
 abbrev pub AnswerAlone : Type 0
-AnswerAlone = (out : List ℕ) (r : Reply) → let n = cond (eqb (answerNumber (sentOf out r)) 0) (length (sentBytes r)) 0 in drop n (answerOutput out r) ≡ drop n out
+AnswerAlone =
+    (edition : Edition) (out : List ℕ) (r : Reply)
+    → let n = cond (eqb (answerNumber (sentOf edition out r)) 0) (length (sentBytes edition r)) 0 in
+    drop n (answerOutput edition out r) ≡ drop n out
 
 abbrev pub ImageAlone : Type 0
 ImageAlone =

@@ -1,5 +1,5 @@
 -- Demand 2. Each burst gets exactly the answer that 01 gives: that is `played`, to which `answers::play` is proved
--- equal. It goes by what is read of the burst, and what it never does is said here of every reading.
+-- equal. It goes by what is read of the burst, and what it never does is said here of every reading, and so of both editions.
 use Prim.Native.Nat.{ℕ, _≤_, _<_}
 use mathlib.Core.Bool.{true}
 use mathlib.Core.Logic.{_⊎_}
@@ -11,11 +11,13 @@ use Rattle.codes.specs.declared.Found.{Found}
 use Rattle.settings.specs.Settings.{setCode, getCode, valuesOf, rowCount, kindRow, tilingRow}
 use Rattle.codes.specs.Found.{foundBy}
 use Rattle.models.specs.Models.{allowedFor, filled}
+use Rattle.packet.specs.declared.Edition.{Edition}
 use Rattle.packet.specs.declared.MonitorId.{MonitorId}
 use Rattle.packet.specs.declared.GroupId.{GroupId}
 use Rattle.packet.specs.declared.Control.{Control}
 use Rattle.packet.specs.declared.Verdict.{Verdict}
-use Rattle.packet.specs.Packet.{packetOf, mostData}
+use Rattle.packet.specs.Edition.{groupOn}
+use Rattle.packet.specs.Packet.{groupId, packetOf, mostData}
 use Rattle.packet.specs.Reading.{Reading, readingOf}
 use Rattle.panels.specs.declared.Panel.{Panel}
 use Rattle.panels.specs.declared.Table.{Table}
@@ -44,13 +46,14 @@ use Rattle.image_salvage.specs.Salvaged.{salvagedAs}
 
 -- a session goes by what is read of its bursts, one after the other,
 abbrev pub ByReadings : Type 0
-ByReadings = (w : Wall) (bursts : List (List ℕ)) → session w bursts ≡ byBurst answered w (map readingOf bursts)
+ByReadings = (edition : Edition) (w : Wall) (bursts : List (List ℕ)) → session edition w bursts ≡ byBurst answered w (map (readingOf edition) bursts)
 
--- and of a packet written out just its ID, its group and its data are read
+-- and of a packet written out just its ID, its group, which on 1.85 is 0, and its data are read
 abbrev pub ReadAsWritten : Type 0
 ReadAsWritten =
-    (i : MonitorId) (g : GroupId) (d : List ℕ) → length d ≤ mostData
-    → let r = readingOf (packetOf i g d) in (r .verdict ≡ Verdict.Intact i g (length d)) × (r .part ≡ d)
+    (edition : Edition) (i : MonitorId) (g : GroupId) (d : List ℕ) → length d ≤ mostData edition
+    → let r = readingOf edition (packetOf edition i g d) in
+    (r .verdict ≡ Verdict.Intact i (groupId (groupOn edition (g .0))) (length d)) × (r .part ≡ d)
 
 -- a panel that a set changed: it was addressed, and only the row that the set code names is another, with the set's values, of
 -- which a tiling's byte 0 leaves the wall that the panel had (02, A6); its own profile and kind allow what it then holds
@@ -89,7 +92,7 @@ Answers = (w : Wall) (r : Reading) → Answer·Is w (answered w r .reply)
 
 -- on the line: the receiver takes bytes and quiet marks one at a time, and each burst between two marks is played
 abbrev pub Received : Type 0
-Received = (w : Wall) (events : List Event) → streamed (receiverOf []) w events ≡ session w (burstsAfter [] events)
+Received = (edition : Edition) (w : Wall) (events : List Event) → streamed (receiverOf edition []) w events ≡ session edition w (burstsAfter [] events)
 
 -- tables come from the empty one by add, remove and bursts, or from an image that is read or salvaged
 pub data Comes : Table → Type 0 where
@@ -132,6 +135,6 @@ LeftOut =
     → (row ≡ tilingRow → Without (setCode kindRow) es) → fieldsIn form profile (bytesOf es) .refusal ≡ Refusal.Nothing
     → fieldsIn form profile (bytesOf (freshEntry profile row ∷ es)) ≡ fieldsIn form profile (bytesOf es)
 
--- the ten P cases of 01
+-- the ten P cases of 01, and those of a 1.85 line
 abbrev pub Cases : Type 0
-Cases = map (λ (c : Case). tried (c .burst)) cases ≡ cases
+Cases = (edition : Edition) → map (λ (c : Case). tried edition (c .burst)) (cases edition) ≡ cases edition

@@ -1,4 +1,4 @@
--- Host and box on one line. 01, "Host side".
+-- Host and box on one line, of either edition. 01, "Host side"; 02, A11.
 use Prim.Native.Nat.{ℕ, zero, suc, _<_}
 use mathlib.Core.Bool.{Bool, true, cond, not, _&&_}
 use mathlib.Core.Path.{_≡_}
@@ -9,6 +9,7 @@ use Rattle.codes.specs.declared.Found.{Found}
 use Rattle.tiling.specs.Kinds.{inWall}
 use Rattle.settings.specs.Settings.{valuesOf, tilingRow}
 use Rattle.codes.specs.Found.{foundBy}
+use Rattle.packet.specs.declared.Edition.{Edition}
 use Rattle.packet.specs.Answered.{isHeard}
 use Rattle.panels.specs.declared.Panel.{Panel}
 use Rattle.panels.specs.declared.Table.{Table}
@@ -24,13 +25,13 @@ use Rattle.host.specs.declared.End.{End}
 use Rattle.host.specs.Machine.{start, burst, mark, State, Move, idle, over, step, mostSendings}
 
 -- the host that was started with a request, and to which the mark then came n times
-abbrev pub asking : Request → ℕ → State
-asking r zero = step idle (start r) .next
-asking r (suc n) = step (asking r n) mark .next
+abbrev pub asking : Edition → Request → ℕ → State
+asking edition r zero = step (idle edition) (start r) .next
+asking edition r (suc n) = step (asking edition r n) mark .next
 
 -- the host that has sent a request's packet n times
-abbrev pub waiting : Request → ℕ → State
-waiting r n = record { request = r; given = replicate n (requestPacket r) }
+abbrev pub waiting : Edition → Request → ℕ → State
+waiting edition r n = record { edition = edition; request = r; given = replicate n (requestPacket edition r) }
 
 -- a tiling that leaves the panel its wall, which has no such position (02, A6)
 abbrev pub pastWall : ℕ → List ℕ → Panel → Bool
@@ -41,17 +42,17 @@ pastWall row values p =
 -- With the nth packet a get ends with the report of the panel's values, and a set with ACK; but the power off of a panel that is
 -- off (02, A5) with NAV and, where an earlier packet may have turned it off, with "off or refused"; and a tiling past the panel's
 -- own wall with NAV.
-abbrev pub EndsWith : Found → Request → Panel → ℕ → Move → Type 0
-EndsWith (Found.Set row) r p n m =
-    m ≡ over (waiting r n) [] (cond (offAlready row (requestValues r) p) (cond (eqb n 1) End.Nav End.OffOrRefused) (cond (pastWall row (requestValues r) p) End.Nav End.Ack)) []
-EndsWith (Found.Get row) r p n m = m ≡ over (waiting r n) [] End.Report (valuesOf row (p .values))
-EndsWith Found.Nothing r p n m = ⊥
+abbrev pub EndsWith : Edition → Found → Request → Panel → ℕ → Move → Type 0
+EndsWith edition (Found.Set row) r p n m =
+    m ≡ over (waiting edition r n) [] (cond (offAlready row (requestValues r) p) (cond (eqb n 1) End.Nav End.OffOrRefused) (cond (pastWall row (requestValues r) p) End.Nav End.Ack)) []
+EndsWith edition (Found.Get row) r p n m = m ≡ over (waiting edition r n) [] End.Report (valuesOf row (p .values))
+EndsWith edition Found.Nothing r p n m = ⊥
 
 -- A request to a panel that is there, and of the profile and kind that the request says, ends so with the first packet that is answered: on
 -- a line that loses nothing that is the first, and on another the one that comes after n marks.
 abbrev pub Lossless : Type 0
 Lossless =
-    (t : Table) → WellFormed t → (r : Request) (k n : ℕ) → isRequest r ≡ true → isHeard (r .id) (r .group) ≡ true
+    (edition : Edition) (t : Table) → WellFormed t → (r : Request) (k n : ℕ) → isRequest edition r ≡ true → isHeard (r .id) (r .group) ≡ true
     → placeOf (r .id) (panelsOf t) ≡ Place.At k → modelOf (getD (panelsOf t) k blank) ≡ r .model → n < mostSendings
-    → let answer = sentBytes (played (panelsOf t) (requestPacket r) .reply) in
-    EndsWith (foundBy (r .code)) r (getD (panelsOf t) k blank) (suc n) (step (asking r n) (burst answer))
+    → let answer = sentBytes edition (played edition (panelsOf t) (requestPacket edition r) .reply) in
+    EndsWith edition (foundBy (r .code)) r (getD (panelsOf t) k blank) (suc n) (step (asking edition r n) (burst answer))

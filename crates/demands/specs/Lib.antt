@@ -15,3 +15,4 @@ pub mod Power
 pub mod Again
 pub mod WrongBoxes
 pub mod HostAndBox
+pub mod Editions

@@ -9,8 +9,10 @@ use lib.Dec.{leb, eqb}
 use lib.ListN.{length, take, drop}
 use Rattle.lists.specs.Lists.{same}
 use Rattle.profiles.specs.Numbers.{profileNumber}
+use Rattle.packet.specs.declared.Edition.{Edition}
 use Rattle.packet.specs.declared.MonitorId.{MonitorId}
 use Rattle.packet.specs.declared.GroupId.{GroupId}
+use Rattle.packet.specs.Edition.{editionWith, openRefusal}
 use Rattle.packet.specs.Packet.{writtenOf as packetWritten, refusalNumber as packetNumber}
 use Rattle.panels.specs.declared.Panel.{Panel}
 use Rattle.panels.specs.Wall.{Wall, placeOf, ifThere}
@@ -53,7 +55,18 @@ abbrev pub ImageTwo : Type 0
 ImageTwo = (w : Wall) (out : List ℕ) → imageNumber (imageWritten Form.Two w out) ≡ cond (leb (45 * length w + 2) (length out)) 0 19
 
 abbrev pub Answer : Type 0
-Answer = (out : List ℕ) (r : Reply) → answerNumber (sentOf out r) ≡ cond (leb 40 (length out)) 0 19
+Answer = (edition : Edition) (out : List ℕ) (r : Reply) → answerNumber (sentOf edition out r) ≡ cond (leb 40 (length out)) 0 19
+
+-- the most data that a packet has
+abbrev pub mostData : Edition → ℕ
+mostData Edition.Sicp185 = 37
+mostData Edition.Sicp201 = 36
 
 abbrev pub Packet : Type 0
-Packet = (out d : List ℕ) → packetNumber (packetWritten out d) ≡ cond (leb 40 (length out)) (cond (leb (length d) 36) (some 0) none) (some 19)
+Packet =
+    (edition : Edition) (out d : List ℕ)
+    → packetNumber (packetWritten edition out d) ≡ cond (leb 40 (length out)) (cond (leb (length d) (mostData edition)) (some 0) none) (some 19)
+
+-- a line or a host is opened with 185 or 201, and 23 is any other number
+abbrev pub Open : Type 0
+Open = (n : ℕ) → openRefusal (editionWith n) ≡ cond (eqb n 185 || eqb n 201) 0 23

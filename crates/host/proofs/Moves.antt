@@ -37,7 +37,7 @@ some n h = omega arith
 module _ (out : List ℕ) (host : Host) (room : longest ≤ length out) where
   -- nothing waits
   module _ (e : host .sendings ≡ 0) where
-    pub idle-burst : (b : List ℕ) → call out (stateOf host) (burst b) ≡ telling (damageIn (readingOf b .verdict)) (quiet (stateOf host) Outcome.Idle)
+    pub idle-burst : (b : List ℕ) → call out (stateOf host) (burst b) ≡ telling (damageIn (readingOf (host .edition) b .verdict)) (quiet (stateOf host) Outcome.Idle)
     unfolding call step
     idle-burst b = rw (le-leb _ _ room, length-replicate, e)
 
@@ -45,17 +45,17 @@ module _ (out : List ℕ) (host : Host) (room : longest ≤ length out) where
     unfolding call step
     idle-mark = rw (le-leb _ _ room, length-replicate, e)
 
-    pub not-started : (r : Request) → isRequest r ≡ false → call out (stateOf host) (start r) ≡ quiet (stateOf host) (Outcome.Refused Refusal.NotARequest)
+    pub not-started : (r : Request) → isRequest (host .edition) r ≡ false → call out (stateOf host) (start r) ≡ quiet (stateOf host) (Outcome.Refused Refusal.NotARequest)
     unfolding call step
     not-started r t = rw (le-leb _ _ room, length-replicate, e, t)
 
-    pub started : (r : Request) → isRequest r ≡ true → call out (stateOf host) (start r) ≡ begun r
+    pub started : (r : Request) → isRequest (host .edition) r ≡ true → call out (stateOf host) (start r) ≡ begun (host .edition) r
     unfolding call step
     started r t = rw (le-leb _ _ room, length-replicate, e, t)
 
   -- a request waits
   module _ (ne : host .sendings ≡ 0 → ⊥) where
-    pub burst-heard : (b : List ℕ) → call out (stateOf host) (burst b) ≡ telling (damageIn (readingOf b .verdict)) (heard (stateOf host) (readingOf b))
+    pub burst-heard : (b : List ℕ) → call out (stateOf host) (burst b) ≡ telling (damageIn (readingOf (host .edition) b .verdict)) (heard (stateOf host) (readingOf (host .edition) b))
     unfolding call step
     burst-heard b = rw (le-leb _ _ room, length-replicate, lt-ltb _ _ (some _ ne))
 
@@ -68,7 +68,8 @@ module _ (out : List ℕ) (host : Host) (room : longest ≤ length out) where
     busy r = rw (le-leb _ _ room, length-replicate, lt-ltb _ _ (some _ ne))
 
 -- what is heard goes by the burst's verdict and data
-pub heard-is : (s : State) (b d : List ℕ) (v : Verdict) → v ≡ readingOf b .verdict → d ≡ readingOf b .part → ending s d (saidBy (s .request) v d) ≡ heard s (readingOf b)
+pub heard-is : (s : State) (b d : List ℕ) (v : Verdict) → v ≡ readingOf (s .edition) b .verdict → d ≡ readingOf (s .edition) b .part
+    → ending s d (saidBy (s .request) v d) ≡ heard s (readingOf (s .edition) b)
 unfolding heard saidTo
 heard-is s b d v e f = rw (f, e)
 

@@ -24,10 +24,10 @@ refusalNumber Refusal.NotARequest = 22
 
 -- a state by value has the number of the packets; they are all the request's own
 abbrev pub hostOf : State → Host
-hostOf s = record { request = s .request; sendings = length (s .given) }
+hostOf s = record { edition = s .edition; request = s .request; sendings = length (s .given) }
 
 abbrev pub stateOf : Host → State
-stateOf h = record { request = h .request; given = replicate (h .sendings) (requestPacket (h .request)) }
+stateOf h = record { edition = h .edition; request = h .request; given = replicate (h .sendings) (requestPacket (h .edition) (h .request)) }
 
 -- the bytes given out
 abbrev pub bytesOf : Move → List ℕ

@@ -1,4 +1,4 @@
--- The host as a machine over happenings. 000, 2.2; 01, "Host side"; 02, A5: a power off that gets NAV.
+-- The host as a machine over happenings. 000, 2.2; 01, "Host side"; 02, A5: a power off that gets NAV; A11: its line has one edition.
 use Prim.Native.Nat.{ℕ}
 use mathlib.Core.Bool.{Bool, cond, _&&_}
 use mathlib.Core.List.{List, [], _∷_}
@@ -10,6 +10,7 @@ use Rattle.settings.specs.Settings.{mostValues}
 use Rattle.packet.specs.Answered.{isHeard}
 use Rattle.packet.specs.Packet.{monitorId, groupId, damageIn}
 use Rattle.packet.specs.Reading.{Reading, readingOf}
+use Rattle.packet.specs.declared.Edition.{Edition}
 use Rattle.packet.specs.declared.Damage.{Damage}
 use Rattle.requests.specs.declared.Request.{Request}
 use Rattle.host.specs.declared.Refusal.{Refusal}
@@ -25,8 +26,9 @@ pub data Happening : Type 0 where
   burst : List ℕ → Happening
   mark : Happening
 
--- the request that waits, and the packets given out for it since its start; none where nothing waits
+-- the line's edition, the request that waits, and the packets given out for it since its start; none where nothing waits
 pub record State : Type 0 where
+  pub edition : Edition
   pub request : Request
   pub given : List (List ℕ)
 
@@ -40,8 +42,9 @@ pub record Move : Type 0 where
   pub damage : Damage
 
 -- nothing waits, and a fixed blank stands in the place of a request
-abbrev pub idle : State
-idle = record {
+abbrev pub idle : Edition → State
+idle edition = record {
+  edition = edition;
   request = record { model = record { profile = Profile.General; kind = Kind.FiveByFive }; id = monitorId 0; group = groupId 0; code = 0; values = replicate mostValues 0; count = 0 };
   given = [];
 }
@@ -67,19 +70,19 @@ quiet s o = move s [] o []
 
 -- the request of s is over; the result has how it ended and how often its packet was sent
 abbrev pub over : State → List (List ℕ) → End → List ℕ → Move
-over s packets e vs = move idle packets (Outcome.Over e (sendings s)) vs
+over s packets e vs = move (idle (s .edition)) packets (Outcome.Over e (sendings s)) vs
 
 -- the packet is given out; where no answer is due, the request is over
-unfoldable pub begun : Request → Move
-begun r = let p = requestPacket r ∷ [] in
-    let s : State = record { request = r; given = p } in
+unfoldable pub begun : Edition → Request → Move
+begun edition r = let p = requestPacket edition r ∷ [] in
+    let s : State = record { edition = edition; request = r; given = p } in
     cond (isHeard (r .id) (r .group)) (move s p Outcome.Waiting []) (over s p End.Unheard [])
 
 -- the same packet again, or after the third sending given up
 unfoldable pub again : State → Move
-again s = let p = requestPacket (s .request) in
+again s = let p = requestPacket (s .edition) (s .request) in
     cond (ltb (sendings s) mostSendings)
-    (move (record { request = s .request; given = p ∷ s .given }) (p ∷ []) Outcome.Waiting [])
+    (move (record { edition = s .edition; request = s .request; given = p ∷ s .given }) (p ∷ []) Outcome.Waiting [])
     (over s [] End.GivenUp [])
 
 -- NAV: where a power off was sent more than once, an earlier sending may have done the work
@@ -103,6 +106,6 @@ telling d m = record { next = m .next; sent = m .sent; outcome = m .outcome; val
 
 -- one happening
 unfoldable pub step : State → Happening → Move
-step s (start r) = cond (waits s) (quiet s (Outcome.Refused Refusal.Busy)) (cond (isRequest r) (begun r) (quiet s (Outcome.Refused Refusal.NotARequest)))
-step s (burst b) = let reading = readingOf b in telling (damageIn (reading .verdict)) (cond (waits s) (heard s reading) (quiet s Outcome.Idle))
+step s (start r) = cond (waits s) (quiet s (Outcome.Refused Refusal.Busy)) (cond (isRequest (s .edition) r) (begun (s .edition) r) (quiet s (Outcome.Refused Refusal.NotARequest)))
+step s (burst b) = let reading = readingOf (s .edition) b in telling (damageIn (reading .verdict)) (cond (waits s) (heard s reading) (quiet s Outcome.Idle))
 step s mark = cond (waits s) (again s) (quiet s Outcome.Idle)

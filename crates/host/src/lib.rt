@@ -12,6 +12,7 @@ ghost use Rattle.host.specs.Calls.{refusalNumber, hostOf, stateOf, stepO
 ghost use Rattle.host.specs.Private.Steps.{plainStep, tellingStep};
 use models::Model;
 use packet::Damage;
+use packet::Edition;
 use packet::GroupId;
 use packet::LONGEST;
 use packet::MonitorId;
@@ -24,8 +25,9 @@ use tiling::Kind;
 // A packet is sent at most so often.
 const MOST_SENDINGS: usize = 3;
 
-// The request that waits and how often its packet was sent. Nothing waits where that is 0.
+// The line's edition, the request that waits, and how often its packet was sent. Nothing waits where that is 0.
 pub struct Host {
+    edition: Edition,
     request: Request,
     sendings: usize,
 }
@@ -97,10 +99,11 @@ fn over(host: Host, sent: usize, end: End, v: &[u8]) -> Step
     requires { ⌜ length (now v) ≤ mostValues ⌝ }
     ensures { λ r. ⌜ ((packets : List (List ℕ)) → sent ≡ length (flatten packets) → r ≡ stepOf (over (stateOf host) packets end (now (v .entry)))) ⌝ }
 {
+    let edition = host.edition;
     let mut values = [0u8; MOST_VALUES];
     let count = bytes::copy(v, &mut values);
     Step {
-        host: Host::idle(),
+        host: Host::open(edition),
         length: sent,
         outcome: Outcome::Over(end, host.sendings),
         values,
@@ -127,9 +130,9 @@ fn telling(damage: Damage, step: Step) -> Step
 }
 
 impl Host {
-    // A host with nothing to wait for.
-    pub fn idle() -> Self
-        ensures { λ r. ⌜ r ≡ hostOf idle ⌝ }
+    // A host on a line of an edition, with nothing to wait for.
+    pub fn open(edition: Edition) -> Self
+        ensures { λ r. ⌜ r ≡ hostOf (idle edition) ⌝ }
     {
         let values = [0u8; MOST_VALUES];
         let model = Model {
@@ -145,6 +148,7 @@ impl Host {
             count: 0,
         };
         Host {
+            edition,
             request,
             sendings: 0,
         }
@@ -160,10 +164,11 @@ impl Host {
         if self.sendings != 0 {
             return plain(self, 0, Outcome::Refused(Refusal::Busy));
         }
-        if !requests::is_request(request) {
+        let edition = self.edition;
+        if !requests::is_request(edition, request) {
             return plain(self, 0, Outcome::Refused(Refusal::NotARequest));
         }
-        sending::begin(request, out)
+        sending::begin(edition, request, out)
     }
 
     // A burst has been heard.
@@ -173,12 +178,13 @@ impl Host {
         if out.len() < LONGEST {
             return plain(self, 0, Outcome::Refused(Refusal::NoRoom));
         }
-        let verdict = packet::verdict_of(b);
+        let edition = self.edition;
+        let verdict = packet::verdict_of(edition, b);
         let damage = packet::damage_in(verdict);
         if self.sendings == 0 {
             return telling(damage, plain(self, 0, Outcome::Idle));
         }
-        let d = packet::data_of(b, verdict);
+        let d = packet::data_of(edition, b, verdict);
         telling(damage, hearing::heeded(self, verdict, d, out))
     }
 

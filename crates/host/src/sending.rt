@@ -12,16 +12,17 @@ use crate::Host;
 use crate::MOST_SENDINGS;
 use crate::Outcome;
 use crate::Step;
+use packet::Edition;
 use packet::Written;
 use requests::Request;
 
 // Puts the request's packet, for which there is room, at the front of out and answers its length.
-fn send(request: Request, out: &mut [u8]) -> usize
+fn send(edition: Edition, request: Request, out: &mut [u8]) -> usize
     requires { ⌜ longest ≤ length (now out) ⌝ }
-    ensures { λ r. ⌜ r ≡ length (requestPacket request) ⌝ }
-    ensures { λ _. ⌜ now (out .exit) ≡ laidOver (requestPacket request) (now (out .entry)) ⌝ }
+    ensures { λ r. ⌜ r ≡ length (requestPacket edition request) ⌝ }
+    ensures { λ _. ⌜ now (out .exit) ≡ laidOver (requestPacket edition request) (now (out .entry)) ⌝ }
 {
-    let written = requests::write_request(request, out);
+    let written = requests::write_request(edition, request, out);
     match written {
         Written::Bytes(n) => n,
         Written::TooLong => 0,
@@ -30,12 +31,13 @@ fn send(request: Request, out: &mut [u8]) -> usize
 }
 
 // The packet is given out for the first time; where no answer is due, that is all.
-pub(crate) fn begin(request: Request, out: &mut [u8]) -> Step
+pub(crate) fn begin(edition: Edition, request: Request, out: &mut [u8]) -> Step
     requires { ⌜ longest ≤ length (now out) ⌝ }
-    ensures { λ r. ⌜ Answers (begun request) (now (out .entry)) r (now (out .exit)) ⌝ }
+    ensures { λ r. ⌜ Answers (begun edition request) (now (out .entry)) r (now (out .exit)) ⌝ }
 {
-    let length = send(request, out);
+    let length = send(edition, request, out);
     let host = Host {
+        edition,
         request,
         sendings: 1,
     };
@@ -55,10 +57,12 @@ pub(crate) fn send_again(host: Host, out: &mut [u8]) -> Step
     if MOST_SENDINGS <= sendings {
         return crate::over(host, 0, End::GivenUp, &[]);
     }
+    let edition = host.edition;
     let request = host.request;
-    let length = send(request, out);
+    let length = send(edition, request, out);
     crate::plain(
         Host {
+            edition,
             request,
             sendings: sendings + 1,
         },

@@ -9,6 +9,7 @@ use host::Outcome;
 use host::Step;
 use models::Model;
 use packet::Damage;
+use packet::Edition;
 use packet::GroupId;
 use packet::LONGEST;
 use packet::MonitorId;
@@ -122,7 +123,7 @@ fn show(step: Step, out: &[u8]) -> Host {
     step.host
 }
 
-// Says that a step is none of the four.
+// Says that a step is none of the five.
 fn unknown(host: Host) -> Host {
     io::write_all(1, b"- unknown\n");
     host
@@ -155,7 +156,21 @@ fn play_modelled(host: Host, step: &[u8]) -> Host {
     play_start(host, Model { profile, kind }, &step[1..])
 }
 
-// One step: its kind, 1 for a start, 2 for a burst, 3 for the mark, 4 for a start with a model, and what stands behind it.
+// The host is opened anew on a line of the edition that has this number; where none has, it stays.
+fn play_open(host: Host, number: u8) -> Host {
+    let numbered = packet::edition_with(number as u32);
+    let packet::Numbered::Known(edition) = numbered else {
+        io::write_all(1, b"- ");
+        print_counted(b"refused", packet::open_refusal(numbered) as u64);
+        io::write_all(1, b"\n");
+        return host;
+    };
+    io::write_all(1, b"- idle\n");
+    Host::open(edition)
+}
+
+// One step: its kind, 1 for a start, 2 for a burst, 3 for the mark, 4 for a start with a model, 5 for a line opened, and what
+// stands behind it.
 fn play(host: Host, step: &[u8]) -> Host {
     let n = step.len();
     if n == 0 {
@@ -182,6 +197,12 @@ fn play(host: Host, step: &[u8]) -> Host {
             show(step, &out)
         }
         4 => play_modelled(host, &step[1..]),
+        5 => {
+            if n != 2 {
+                return unknown(host);
+            }
+            play_open(host, step[1])
+        }
         _ => unknown(host),
     }
 }
@@ -189,7 +210,7 @@ fn play(host: Host, step: &[u8]) -> Host {
 // Every step of standard input, in order. The loop counts its turns, since a proved loop has to end and nothing says that the
 // input does.
 fn main() {
-    let mut host = Host::idle();
+    let mut host = Host::open(Edition::Sicp201);
     let mut number = 0u64;
     while number < u64::MAX {
         let mut buffer = [0u8; LONGEST_STEP];

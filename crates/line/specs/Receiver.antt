@@ -1,9 +1,11 @@
--- The receiver: the line's bytes and quiet marks, and the bursts between them. 01, "Packet and burst".
+-- The receiver: the line's bytes and quiet marks, and the bursts between them. 01, "Packet and burst"; 02, A11: a line has one edition
+-- from its opening on.
 use Prim.Native.Nat.{ℕ, _+_, _-_, min}
 use mathlib.Core.Bool.{cond}
 use mathlib.Core.List.{List, [], _∷_, _++_}
 use lib.Dec.{ltb}
 use lib.ListN.{length, take, set, replicate}
+use Rattle.packet.specs.declared.Edition.{Edition}
 use Rattle.packet.specs.Packet.{longest}
 use Rattle.packet.specs.Reading.{readingOf}
 use Rattle.panels.specs.declared.Table.{Table}
@@ -25,25 +27,25 @@ burstsAfter heard (byte b ∷ events) = burstsAfter (heard ++ b ∷ []) events
 burstsAfter heard (quiet ∷ events) = heard ∷ burstsAfter [] events
 
 -- A receiver keeps as many bytes as a packet may have, and counts one more, which stands for all that came past them.
-unfoldable pub receiverOf : List ℕ → Receiver
-receiverOf heard = record { bytes = take longest heard ++ replicate (longest - length heard) 0; count = min (length heard) (longest + 1) }
+unfoldable pub receiverOf : Edition → List ℕ → Receiver
+receiverOf edition heard = record { edition = edition; bytes = take longest heard ++ replicate (longest - length heard) 0; count = min (length heard) (longest + 1) }
 
 unfoldable pub withByte : Receiver → ℕ → Receiver
-withByte r b = cond (ltb (r .count) longest) (record { bytes = set (r .bytes) (r .count) b; count = r .count + 1 })
-    (record { bytes = r .bytes; count = longest + 1 })
+withByte r b = cond (ltb (r .count) longest) (record { edition = r .edition; bytes = set (r .bytes) (r .count) b; count = r .count + 1 })
+    (record { edition = r .edition; bytes = r .bytes; count = longest + 1 })
 
 -- the burst that it has, with one byte behind those kept for all that came past them
 unfoldable pub burstOf : Receiver → List ℕ
 burstOf r = take (r .count) (r .bytes ++ 0 ∷ [])
 
--- a quiet mark: the burst is answered, and the receiver is fresh
+-- a quiet mark: the burst is read by the line's edition and answered, and nothing was heard since
 unfoldable pub atMark : Receiver → Table → Heard
-atMark r t = let p = answeredOn t (readingOf (burstOf r)) in record { receiver = receiverOf []; table = p .table; reply = p .reply; damage = p .damage }
+atMark r t = let p = answeredOn t (readingOf (r .edition) (burstOf r)) in record { receiver = receiverOf (r .edition) []; table = p .table; reply = p .reply; damage = p .damage }
 
 -- what the receiver makes of a stream
 unfoldable pub streamed : Receiver → Wall → List Event → Ended
 streamed r w [] = record { wall = w; replies = [] }
 streamed r w (byte b ∷ events) = streamed (withByte r b) w events
-streamed r w (quiet ∷ events) = let o = answered w (readingOf (burstOf r)) in
-    let e = streamed (receiverOf []) (o .wall) events in
+streamed r w (quiet ∷ events) = let o = answered w (readingOf (r .edition) (burstOf r)) in
+    let e = streamed (receiverOf (r .edition) []) (o .wall) events in
     record { wall = e .wall; replies = o .reply ∷ e .replies }

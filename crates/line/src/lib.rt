@@ -8,6 +8,7 @@ ghost use Rattle.line.specs.Receiver.{receiverOf, withByte, burstOf, atM
 use answers::Played;
 use answers::Reply;
 use packet::Damage;
+use packet::Edition;
 use packet::LONGEST;
 use packet::Verdict;
 use panels::Table;
@@ -15,10 +16,12 @@ use panels::Table;
 // Counted where more bytes came than a packet may have.
 const PAST_LONGEST: usize = LONGEST + 1;
 
-// The first bytes since the last quiet mark, as many as a packet may have, and how many there were, up to one more.
+// The line's edition; the first bytes since the last quiet mark, as many as a packet may have, and how many there were, up to one
+// more.
 pub struct Receiver {
-    pub bytes: [u8; LONGEST],
-    pub count: usize,
+    edition: Edition,
+    bytes: [u8; LONGEST],
+    count: usize,
 }
 
 // What a quiet mark leaves, and what was wrong with the burst before it.
@@ -30,11 +33,12 @@ pub struct Heard {
 }
 
 impl Receiver {
-    // Nothing was heard since the last mark.
-    pub fn fresh() -> Receiver
-        ensures { λ r. ⌜ r ≡ receiverOf [] ⌝ }
+    // The receiver of a line that is opened: nothing was heard, and the edition stays.
+    pub fn open(edition: Edition) -> Receiver
+        ensures { λ r. ⌜ r ≡ receiverOf edition [] ⌝ }
     {
         Receiver {
+            edition,
             bytes: [0u8; LONGEST],
             count: 0,
         }
@@ -69,16 +73,17 @@ impl Receiver {
     // The answer to the burst that it has.
     fn answered(self, t: Table) -> Played
         requires { ⌜ WellFormed t ⌝ }
-        ensures { λ r. ⌜ r ≡ answeredOn t (readingOf (burstOf self)) ⌝ }
+        ensures { λ r. ⌜ r ≡ answeredOn t (readingOf (self .edition) (burstOf self)) ⌝ }
     {
+        let edition = self.edition;
         let bytes = self.bytes;
         let n = self.count;
         if LONGEST < n {
             let verdict = Verdict::Damaged(Damage::TooLong);
-            let seems = packet::seems_for(&bytes);
+            let seems = packet::seems_for(edition, &bytes);
             return answers::answered_on(t, verdict, &bytes[..0], seems);
         }
-        answers::play(t, &bytes[..n])
+        answers::play(edition, t, &bytes[..n])
     }
 
     // A quiet mark: the burst is answered, and nothing was heard since.

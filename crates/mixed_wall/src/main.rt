@@ -1,12 +1,14 @@
-// An example, a wall of both profiles and both kinds: panel 1 is general and of the 5 by 5 kind, panel 2 Phoenix and of the 15 by
+// An example on a 2.01 line, a wall of both profiles and both kinds: panel 1 is general and of the 5 by 5 kind, panel 2 Phoenix and of the 15 by
 // 10 kind, both in group 9. Each packet is printed with the answer behind it, and at the end panel 2's tint and its place in
 // the wall as a caller sees them.
 ghost use mathlib.Core.Path.{_≡_};
 ghost use Prim.Native.Nat.{_<_};
 ghost use Rattle.panels.specs.Wall.{tableOf, panelsOf};
 ghost use Rattle.panels.specs.WellFormed.{WellFormed};
+ghost use Rattle.packet.specs.declared.Edition.{Edition};
 ghost use Rattle.answers.specs.Played.{played};
 use models::Model;
+use packet::Edition;
 use packet::GroupId;
 use packet::LONGEST;
 use packet::MonitorId;
@@ -26,15 +28,15 @@ use tiling::Size;
 // Plays a packet, and prints it and its answer.
 fn send(t: Table, burst: &[u8]) -> Table
     requires { ⌜ WellFormed t ⌝ }
-    ensures { λ r. ⌜ (r ≡ tableOf (played (panelsOf t) (now (burst .entry)) .wall)) × WellFormed r ⌝ }
+    ensures { λ r. ⌜ (r ≡ tableOf (played Edition.Sicp201 (panelsOf t) (now (burst .entry)) .wall)) × WellFormed r ⌝ }
 {
-    let played = answers::play(t, burst);
+    let played = answers::play(Edition::Sicp201, t, burst);
     let mut digits = [0u8; 2 * LONGEST];
     let sent = sample::shown(burst, &mut digits);
     io::write_all(1, text::front(&digits, sent));
     io::write_all(1, b" ");
     let reply = played.reply;
-    let answered = sample::shown_answer(reply, &mut digits);
+    let answered = sample::shown_answer(Edition::Sicp201, reply, &mut digits);
     io::write_all(1, text::front(&digits, answered));
     io::write_all(1, b"\n");
     played.table
@@ -46,7 +48,7 @@ fn send_request(t: Table, request: Request) -> Table
     ensures { λ r. ⌜ WellFormed r ⌝ }
 {
     let mut out = [0u8; LONGEST];
-    let written = requests::write_request(request, &mut out);
+    let written = requests::write_request(Edition::Sicp201, request, &mut out);
     let Written::Bytes(n) = written else {
         return t;
     };

@@ -1,7 +1,7 @@
 -- An intact burst with one byte changed, lost or added anywhere is damaged. A changed byte spoils the XOR. A lost or added
 -- one spoils the count, unless it is the size itself: then the XOR is the size, which is not 0. Assumes nothing.
-use mathlib.Core.Path.{_≡_, sym, ap, _∙_}
-use mathlib.Core.Bool.{true}
+use mathlib.Core.Path.{_≡_, refl, sym, ap, _∙_}
+use mathlib.Core.Bool.{Bool, true, false}
 use mathlib.Core.List.{List, [], _∷_, _++_}
 use Prim.Native.Nat.{ℕ, zero, suc, _≤_}
 use native.Mathlib.Omega.{arith}
@@ -10,11 +10,13 @@ use lib.Seq.{set-split, split-at}
 use Rattle.xor.specs.Xor.{_⊕_, xorAll}
 use Rattle.packet.specs.Packet.{isIntact, damageOf, verdictOf}
 use Rattle.packet.specs.Spoiled.{Spoiling, changed, lost, added, spoiled, Spoils}
+use Rattle.packet.specs.declared.Edition.{Edition}
 use Rattle.packet.specs.declared.Damage.{Damage}
 use Rattle.packet.specs.declared.Verdict.{Verdict}
 use Rattle.xor.proofs.Laws.{xor-assoc, ⊕-comm, ⊕-zero-eq, xorAll-append}
+use Rattle.packet.proofs.EachEdition.{head-few}
 use Rattle.packet.proofs.Packets.{Sound, sound}
-use Rattle.packet.proofs.Damages.{passed, not-intact, damaged-verdict}
+use Rattle.packet.proofs.Damages.{passed, damaged-verdict}
 
 -- a byte of a list can be summed first
 xorAll-middle : (p q : List ℕ) (y : ℕ) → xorAll (p ++ y ∷ q) ≡ y ⊕ xorAll (p ++ q)
@@ -23,7 +25,8 @@ xorAll-middle p q y =
     xorAll-append p (y ∷ q) ∙ sym (xor-assoc (xorAll p) y (xorAll q)) ∙ ap (λ (s : ℕ). s ⊕ xorAll q) (⊕-comm (xorAll p) y)
     ∙ xor-assoc y (xorAll p) (xorAll q) ∙ ap (λ (s : ℕ). y ⊕ s) (sym (xorAll-append p q))
 
-not-sound : (s : Spoiling) (b : List ℕ) → Sound b → Spoils s b → Sound (spoiled s b) → ⊥
+-- on no edition
+not-sound : {edition other : Edition} (s : Spoiling) (b : List ℕ) → Sound edition b → Spoils s b → Sound other (spoiled s b) → ⊥
 unfolding spoiled Spoils xorAll
 not-sound (changed i v) b ok (h, other) then =
     let was = sym (xorAll-middle (take i b) (drop (suc i) b) (getD b i 0)) ∙ ap xorAll (sym (split-at b i 0 h)) ∙ ok .sum in
@@ -43,12 +46,19 @@ length-spoiled (changed i v) b h = simp length-set (omega arith)
 length-spoiled (lost i) b h = simp (length-append, length-take, length-drop) (omega arith)
 length-spoiled (added i v) b h = simp (length-append, length-take, length-drop) (omega arith)
 
-module _ (s : Spoiling) (b : List ℕ) (e : isIntact b ≡ true) (h : Spoils s b) where
+module _ (edition : Edition) (s : Spoiling) (b : List ℕ) (e : isIntact edition b ≡ true) (h : Spoils s b) where
   some : length (spoiled s b) ≡ 0 → ⊥
-  some z = omega (arith, sound b e, length-spoiled s b h)
+  some z = omega (arith, sound edition b e, head-few edition, length-spoiled s b h)
 
-  pub spoiled-told : damageOf (spoiled s b) ≡ Damage.Nothing → ⊥
-  spoiled-told none = not-sound s b (sound b e) h (passed _ some none)
+  pub spoiled-broken : (other : Edition) → isIntact other (spoiled s b) ≡ false
+  spoiled-broken other = go (isIntact other (spoiled s b)) refl
+    where
+      go : (t : Bool) → isIntact other (spoiled s b) ≡ t → isIntact other (spoiled s b) ≡ false
+      go true f = absurd (not-sound s b (sound edition b e) h (sound other (spoiled s b) f))
+      go false f = f
 
-  pub spoiled-damaged : verdictOf (spoiled s b) ≡ Verdict.Damaged (damageOf (spoiled s b))
-  spoiled-damaged = damaged-verdict _ some (not-intact _ some spoiled-told)
+  pub spoiled-told : damageOf edition (spoiled s b) ≡ Damage.Nothing → ⊥
+  spoiled-told none = not-sound s b (sound edition b e) h (passed edition _ some none)
+
+  pub spoiled-damaged : verdictOf edition (spoiled s b) ≡ Verdict.Damaged (damageOf edition (spoiled s b))
+  spoiled-damaged = damaged-verdict edition _ some (spoiled-broken edition)

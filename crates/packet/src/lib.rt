@@ -1,21 +1,30 @@
 // One burst of the line: the verdict on it and what is wrong with it, its data bytes, and a packet written out.
+mod editions;
+
 ghost use mathlib.Core.Path.{_≡_};
 ghost use Rattle.packet.specs.Control.{controlByte};
 ghost use Rattle.packet.specs.Answered.{isHeard};
 ghost use Rattle.packet.specs.Packet.{damageOf, damageNumber, verdictOf, damageIn, dataOf, writtenOf, outputOf};
 ghost use Rattle.packet.specs.Reading.{seemsFor};
-
-// The bytes before the data: size, ID, group.
-pub const HEAD: usize = 3;
-
-// The bytes of a packet without data: the checksum stands behind the head.
-pub const SHORTEST: usize = HEAD + 1;
+pub use editions::carries;
+pub use editions::edition_number;
+pub use editions::edition_with;
+pub use editions::open_refusal;
 
 // The bytes of the longest packet.
 pub const LONGEST: usize = 40;
 
-// The data that has room in it.
-pub const MOST_DATA: usize = LONGEST - SHORTEST;
+// An edition of the protocol, 1.85 or 2.01, by which a line's packets are read and written.
+pub enum Edition {
+    Sicp185,
+    Sicp201,
+}
+
+// The edition that has a number, if one does.
+pub enum Numbered {
+    Known(Edition),
+    Unknown,
+}
 
 pub struct MonitorId(pub u8);
 
@@ -80,14 +89,14 @@ pub fn control_byte(word: Control) -> u8
 }
 
 // The first damage that holds.
-fn damage_of(burst: &[u8]) -> Damage
-    ensures { λ r. ⌜ r ≡ damageOf (now (burst .entry)) ⌝ }
+fn damage_of(edition: Edition, burst: &[u8]) -> Damage
+    ensures { λ r. ⌜ r ≡ damageOf edition (now (burst .entry)) ⌝ }
 {
     let n = burst.len();
     if n == 0 {
         return Damage::Nothing;
     }
-    if n < SHORTEST {
+    if n <= editions::head_size(edition) {
         return Damage::TooShort;
     }
     if LONGEST < n {
@@ -115,21 +124,21 @@ pub fn damage_number(damage: Damage) -> u8
     }
 }
 
-pub fn verdict_of(burst: &[u8]) -> Verdict
-    ensures { λ r. ⌜ r ≡ verdictOf (now (burst .entry)) ⌝ }
+pub fn verdict_of(edition: Edition, burst: &[u8]) -> Verdict
+    ensures { λ r. ⌜ r ≡ verdictOf edition (now (burst .entry)) ⌝ }
 {
     let n = burst.len();
     if n == 0 {
         return Verdict::Empty;
     }
-    let damage = damage_of(burst);
+    let damage = damage_of(edition, burst);
     let Damage::Nothing = damage else {
         return Verdict::Damaged(damage);
     };
     Verdict::Intact {
         id: MonitorId(burst[1]),
-        group: GroupId(burst[2]),
-        count: n - SHORTEST,
+        group: GroupId(editions::group_in(edition, burst)),
+        count: n - editions::head_size(edition) - 1,
     }
 }
 
@@ -150,9 +159,9 @@ pub fn damage_in(verdict: Verdict) -> Damage
 
 // The data bytes of a burst whose verdict this is, from behind the head to the one before the checksum; none unless it is
 // intact.
-pub fn data_of(burst: &[u8], verdict: Verdict) -> &[u8]
-    requires { ⌜ verdict ≡ verdictOf (now burst) ⌝ }
-    ensures { λ r. ⌜ now r ≡ dataOf (now (burst .entry)) ⌝ }
+pub fn data_of(edition: Edition, burst: &[u8], verdict: Verdict) -> &[u8]
+    requires { ⌜ verdict ≡ verdictOf edition (now burst) ⌝ }
+    ensures { λ r. ⌜ now r ≡ dataOf edition (now (burst .entry)) ⌝ }
 {
     let Verdict::Intact {
         id: _,
@@ -162,39 +171,48 @@ pub fn data_of(burst: &[u8], verdict: Verdict) -> &[u8]
     else {
         return &burst[..0];
     };
-    &burst[HEAD..burst.len() - 1]
+    &burst[editions::head_size(edition)..burst.len() - 1]
 }
 
 // Whom a burst seems to be for, if it is damaged.
-pub fn seems_for(burst: &[u8]) -> Addressee
-    ensures { λ r. ⌜ r ≡ seemsFor (now (burst .entry)) ⌝ }
+pub fn seems_for(edition: Edition, burst: &[u8]) -> Addressee
+    ensures { λ r. ⌜ r ≡ seemsFor edition (now (burst .entry)) ⌝ }
 {
-    if burst.len() < HEAD {
+    if burst.len() < editions::head_size(edition) {
         return Addressee::Nobody;
     }
-    if burst[2] != 0 {
+    if editions::group_in(edition, burst) != 0 {
         return Addressee::Nobody;
     }
     Addressee::One(MonitorId(burst[1]))
 }
 
-// A packet at the front of out, of which the rest stays as it was.
-pub fn write_packet(out: &mut [u8], id: MonitorId, group: GroupId, d: &[u8]) -> Written
-    ensures { λ r. ⌜ r ≡ writtenOf (now (out .entry)) (now (d .entry)) ⌝ }
-    ensures { λ _. ⌜ now (out .exit) ≡ outputOf (now (out .entry)) id group (now (d .entry)) ⌝ }
+// A packet at the front of out, of which the rest stays as it was. Where there is no group byte, the data or the checksum stands
+// in its place.
+pub fn write_packet(
+    edition: Edition,
+    out: &mut [u8],
+    id: MonitorId,
+    group: GroupId,
+    d: &[u8],
+) -> Written
+    ensures { λ r. ⌜ r ≡ writtenOf edition (now (out .entry)) (now (d .entry)) ⌝ }
+    ensures { λ _. ⌜ now (out .exit) ≡ outputOf edition (now (out .entry)) id group (now (d .entry)) ⌝ }
 {
     if out.len() < LONGEST {
         return Written::NoRoom;
     }
+    let head = editions::head_size(edition);
     let n = d.len();
-    if MOST_DATA < n {
+    if LONGEST - head <= n {
         return Written::TooLong;
     }
-    let size = (n + SHORTEST) as u8;
+    let size = (n + head + 1) as u8;
+    let third = editions::group_on(edition, group.0);
     out[0] = size;
     out[1] = id.0;
-    out[2] = group.0;
-    bytes::copy(d, &mut out[HEAD..]);
-    out[n + HEAD] = size ^ id.0 ^ group.0 ^ xor::xor_all(d);
-    Written::Bytes(n + SHORTEST)
+    out[2] = third;
+    bytes::copy(d, &mut out[head..]);
+    out[n + head] = size ^ id.0 ^ third ^ xor::xor_all(d);
+    Written::Bytes(size as usize)
 }

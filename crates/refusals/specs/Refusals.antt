@@ -23,6 +23,10 @@ isSound r = eqb (refusalNumber r) 0
 abbrev pub noRoom : ℕ
 noRoom = 19
 
+-- an edition that there is not (02, A11)
+abbrev pub unknownEdition : ℕ
+unknownEdition = 23
+
 -- form 1 would lose something (02, A2)
 abbrev pub wouldLose : ℕ
 wouldLose = 31

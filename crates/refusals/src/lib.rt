@@ -5,6 +5,9 @@ ghost use Rattle.refusals.specs.Refusals.{refusalNumber};
 // A lent output is too short.
 pub const NO_ROOM: u8 = 19;
 
+// An edition that there is not.
+pub const UNKNOWN_EDITION: u8 = 23;
+
 // Form 1 would lose something.
 pub const WOULD_LOSE: u8 = 31;
 

@@ -1,5 +1,5 @@
 -- A request and its packet. 01, "Host side"; 02, A1 and A6: the profile and the kind of the panel that it asks come
--- with it; A5: power off.
+-- with it; A5: power off; A11: on 1.85 no group but 0.
 use Prim.Native.Nat.{ℕ}
 use mathlib.Core.Bool.{Bool, false, not, _&&_}
 use mathlib.Core.List.{List, _∷_}
@@ -16,8 +16,10 @@ use Rattle.models.specs.declared.Model.{Model}
 use Rattle.profiles.specs.declared.Video.{Video}
 use Rattle.profiles.specs.Video.{bytesOf}
 use Rattle.codes.specs.declared.Found.{Found}
+use Rattle.packet.specs.declared.Edition.{Edition}
 use Rattle.packet.specs.declared.MonitorId.{MonitorId}
 use Rattle.packet.specs.declared.GroupId.{GroupId}
+use Rattle.packet.specs.Edition.{carries}
 use Rattle.packet.specs.Packet.{packetOf}
 use Rattle.packet.specs.Answered.{isHeard}
 use Rattle.requests.specs.declared.Request.{Request}
@@ -29,8 +31,8 @@ valuesOf r = take (r .count) (r .values)
 abbrev pub requestData : Request → List ℕ
 requestData r = r .code ∷ valuesOf r
 
-unfoldable pub requestPacket : Request → List ℕ
-requestPacket r = packetOf (r .id) (r .group) (requestData r)
+unfoldable pub requestPacket : Edition → Request → List ℕ
+requestPacket edition r = packetOf edition (r .id) (r .group) (requestData r)
 
 -- the set of a Phoenix panel's video, for which the kind does not count
 unfoldable pub videoRequest : MonitorId → GroupId → Video → Request
@@ -51,6 +53,6 @@ isTaken r (Found.Set row) = not (eqb (r .group .0) 255) && maySet (r .model) row
 isTaken r (Found.Get row) = eqb (r .count) 0 && isHeard (r .id) (r .group)
 isTaken r Found.Nothing = false
 
--- a request from the table: no more values than any row has, and one of these two
-unfoldable pub isRequest : Request → Bool
-isRequest r = leb (r .count) mostValues && isTaken r (foundBy (r .code))
+-- a request from the table: no more values than any row has, a group that the line's packets can say, and one of these two
+unfoldable pub isRequest : Edition → Request → Bool
+isRequest edition r = leb (r .count) mostValues && (carries edition (r .group) && isTaken r (foundBy (r .code)))

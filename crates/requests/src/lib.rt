@@ -10,6 +10,7 @@ ghost use Rattle.requests.specs.Said.{isControl, isReport, wordIn};
 use codes::Found;
 use models::Model;
 use packet::Control;
+use packet::Edition;
 use packet::GroupId;
 use packet::MonitorId;
 use packet::Written;
@@ -52,15 +53,18 @@ fn may_set(model: Model, row: usize, v: [u8; MOST_VALUES], count: usize) -> bool
     models::allowed(model, row, &values[..count])
 }
 
-// Whether the table has this request.
-pub fn is_request(request: Request) -> bool
-    ensures { λ r. ⌜ r ≡ isRequest request ⌝ }
+// Whether the table has this request, and a line of the edition can carry it.
+pub fn is_request(edition: Edition, request: Request) -> bool
+    ensures { λ r. ⌜ r ≡ isRequest edition request ⌝ }
 {
     let count = request.count;
     if MOST_VALUES < count {
         return false;
     }
     let group = request.group;
+    if !packet::carries(edition, group) {
+        return false;
+    }
     let found = codes::found_by(request.code);
     match found {
         Found::Set(row) => {
@@ -129,15 +133,15 @@ fn in_use(count: usize) -> usize
     }
 }
 
-// The request's packet at the front of out, of which the rest stays as it was.
-pub fn write_request(request: Request, out: &mut [u8]) -> Written
-    ensures { λ r. ⌜ r ≡ writtenOf (now (out .entry)) (requestData request) ⌝ }
-    ensures { λ _. ⌜ now (out .exit) ≡ outputOf (now (out .entry)) (request .id) (request .group) (requestData request) ⌝ }
+// The request's packet, on a line of an edition, at the front of out, of which the rest stays as it was.
+pub fn write_request(edition: Edition, request: Request, out: &mut [u8]) -> Written
+    ensures { λ r. ⌜ r ≡ writtenOf edition (now (out .entry)) (requestData request) ⌝ }
+    ensures { λ _. ⌜ now (out .exit) ≡ outputOf edition (now (out .entry)) (request .id) (request .group) (requestData request) ⌝ }
 {
     let values = request.values;
     let data = data_bytes(request.code, values);
     let n = in_use(request.count) + 1;
-    packet::write_packet(out, request.id, request.group, &data[..n])
+    packet::write_packet(edition, out, request.id, request.group, &data[..n])
 }
 
 // Whether the data is this control word: 0x00 and its byte.

@@ -8,6 +8,7 @@ ghost use Rattle.answers.specs.Played.{played};
 ghost use Rattle.sample.specs.Shown.{shownCount, shownOver};
 use answers::Reply;
 use answers::Sent;
+use packet::Edition;
 use packet::GroupId;
 use packet::LONGEST;
 use packet::MonitorId;
@@ -23,20 +24,20 @@ pub fn two_panels() -> Table
     two.table
 }
 
-// The reply of the sample wall, fresh, to a burst.
-pub fn reply_to(burst: &[u8]) -> Reply
-    ensures { λ r. ⌜ r ≡ played twoPanels (now (burst .entry)) .reply ⌝ }
+// The reply of the sample wall, fresh, to a burst on a line of an edition.
+pub fn reply_to(edition: Edition, burst: &[u8]) -> Reply
+    ensures { λ r. ⌜ r ≡ played edition twoPanels (now (burst .entry)) .reply ⌝ }
 {
-    let played = answers::play(two_panels(), burst);
+    let played = answers::play(edition, two_panels(), burst);
     played.reply
 }
 
 // Its reply to the burst the second time.
-pub fn reply_again(burst: &[u8]) -> Reply
-    ensures { λ r. ⌜ r ≡ played (played twoPanels (now (burst .entry)) .wall) (now (burst .entry)) .reply ⌝ }
+pub fn reply_again(edition: Edition, burst: &[u8]) -> Reply
+    ensures { λ r. ⌜ r ≡ played edition (played edition twoPanels (now (burst .entry)) .wall) (now (burst .entry)) .reply ⌝ }
 {
-    let first = answers::play(two_panels(), burst);
-    let second = answers::play(first.table, burst);
+    let first = answers::play(edition, two_panels(), burst);
+    let second = answers::play(edition, first.table, burst);
     second.reply
 }
 
@@ -55,13 +56,13 @@ pub fn shown(bytes: &[u8], out: &mut [u8]) -> usize
     1
 }
 
-// The bytes that go out for a reply, shown.
-pub fn shown_answer(reply: Reply, out: &mut [u8]) -> usize
-    ensures { λ r. ⌜ r ≡ shownCount (sentBytes reply) (now (out .entry)) ⌝ }
-    ensures { λ _. ⌜ now (out .exit) ≡ shownOver (sentBytes reply) (now (out .entry)) ⌝ }
+// The bytes that go out for a reply on a line of an edition, shown.
+pub fn shown_answer(edition: Edition, reply: Reply, out: &mut [u8]) -> usize
+    ensures { λ r. ⌜ r ≡ shownCount (sentBytes edition reply) (now (out .entry)) ⌝ }
+    ensures { λ _. ⌜ now (out .exit) ≡ shownOver (sentBytes edition reply) (now (out .entry)) ⌝ }
 {
     let mut packet = [0u8; LONGEST];
-    let sent = answers::write_answer(reply, &mut packet);
+    let sent = answers::write_answer(edition, reply, &mut packet);
     let Sent::Bytes(n) = sent else {
         return 0;
     };

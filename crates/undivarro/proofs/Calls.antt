@@ -8,14 +8,15 @@ use borrow.Author.Tests.{eq-eqb, ne-eqb, eqb-false, leb-true}
 use lib.Dec.{leb}
 use lib.ListN.{length}
 use Rattle.lists.proofs.Both.{both}
-use Rattle.packet.specs.Packet.{verdictOf, longest}
-use Rattle.packet.specs.Reading.{Reading, readingOf}
+use Rattle.packet.specs.declared.Edition.{Edition}
+use Rattle.packet.specs.Packet.{longest}
+use Rattle.packet.specs.Reading.{readingOf}
 use Rattle.panels.specs.declared.Table.{Table}
 use Rattle.panels.specs.Wall.{Wall, panelsOf}
 use Rattle.panels.specs.WellFormed.{WellFormed}
 use Rattle.panels.proofs.Laws.{panels-of-table}
 use Rattle.answers.specs.declared.Played.{Played}
-use Rattle.answers.specs.Reply.{sentBytes, silence}
+use Rattle.answers.specs.Reply.{sentBytes}
 use Rattle.answers.specs.Played.{answered, answeredOn}
 use Rattle.answers.proofs.Formed.{answered-count, answered-formed}
 use Rattle.image_forms.specs.declared.Form.{Form}
@@ -25,7 +26,7 @@ use Rattle.image_write.specs.Written.{setupOf, sizeOf, losesNothing, panelSize}
 use Rattle.refusals.specs.Refusals.{isSound, refusalNumber, noRoom, wouldLose}
 use Rattle.image_read.specs.Read.{readOf, inTable}
 use Rattle.image_read.proofs.Sound.{read-formed}
-use Rattle.undivarro.specs.Calls.{refused, given, refusalFor, afterBurst, afterReading}
+use Rattle.undivarro.specs.Calls.{After, refused, given, refusalFor, afterBurst, afterSetup}
 
 -- where nothing is refused nothing would be lost, and there is room
 pub all-there : (read : Refusal) (held room : Bool) → refusalFor read held room ≡ 0 → (held ≡ true) × (room ≡ true)
@@ -60,34 +61,29 @@ module _ (image : List ℕ) (read : Read) (is-read : read ≡ inTable (readOf im
         (held, (leb-true _ _ a, leb-true _ _ b))
 
 -- What was answered to a burst on a table.
-module _ {t : Table} (f : WellFormed t) (burst : Reading) {p : Played} (is : p ≡ answeredOn t burst) where
+module _ {t : Table} (f : WellFormed t) (edition : Edition) (burst : List ℕ) {p : Played} (is : p ≡ answeredOn t (readingOf edition burst)) where
   pub formed-played : WellFormed (p .table)
-  formed-played = subst WellFormed (sym (ap (λ (q : Played). q .table) is)) (answered-formed f burst)
+  formed-played = subst WellFormed (sym (ap (λ (q : Played). q .table) is)) (answered-formed f (readingOf edition burst))
 
-  wall-played : panelsOf (p .table) ≡ answered (panelsOf t) burst .wall
+  wall-played : panelsOf (p .table) ≡ answered (panelsOf t) (readingOf edition burst) .wall
   wall-played = ap (λ (q : Played). panelsOf (q .table)) is ∙ panels-of-table _
 
-  pub size-played : (form : Form) → sizeOf form (panelsOf (p .table)) ≡ sizeOf form (panelsOf t)
-  size-played form = ap (λ (k : ℕ). panelSize form * k + 2) (ap length wall-played ∙ answered-count (panelsOf t) burst)
+  pub size-played : sizeOf Form.Two (panelsOf (p .table)) ≡ sizeOf Form.Two (panelsOf t)
+  size-played = ap (λ (k : ℕ). panelSize Form.Two * k + 2) (ap length wall-played ∙ answered-count (panelsOf t) (readingOf edition burst))
 
-  pub given-played : (form : Form) (answer out : List ℕ)
-      → given (sentBytes (p .reply)) (setupOf form (panelsOf (p .table))) (p .damage) answer out ≡ afterBurst form (panelsOf t) burst answer out
-  given-played form answer out =
-      ap (λ (w : Wall). given (sentBytes (p .reply)) (setupOf form w) (p .damage) answer out) wall-played
-      ∙ ap (λ (q : Played). given (sentBytes (q .reply)) (setupOf form (answered (panelsOf t) burst .wall)) (q .damage) answer out) is
+  pub given-played : (answer out : List ℕ)
+      → given (sentBytes edition (p .reply)) (setupOf Form.Two (panelsOf (p .table))) (p .damage) answer out ≡ afterBurst edition (panelsOf t) burst answer out
+  given-played answer out =
+      ap (λ (w : Wall). given (sentBytes edition (p .reply)) (setupOf Form.Two w) (p .damage) answer out) wall-played
+      ∙ ap (λ (q : Played). given (sentBytes edition (q .reply)) (setupOf Form.Two (answered (panelsOf t) (readingOf edition burst) .wall)) (q .damage) answer out) is
 
 -- Both ends of each call.
-module _ (form : Form) (image : List ℕ) (burst : Reading) (answer out : List ℕ) (n : ℕ)
+module _ (form : Form) (image : List ℕ) (then : Wall → After) (answer out : List ℕ) (n : ℕ)
     (is : n ≡ refusalFor (readOf image .refusal) (losesNothing form (readOf image .wall)) (leb longest (length answer) && leb (sizeOf form (readOf image .wall)) (length out))) where
-  pub play-refused : (n ≡ 0 → ⊥) → refused n answer out ≡ afterReading form image burst answer out
-  unfolding afterReading
-  play-refused h = sym (rw (sym is, ne-eqb n 0 h))
+  pub setup-refused : (n ≡ 0 → ⊥) → refused n answer out ≡ afterSetup form image then answer out
+  unfolding afterSetup
+  setup-refused h = sym (rw (sym is, ne-eqb n 0 h))
 
-  pub play-given : n ≡ 0 → afterBurst form (readOf image .wall) burst answer out ≡ afterReading form image burst answer out
-  unfolding afterReading
-  play-given z = sym (rw (sym is, eq-eqb n 0 z))
-
--- no bytes are played
-pub played-none : (w : Wall) → answered w (readingOf []) ≡ record { wall = w; reply = silence }
-unfolding answered verdictOf
-played-none w = refl
+  pub setup-taken : n ≡ 0 → then (readOf image .wall) ≡ afterSetup form image then answer out
+  unfolding afterSetup
+  setup-taken z = sym (rw (sym is, eq-eqb n 0 z))

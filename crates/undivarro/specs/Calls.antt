@@ -1,13 +1,15 @@
 -- What a call from C leaves: four numbers, and every byte of both buffers. 01, "For C"; 02, A2: play and read write form 2, and
--- back writes form 1; 02, A3: play tells what is wrong with the burst; 02, A7.
+-- back writes form 1; A3: play tells what is wrong with the burst; A7; A11: play takes the number of the line's edition.
 use Prim.Native.Nat.{ℕ}
 use mathlib.Core.Bool.{Bool, true, cond, _&&_}
 use mathlib.Core.List.{List, []}
 use lib.Dec.{leb, eqb}
 use lib.ListN.{length, replicate}
 use Rattle.packet.specs.declared.Damage.{Damage}
+use Rattle.packet.specs.declared.Edition.{Edition}
+use Rattle.packet.specs.Edition.{editionNumber, editionWith, ifKnown}
 use Rattle.packet.specs.Packet.{longest, damageIn, damageNumber}
-use Rattle.packet.specs.Reading.{Reading, readingOf}
+use Rattle.packet.specs.Reading.{readingOf}
 use Rattle.lists.specs.Lists.{laidOver}
 use Rattle.panels.specs.Wall.{Wall}
 use Rattle.answers.specs.Reply.{sentBytes}
@@ -15,7 +17,7 @@ use Rattle.answers.specs.Played.{answered}
 use Rattle.refusals.specs.declared.Refusal.{Refusal}
 use Rattle.image_forms.specs.declared.Form.{Form}
 use Rattle.image_write.specs.Written.{setupOf, sizeOf, losesNothing}
-use Rattle.refusals.specs.Refusals.{isSound, refusalNumber, noRoom, wouldLose}
+use Rattle.refusals.specs.Refusals.{isSound, refusalNumber, noRoom, unknownEdition, wouldLose}
 use Rattle.image_read.specs.Read.{readOf}
 use Rattle.image_frame.specs.Frame.{frameRefusal}
 use Rattle.image_salvage.specs.Salvaged.{salvageOf, textOf, linesCap}
@@ -38,28 +40,39 @@ given sent setup damage answer out = record {
   out = laidOver setup out;
 }
 
--- a burst answered by what was read of it, and the wall then written in a form
-abbrev pub afterBurst : Form → Wall → Reading → List ℕ → List ℕ → After
-afterBurst form w burst answer out = let o = answered w burst in given (sentBytes (o .reply)) (setupOf form (o .wall)) (damageIn (burst .verdict)) answer out
+-- a burst answered by what is read of it on a line of an edition, and the wall then written in form 2
+abbrev pub afterBurst : Edition → Wall → List ℕ → List ℕ → List ℕ → After
+afterBurst edition w burst answer out =
+    let reading = readingOf edition burst in
+    let o = answered w reading in
+    given (sentBytes edition (o .reply)) (setupOf Form.Two (o .wall)) (damageIn (reading .verdict)) answer out
 
 -- reading faults are 11 to 18; then 31 where the form would lose something; then 19 where there is no room
 unfoldable pub refusalFor : Refusal → Bool → Bool → ℕ
 refusalFor read held room = cond (isSound read) (cond held (cond room 0 noRoom) wouldLose) (refusalNumber read)
 
--- The same on the wall of a setup. There is room where the answer buffer has it for any packet, and the output for the image.
-unfoldable pub afterReading : Form → List ℕ → Reading → List ℕ → List ℕ → After
-afterReading form image burst answer out =
+-- What comes of a setup that is written in a form, where nothing is refused. There is room where the answer buffer has it for any
+-- packet, and the output for the image.
+unfoldable pub afterSetup : Form → List ℕ → (Wall → After) → List ℕ → List ℕ → After
+afterSetup form image then answer out =
     let r = readOf image in
     let room = leb longest (length answer) && leb (sizeOf form (r .wall)) (length out) in
     let n = refusalFor (r .refusal) (losesNothing form (r .wall)) room in
-    cond (eqb n 0) (afterBurst form (r .wall) burst answer out) (refused n answer out)
+    cond (eqb n 0) (then (r .wall)) (refused n answer out)
 
--- writing a setup again in a form is playing no bytes, where there is room for an answer
+-- it is written again; for an answer, which there is not, there is room
 unfoldable pub afterMove : Form → List ℕ → List ℕ → After
-afterMove form image out = afterReading form image (readingOf []) (replicate longest 0) out
+afterMove form image out = let none : List ℕ = replicate longest 0 in afterSetup form image (λ w. given [] (setupOf form w) Damage.Nothing none out) none out
+
+-- a burst is played, on a line opened with this number; 23 comes after all other refusals
+unfoldable pub afterPlayOn : ℕ → List ℕ → List ℕ → List ℕ → List ℕ → After
+afterPlayOn number image burst answer out =
+    afterSetup Form.Two image
+    (λ w. ifKnown (editionWith number) (λ edition. afterBurst edition w burst answer out) (refused unknownEdition answer out))
+    answer out
 
 abbrev pub afterPlay : List ℕ → List ℕ → List ℕ → List ℕ → After
-afterPlay image burst = afterReading Form.Two image (readingOf burst)
+afterPlay = afterPlayOn (editionNumber Edition.Sicp201)
 
 abbrev pub afterRead : List ℕ → List ℕ → After
 afterRead = afterMove Form.Two

@@ -17,7 +17,7 @@ use Rattle.host.specs.Calls.{stepOf, hostOf, stateOf}
 use Rattle.host.proofs.over.Statement.{statement}
 use Rattle.host.proofs.over.Tie as tie
 
-made : (h next : Host) (n sent : ℕ) (e : End) (v values : List ℕ) (packets : List (List ℕ)) → next ≡ hostOf idle → n ≡ length v
+made : (h next : Host) (n sent : ℕ) (e : End) (v values : List ℕ) (packets : List (List ℕ)) → next ≡ hostOf (idle (h .edition)) → n ≡ length v
     → values ≡ take (length v) v ++ drop (length v) (replicate mostValues 0) → sent ≡ length (flatten packets)
     → _≡_ {A = Step}
     (record { host = next; length = sent; outcome = Outcome.Over e (h .sendings); values = values; count = n; damage = Damage.Nothing })
@@ -31,11 +31,11 @@ slice-aggregate-copy c = search needs
 copy-requires : tie.Need-copy-requires
 copy-requires c κs = search needs
 
-idle-requires : tie.Need-idle-requires
-idle-requires c κs = search needs
+open-requires : tie.Need-open-requires
+open-requires c κs = search needs
 
 returns : tie.Need-returns
-returns c packets es = made _ _ _ _ _ _ _ packets (c .idle .ensures) (c .before .before .copy .ensures .0) (c .before .before .copy .ensures .1) es
+returns c packets es = made _ _ _ _ _ _ _ packets (c .open .ensures) (c .before .before .copy .ensures .0) (c .before .before .copy .ensures .1) es
 
 pub over-spec : {M : Type 1} → statement M
-over-spec = tie.close (tie.spec slice-aggregate-copy copy-requires idle-requires returns)
+over-spec = tie.close (tie.spec slice-aggregate-copy copy-requires open-requires returns)

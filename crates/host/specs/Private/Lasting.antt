@@ -3,6 +3,7 @@
 use Prim.Native.Nat.{ℕ, _+_}
 use mathlib.Core.Bool.{Bool, _&&_}
 use mathlib.Core.List.{List, [], _∷_, _++_}
+use Rattle.packet.specs.declared.Edition.{Edition}
 use Rattle.packet.specs.Reading.{readingOf}
 use Rattle.host.specs.declared.Host.{Host}
 use Rattle.host.specs.declared.Step.{Step}
@@ -36,14 +37,14 @@ isNack Said.Report = 0
 isNack Said.Nothing = 0
 
 -- how many NACKs and marks a request meets
-unfoldable pub pushes : Request → Happening → ℕ
-pushes r (start other) = 0
-pushes r (burst b) = isNack (saidTo r (readingOf b))
-pushes r mark = 1
+unfoldable pub pushes : Edition → Request → Happening → ℕ
+pushes edition r (start other) = 0
+pushes edition r (burst b) = isNack (saidTo r (readingOf edition b))
+pushes edition r mark = 1
 
-unfoldable pub pushed : Request → List Happening → ℕ
-pushed r [] = 0
-pushed r (h ∷ hs) = pushed r hs + pushes r h
+unfoldable pub pushed : Edition → Request → List Happening → ℕ
+pushed edition r [] = 0
+pushed edition r (h ∷ hs) = pushed edition r hs + pushes edition r h
 
 -- the packets given out
 unfoldable pub packets : List Move → List (List ℕ)

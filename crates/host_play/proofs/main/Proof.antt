@@ -10,8 +10,8 @@ Inv-loop host₀ number₀ t6 t7 t8 t9 t10 host number = Unit {0}
 abbrev μ-loop : tie.MeasureT-loop
 μ-loop host₀ number₀ t6 t7 t8 t9 t10 host number = 2 ^ 64 - number
 
-idle-requires : tie.Need-idle-requires Inv-loop μ-loop
-idle-requires c κs = tt
+open-requires : tie.Need-open-requires Inv-loop μ-loop
+open-requires c κs = tt
 
 loop-holds : tie.Need-loop-holds Inv-loop μ-loop
 loop-holds c = tt
@@ -97,7 +97,7 @@ main-spec =
     (tie.spec
     Inv-loop
     μ-loop
-    idle-requires
+    open-requires
     loop-holds
     slice-aggregate-read-step
     read-step-requires

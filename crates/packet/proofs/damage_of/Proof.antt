@@ -7,7 +7,7 @@ use borrow.Author.Tests.{lt-ltb, le-ltb, eq-eqb, ne-eqb}
 use lib.Dec.{eqb}
 use lib.ListN.{length, getD}
 use Rattle.xor.specs.Xor.{xorAll}
-use Rattle.packet.specs.Packet.{damageOf}
+use Rattle.packet.specs.Packet.{shortest, damageOf}
 use Rattle.packet.specs.declared.Damage.{Damage}
 use Rattle.packet.proofs.damage_of.Statement.{statement}
 use Rattle.packet.proofs.damage_of.Tie as tie
@@ -16,19 +16,31 @@ returns : tie.Need-returns
 unfolding damageOf
 returns c = rw (eq-eqb _ _ (c .if1 .taken))
 
+head-size-requires : tie.Need-head-size-requires
+head-size-requires c κs = search needs
+
 returns-2 : tie.Need-returns-2
 unfolding damageOf
-returns-2 c = rw (ne-eqb _ _ (c .before .if1 .left), lt-ltb _ _ (c .if2 .taken))
+returns-2 c =
+    let a = c .before .before .before .before .args in
+    rw (ne-eqb _ _ (c .before .before .if1 .left), lt-ltb (length (a .burst .now)) (shortest (a .edition)) (omega (arith, c .before .head-size .ensures)))
 
 returns-3 : tie.Need-returns-3
 unfolding damageOf
-returns-3 c = rw (ne-eqb _ _ (c .before .before .if1 .left), le-ltb _ _ (c .before .if2 .left), lt-ltb _ _ (c .if3 .taken))
+returns-3 c =
+    let head = c .before .before in
+    let a = head .before .before .before .args in
+    rw (ne-eqb _ _ (head .before .if1 .left), le-ltb (length (a .burst .now)) (shortest (a .edition)) (omega (arith, head .head-size .ensures)), lt-ltb _ _ (c .if3 .taken))
 
 -- past the tests of its length
-fits : (c : tie.Else3) → let b = c .before .before .before .before .args .burst .now in
-    damageOf b ≡ cond (not (eqb (getD b 0 0) (length b))) Damage.Size (cond (not (eqb (xorAll b) 0)) Damage.Checksum Damage.Nothing)
+fits : (c : tie.Else3) → let a = c .before .before .before .before .before .args in
+    let b = a .burst .now in
+    damageOf (a .edition) b ≡ cond (not (eqb (getD b 0 0) (length b))) Damage.Size (cond (not (eqb (xorAll b) 0)) Damage.Checksum Damage.Nothing)
 unfolding damageOf
-fits c = rw (ne-eqb _ _ (c .before .before .if1 .left), le-ltb _ _ (c .before .if2 .left), le-ltb _ _ (c .if3 .left))
+fits c =
+    let head = c .before .before in
+    let a = head .before .before .before .args in
+    rw (ne-eqb _ _ (head .before .if1 .left), le-ltb (length (a .burst .now)) (shortest (a .edition)) (omega (arith, head .head-size .ensures)), le-ltb _ _ (c .if3 .left))
 
 shared-slice-read-if4 : tie.Need-shared-slice-read-if4
 shared-slice-read-if4 c = search needs
@@ -57,6 +69,7 @@ damage-of-spec =
     tie.close
     (tie.spec
     returns
+    head-size-requires
     returns-2
     returns-3
     shared-slice-read-if4

@@ -2,6 +2,7 @@
 use mathlib.Core.List.{foldl}
 use mathlib.Core.Path.{_≡_, sym, ap, subst, _∙_}
 use Rattle.panels.specs.WellFormed.{WellFormed}
+use Rattle.packet.specs.declared.Edition.{Edition}
 use Rattle.packet.specs.Reading.{readingOf}
 use Rattle.answers.specs.Played.{answeredOn}
 use Rattle.answers.proofs.Formed.{answered-formed}
@@ -13,8 +14,8 @@ use borrow.Author.Needs.{needs}
 use Rattle.play.proofs.answer.Statement.{statement}
 use Rattle.play.proofs.answer.Tie as tie
 
-fresh-requires : tie.Need-fresh-requires
-fresh-requires c κs = search needs
+open-requires : tie.Need-open-requires
+open-requires c κs = search needs
 
 bytes-requires : tie.Need-bytes-requires
 bytes-requires c κs = search needs
@@ -53,12 +54,12 @@ write-all-requires-3 : tie.Need-write-all-requires-3
 write-all-requires-3 c κs = search needs
 
 -- the receiver, fed the bytes and a mark, gives what playing the burst gives
-heard : (c : tie.After-quiet) → let a = c .before .before .before .before .args in c .quiet .result ≡ heardAs (answeredOn (a .t) (readingOf (a .burst .now)))
+heard : (c : tie.After-quiet) → let a = c .before .before .before .before .args in c .quiet .result ≡ heardAs Edition.Sicp201 (answeredOn (a .t) (readingOf Edition.Sicp201 (a .burst .now)))
 heard c =
     let fed-all = c .before in
     let a = fed-all .before .before .before .args in
-    let fresh = fed-all .bytes .ensures ∙ ap (λ (r : Receiver). foldl withByte r (a .burst .now)) (fed-all .before .fresh .ensures) in
-    c .quiet .ensures ∙ ap (λ (r : Receiver). atMark r (a .t)) fresh ∙ marked (a .t) (a .burst .now)
+    let fresh = fed-all .bytes .ensures ∙ ap (λ (r : Receiver). foldl withByte r (a .burst .now)) (fed-all .before .open .ensures) in
+    c .quiet .ensures ∙ ap (λ (r : Receiver). atMark r (a .t)) fresh ∙ marked Edition.Sicp201 (a .t) (a .burst .now)
 
 returns : tie.Need-returns
 returns c =
@@ -70,7 +71,7 @@ pub answer-spec : {M : Type 1} → statement M
 answer-spec =
     tie.close
     (tie.spec
-    fresh-requires
+    open-requires
     bytes-requires
     quiet-requires
     print-decimal-requires

@@ -34,7 +34,7 @@ returns c =
     let bytes = wrote .before .before .before .before in
     let a = bytes .before .before .before .args in
     let e = data-is (a .request) (bytes .data-bytes .result) _ (search needs) (bytes .data-bytes .ensures) (wrote .before .before .before .in-use .ensures) in
-    (wrote .write-packet .ensures .0 ∙ ap (writtenOf _) e, wrote .write-packet .ensures .1 ∙ ap (outputOf _ _ _) e)
+    (wrote .write-packet .ensures .0 ∙ ap (writtenOf _ _) e, wrote .write-packet .ensures .1 ∙ ap (outputOf _ _ _ _) e)
 
 pub write-request-spec : {M : Type 1} → statement M
 write-request-spec =

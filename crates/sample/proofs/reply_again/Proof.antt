@@ -19,12 +19,12 @@ play-requires : tie.Need-play-requires
 play-requires c κs = search needs
 
 left : (c : tie.After-play)
-    → c .play .result .table ≡ tableOf (played (panelsOf (c .before .two-panels .result)) (c .before .before .before .args .burst .now) .wall)
+    → c .play .result .table ≡ tableOf (played (c .before .before .before .args .edition) (panelsOf (c .before .two-panels .result)) (c .before .before .before .args .burst .now) .wall)
 left c = ap (λ (p : Played). p .table) (c .play .ensures)
 
 play-requires-2 : tie.Need-play-requires-2
 play-requires-2 c κs =
-    subst WellFormed (sym (left c)) (answered-formed (c .before .two-panels .ensures .1) (readingOf (c .before .before .before .args .burst .now)))
+    subst WellFormed (sym (left c)) (answered-formed (c .before .two-panels .ensures .1) (readingOf (c .before .before .before .args .edition) (c .before .before .before .args .burst .now)))
 
 returns : tie.Need-returns
 returns c =

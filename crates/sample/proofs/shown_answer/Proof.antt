@@ -5,6 +5,7 @@ use Prim.Native.Nat.{ℕ, _+_}
 use native.Mathlib.Omega.{arith}
 use lib.ListN.{length, take, replicate}
 use lib.Seq.{take-at}
+use Rattle.packet.specs.declared.Edition.{Edition}
 use Rattle.packet.specs.Packet.{longest}
 use Rattle.lists.specs.Lists.{laidOver}
 use Rattle.answers.specs.declared.Reply.{Reply}
@@ -26,14 +27,14 @@ abbrev isBytes : Sent → ℕ
 isBytes (Sent.Bytes n) = 1
 isBytes Sent.NoRoom = 0
 
-fits : (r : Reply) → sentOf empty r ≡ Sent.Bytes (length (sentBytes r))
+fits : (edition : Edition) (r : Reply) → sentOf edition empty r ≡ Sent.Bytes (length (sentBytes edition r))
 unfolding sentOf
-fits r = refl
+fits edition r = refl
 
 -- the front of the packet
-front-is : (r : Reply) (n : ℕ) → sentOf empty r ≡ Sent.Bytes n → take n (outputOf empty r) ≡ sentBytes r
+front-is : (edition : Edition) (r : Reply) (n : ℕ) → sentOf edition empty r ≡ Sent.Bytes n → take n (outputOf edition empty r) ≡ sentBytes edition r
 unfolding outputOf laidOver
-front-is r n e = take-at (sentBytes r) _ n (ap countOf (sym (fits r) ∙ e))
+front-is edition r n e = take-at (sentBytes edition r) _ n (ap countOf (sym (fits edition r) ∙ e))
 
 slice-aggregate-write-answer : tie.Need-slice-aggregate-write-answer
 slice-aggregate-write-answer c = search needs
@@ -50,7 +51,7 @@ enum-told c = search needs
 returns : tie.Need-returns
 returns c =
     let answer = c .before .before .before in
-    absurd (omega (arith, ap isBytes (sym (fits _) ∙ sym (answer .write-answer .ensures .0) ∙ c .enum-told .given .1)))
+    absurd (omega (arith, ap isBytes (sym (fits _ _) ∙ sym (answer .write-answer .ensures .0) ∙ c .enum-told .given .1)))
 
 slice-aggregate-front : tie.Need-slice-aggregate-front
 slice-aggregate-front c = search needs
@@ -73,7 +74,7 @@ returns-2 c =
     let a = answer .before .before .before .args in
     let n = sent .sent .given .0 .0 in
     let bytes = front .front .ensures ∙ ap (take n) (answer .write-answer .ensures .1)
-    ∙ front-is (a .reply) n (sym (answer .write-answer .ensures .0) ∙ sent .sent .given .1) in (
+    ∙ front-is (a .edition) (a .reply) n (sym (answer .write-answer .ensures .0) ∙ sent .sent .given .1) in (
       shown .shown .ensures .0 ∙ ap (λ (b : List ℕ). shownCount b (a .out .now)) bytes,
       shown .shown .ensures .1 ∙ ap (λ (b : List ℕ). shownOver b (a .out .now)) bytes,
     )

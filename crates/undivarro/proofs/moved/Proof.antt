@@ -5,24 +5,25 @@ use mathlib.Core.List.{List, []}
 use Prim.Native.Nat.{ℕ, _≤_}
 use lib.Dec.{leb}
 use lib.ListN.{length, replicate}
-use Rattle.packet.specs.Packet.{longest, verdictOf}
-use Rattle.packet.specs.Reading.{readingOf}
+use Rattle.packet.specs.Packet.{longest}
 use Rattle.packet.specs.declared.Damage.{Damage}
 use Rattle.panels.specs.Wall.{Wall}
 use Rattle.undivarro.specs.declared.Outcome.{Outcome}
-use Rattle.answers.specs.Reply.{sentBytes}
-use Rattle.answers.specs.Played.{Outcome as BurstOutcome}
+use Rattle.image_forms.specs.declared.Form.{Form}
 use Rattle.image_read.specs.Read.{readOf}
 use Rattle.image_write.specs.Written.{setupOf, sizeOf, losesNothing}
 use Rattle.undivarro.specs.Calls.{After, given, refusalFor, afterMove}
-use Rattle.undivarro.proofs.Calls.{formed-read, wall-read, refusal-is, enough, play-refused, play-given, played-none}
+use Rattle.undivarro.proofs.Calls.{formed-read, wall-read, refusal-is, enough, setup-refused, setup-taken}
 use borrow.Author.Needs.{needs}
 use Rattle.undivarro.proofs.moved.Statement.{statement}
 use Rattle.undivarro.proofs.moved.Tie as tie
 
--- the answer buffer that the definition plays no bytes with
+-- the answer buffer that there is room in
 abbrev room-for : List ℕ
 room-for = replicate longest 0
+
+abbrev rewritten : Form → List ℕ → Wall → After
+rewritten form out w = given [] (setupOf form w) Damage.Nothing room-for out
 
 abbrev start : tie.After-read-image → tie.Start
 start c = c .before .before .before
@@ -68,7 +69,7 @@ unfolding afterMove
 returns c =
     let refusal = c .before .before in
     let a = start (read-of refusal) .args in
-    let e = play-refused (a .form) (a .image .now) (readingOf []) room-for (a .out .now) _ (number refusal) (c .before .if1 .taken) in
+    let e = setup-refused (a .form) (a .image .now) (rewritten (a .form) (a .out .now)) room-for (a .out .now) _ (number refusal) (c .before .if1 .taken) in
     (c .refused .ensures ∙ ap (λ (r : After). r .outcome) e, ap (λ (r : After). r .out) e)
 
 put-setup-requires : tie.Need-put-setup-requires
@@ -82,18 +83,15 @@ same-length : tie.Need-same-length
 same-length c = search needs
 
 returns-2 : tie.Need-returns-2
-unfolding afterMove sentBytes verdictOf
+unfolding afterMove
 returns-2 c =
     let put = c .before .before in
     let past = put .before .before in
     let refusal = past .before in
     let a = start (read-of refusal) .args in
     let e = read-of refusal .read-image .ensures in
-    let all =
-    ap (λ (w : Wall). given [] (setupOf (a .form) w) Damage.Nothing room-for (a .out .now)) (wall-read (a .image .now) _ e)
-    ∙ ap (λ (o : BurstOutcome). given (sentBytes (o .reply)) (setupOf (a .form) (o .wall)) Damage.Nothing room-for (a .out .now)) (sym (played-none _))
-    ∙ play-given (a .form) (a .image .now) (readingOf []) room-for (a .out .now) _ (number refusal) (past .if1 .left)
-    in (
+    let then = rewritten (a .form) (a .out .now) in
+    let all = ap then (wall-read (a .image .now) _ e) ∙ setup-taken (a .form) (a .image .now) then room-for (a .out .now) _ (number refusal) (past .if1 .left) in (
       ap {B = Outcome} (λ (m : ℕ). record { refusal = 0; answered = 0; written = m; damage = 0 }) (put .put-setup .ensures .0) ∙ ap (λ (r : After). r .outcome) all,
       put .put-setup .ensures .1 ∙ ap (λ (r : After). r .out) all,
     )

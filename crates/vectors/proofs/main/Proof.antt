@@ -31,8 +31,8 @@ slice-aggregate-front c = search needs
 front-requires : tie.Need-front-requires Inv-loop μ-loop
 front-requires c κs = search needs
 
-answer-requires : tie.Need-answer-requires Inv-loop μ-loop
-answer-requires c κs = search needs
+play-requires : tie.Need-play-requires Inv-loop μ-loop
+play-requires c κs = search needs
 
 loop-less : tie.Need-loop-less Inv-loop μ-loop
 loop-less c = search needs
@@ -43,11 +43,11 @@ loop-again c = search needs
 enum-told : tie.Need-enum-told Inv-loop μ-loop
 enum-told c = search needs
 
-slice-aggregate-print-last : tie.Need-slice-aggregate-print-last Inv-loop μ-loop
-slice-aggregate-print-last c = search needs
+slice-aggregate-print-counted : tie.Need-slice-aggregate-print-counted Inv-loop μ-loop
+slice-aggregate-print-counted c = search needs
 
-print-last-requires : tie.Need-print-last-requires Inv-loop μ-loop
-print-last-requires c κs = search needs
+print-counted-requires : tie.Need-print-counted-requires Inv-loop μ-loop
+print-counted-requires c κs = search needs
 
 returns : tie.Need-returns Inv-loop μ-loop
 returns c = search needs
@@ -55,11 +55,11 @@ returns c = search needs
 enum-told-2 : tie.Need-enum-told-2 Inv-loop μ-loop
 enum-told-2 c = search needs
 
-slice-aggregate-print-last-2 : tie.Need-slice-aggregate-print-last-2 Inv-loop μ-loop
-slice-aggregate-print-last-2 c = search needs
+slice-aggregate-print-counted-2 : tie.Need-slice-aggregate-print-counted-2 Inv-loop μ-loop
+slice-aggregate-print-counted-2 c = search needs
 
-print-last-requires-2 : tie.Need-print-last-requires-2 Inv-loop μ-loop
-print-last-requires-2 c κs = search needs
+print-counted-requires-2 : tie.Need-print-counted-requires-2 Inv-loop μ-loop
+print-counted-requires-2 c κs = search needs
 
 returns-2 : tie.Need-returns-2 Inv-loop μ-loop
 returns-2 c = search needs
@@ -80,15 +80,15 @@ main-spec =
     add-number
     slice-aggregate-front
     front-requires
-    answer-requires
+    play-requires
     loop-less
     loop-again
     enum-told
-    slice-aggregate-print-last
-    print-last-requires
+    slice-aggregate-print-counted
+    print-counted-requires
     returns
     enum-told-2
-    slice-aggregate-print-last-2
-    print-last-requires-2
+    slice-aggregate-print-counted-2
+    print-counted-requires-2
     returns-2
     returns-3)

@@ -4,7 +4,7 @@ use Prim.Native.Nat.{_+_}
 use lib.ListN.{length}
 use Rattle.packet.proofs.Packets.{packet-written, packet-laid}
 use Rattle.packet.specs.declared.Written.{Written}
-use Rattle.packet.specs.Packet.{groupId, packetOf}
+use Rattle.packet.specs.Packet.{groupId, packetOf, shortest}
 use Rattle.lists.specs.Lists.{laidOver}
 use Rattle.answers.specs.declared.Sent.{Sent}
 use Rattle.answers.specs.declared.Sent.the-variants as sent
@@ -36,11 +36,11 @@ same-length c = search needs
 -- what was written, whatever the match told
 written : (c : tie.After-write-packet) (w : Written) → c .write-packet .result ≡ w
     → let a = c .before .before .before .before .args in
-    (passed-on w ≡ sent.Bytes (length (a .d .now) + 4)) × (c .write-packet .last .0 ≡ laidOver (packetOf (a .id) (groupId 0) (a .d .now)) (a .out .now))
+    (passed-on w ≡ sent.Bytes (length (a .d .now) + shortest (a .edition))) × (c .write-packet .last .1 .0 ≡ laidOver (packetOf (a .edition) (a .id) (groupId 0) (a .d .now)) (a .out .now))
 written c w e =
     let start = c .before .before .before .before in (
-      ap passed-on (sym e ∙ c .write-packet .ensures .0 ∙ packet-written _ (start .args .id) (groupId 0) _ (start .pre .0) (start .pre .1)),
-      c .write-packet .ensures .1 ∙ packet-laid _ _ _ _ (start .pre .0) (start .pre .1),
+      ap passed-on (sym e ∙ c .write-packet .ensures .0 ∙ packet-written _ _ (start .args .id) (groupId 0) _ (start .pre .0) (start .pre .1)),
+      c .write-packet .ensures .1 ∙ packet-laid _ _ _ _ _ (start .pre .0) (start .pre .1),
     )
 
 returns : tie.Need-returns

@@ -6,8 +6,10 @@ use native.Mathlib.Omega.{arith}
 use borrow.Author.Tests.{le-leb, lt-leb}
 use lib.ListN.{length, take, length-take}
 use lib.Seq.{take-all, length-take-le}
-use Rattle.packet.specs.Packet.{groupId, packetOf, mostData, longest}
+use Rattle.packet.specs.Packet.{groupId, packetOf, shortest, mostData, longest}
 use Rattle.lists.specs.Lists.{laidOver}
+use Rattle.packet.specs.declared.Edition.{Edition}
+use Rattle.packet.proofs.EachEdition.{head-few}
 use Rattle.packet.proofs.Packets.{packet-length}
 use Rattle.answers.specs.declared.Answer.{Answer}
 use Rattle.answers.specs.declared.Reply.{Reply}
@@ -17,16 +19,17 @@ use borrow.Author.Needs.{needs}
 use Rattle.answers.proofs.answering.write_answer.Statement.{statement}
 use Rattle.answers.proofs.answering.write_answer.Tie as tie
 
-by-answer : (r : Reply) (a : Answer) → r .answer ≡ a → sentBytes r ≡ sentBy a (r .id) (take (r .count) (r .bytes))
+by-answer : (edition : Edition) (r : Reply) (a : Answer) → r .answer ≡ a → sentBytes edition r ≡ sentBy edition a (r .id) (take (r .count) (r .bytes))
 unfolding sentBytes
-by-answer r a e = ap (λ (x : Answer). sentBy x (r .id) (take (r .count) (r .bytes))) e
+by-answer edition r a e = ap (λ (x : Answer). sentBy edition x (r .id) (take (r .count) (r .bytes))) e
 
 -- data that is sent is the answer
-answered : (out : List ℕ) (r : Reply) (d : List ℕ) → longest ≤ length out → length d ≤ mostData → sentBytes r ≡ packetOf (r .id) (groupId 0) d
-    → (Sent.Bytes (length d + 4) ≡ sentOf out r) × (laidOver (packetOf (r .id) (groupId 0) d) out ≡ outputOf out r)
+answered : (edition : Edition) (out : List ℕ) (r : Reply) (d : List ℕ) → longest ≤ length out → length d ≤ mostData edition
+    → sentBytes edition r ≡ packetOf edition (r .id) (groupId 0) d
+    → (Sent.Bytes (length d + shortest edition) ≡ sentOf edition out r) × (laidOver (packetOf edition (r .id) (groupId 0) d) out ≡ outputOf edition out r)
 unfolding sentOf outputOf
-answered out r d h m e =
-    (simp (le-leb _ _ h, e, packet-length (r .id) (groupId 0) d m), simp (le-leb _ _ h, e))
+answered edition out r d h m e =
+    (simp (le-leb _ _ h, e, packet-length edition (r .id) (groupId 0) d m), simp (le-leb _ _ h, e))
 
 returns : tie.Need-returns
 unfolding sentOf outputOf
@@ -45,7 +48,7 @@ slice-aggregate-send : tie.Need-slice-aggregate-send
 slice-aggregate-send c = search needs
 
 send-requires : tie.Need-send-requires
-send-requires c κs = search needs
+send-requires c κs = let a = c .before .before .before .before .before .before .before .before .before .args in (omega arith, omega (arith, head-few (a .edition)))
 
 enum-told-2 : tie.Need-enum-told-2
 enum-told-2 c = search needs
@@ -55,8 +58,9 @@ slice-aggregate-send-2 c = search needs
 
 send-requires-2 : tie.Need-send-requires-2
 send-requires-2 c κs =
-    let n : length (c .before .before .before .before .before .before .before .before .before .args .reply .bytes) ≡ mostReported = search needs in
-    omega arith
+    let a = c .before .before .before .before .before .before .before .before .before .args in
+    let n : length (a .reply .bytes) ≡ mostReported = search needs in
+    (omega arith, omega (arith, head-few (a .edition)))
 
 same-length : tie.Need-same-length
 same-length c = search needs
@@ -66,8 +70,8 @@ returns-2 c =
     let told = c .before .before .before .before .before .before .before in
     let a = told .before .before .before .before .before .args in
     let n : length (a .reply .bytes) ≡ mostReported = search needs in
-    let e = by-answer (a .reply) _ (told .enum-told2 .given .1) ∙ ap (packetOf (a .reply .id) (groupId 0)) (take-all (a .reply .count) (a .reply .bytes) (omega arith)) in
-    let r = answered (a .out .now) (a .reply) (a .reply .bytes) (omega arith) (omega arith) e in
+    let e = by-answer (a .edition) (a .reply) _ (told .enum-told2 .given .1) ∙ ap (packetOf (a .edition) (a .reply .id) (groupId 0)) (take-all (a .reply .count) (a .reply .bytes) (omega arith)) in
+    let r = answered (a .edition) (a .out .now) (a .reply) (a .reply .bytes) (omega arith) (omega (arith, head-few (a .edition))) e in
     (c .before .before .send2 .ensures .0 ∙ r .0, c .before .before .send2 .ensures .1 ∙ r .1)
 
 array-share-prefix-bytes : tie.Need-array-share-prefix-bytes
@@ -85,14 +89,14 @@ send-requires-3 : tie.Need-send-requires-3
 send-requires-3 c κs =
     let a = c .before .before .before .before .before .before .before .before .before .args in
     let n : length (a .reply .bytes) ≡ mostReported = search needs in
-    (omega arith, simp length-take (omega arith))
+    (omega arith, simp length-take (omega (arith, head-few (a .edition))))
 
 returns-3 : tie.Need-returns-3
 unfolding sentOf outputOf laidOver
 returns-3 c =
     let a = c .before .before .before .before .before .args in
     let room = le-leb longest (length (a .out .now)) (omega arith) in
-    let e = by-answer (a .reply) _ (c .enum-told .given .1) in
+    let e = by-answer (a .edition) (a .reply) _ (c .enum-told .given .1) in
     (simp (room, e), simp (room, e))
 
 same-length-2 : tie.Need-same-length-2
@@ -103,8 +107,8 @@ returns-4 c =
     let told = c .before .before .before .before .before .before .before in
     let a = told .before .before .before .before .before .args in
     let byte = c .before .before .before .before .before .control-byte in
-    let e = by-answer (a .reply) _ (told .answer .given .1) ∙ ap (λ (b : ℕ). packetOf (a .reply .id) (groupId 0) (0 ∷ b ∷ [])) (sym (byte .ensures)) in
-    let r = answered (a .out .now) (a .reply) (0 ∷ byte .result ∷ []) (omega arith) (omega arith) e in
+    let e = by-answer (a .edition) (a .reply) _ (told .answer .given .1) ∙ ap (λ (b : ℕ). packetOf (a .edition) (a .reply .id) (groupId 0) (0 ∷ b ∷ [])) (sym (byte .ensures)) in
+    let r = answered (a .edition) (a .out .now) (a .reply) (0 ∷ byte .result ∷ []) (omega arith) (omega (arith, head-few (a .edition))) e in
     (c .before .before .send .ensures .0 ∙ r .0, c .before .before .send .ensures .1 ∙ r .1)
 
 same-length-3 : tie.Need-same-length-3
@@ -116,7 +120,7 @@ returns-5 c =
     let a = told .before .before .before .before .before .args in
     let n : length (a .reply .bytes) ≡ mostReported = search needs in
     let d = take (a .reply .count) (a .reply .bytes) in
-    let r = answered (a .out .now) (a .reply) d (omega arith) (simp length-take (omega arith)) (by-answer (a .reply) _ (told .enum-told2 .given .1)) in
+    let r = answered (a .edition) (a .out .now) (a .reply) d (omega arith) (simp length-take (omega (arith, head-few (a .edition)))) (by-answer (a .edition) (a .reply) _ (told .enum-told2 .given .1)) in
     (c .before .before .send3 .ensures .0 ∙ r .0, c .before .before .send3 .ensures .1 ∙ r .1)
 
 pub write-answer-spec : {M : Type 1} → statement M

@@ -16,7 +16,7 @@ use Rattle.host.proofs.Host.hear.Tie as tie
 
 -- the damage that is told is the burst's
 told : (c : tie.After-damage-in) (r : Step)
-    → tellingStep (c .damage-in .result) r ≡ tellingStep (damageIn (readingOf (c .before .before .before .before .before .args .b .now) .verdict)) r
+    → tellingStep (c .damage-in .result) r ≡ tellingStep (damageIn (readingOf (c .before .before .before .before .before .args .self .edition) (c .before .before .before .before .before .args .b .now) .verdict)) r
 told c r = ap (λ (d : Damage). tellingStep d r) (c .damage-in .ensures ∙ ap damageIn (c .before .verdict-of .ensures))
 
 plain-requires : tie.Need-plain-requires
@@ -68,7 +68,7 @@ returns-3 c =
     let a = has .before .before .before .args in
     let said = heard-is (stateOf (a .self)) (a .b .now) _ _ (damage .before .verdict-of .ensures) (part .data-of .ensures) in
     rw (burst-heard (a .out .now) (a .self) (has .if1 .left) (waits .if2 .left) (a .b .now))
-    (tells (heard (stateOf (a .self)) (readingOf (a .b .now))) _ _ (rw said at (heeded .heeded .ensures)) (c .telling2 .ensures ∙ told damage (heeded .heeded .result)))
+    (tells (heard (stateOf (a .self)) (readingOf (a .self .edition) (a .b .now))) _ _ (rw said at (heeded .heeded .ensures)) (c .telling2 .ensures ∙ told damage (heeded .heeded .result)))
 
 pub hear-spec : {M : Type 1} → statement M
 hear-spec =

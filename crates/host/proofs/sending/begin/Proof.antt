@@ -30,8 +30,8 @@ returns : tie.Need-returns
 unfolding begun
 returns c =
     let sent = c .before .before .before .before .before in
-    let r = sent .before .before .before .args .request in
-    gives (record { request = r; given = requestPacket r ∷ [] }) _ _ _ _ _ _ refl (sent .send .ensures .0) (sent .send .ensures .1)
+    let a = sent .before .before .before .args in
+    gives (record { edition = a .edition; request = a .request; given = requestPacket (a .edition) (a .request) ∷ [] }) _ _ _ _ _ _ refl (sent .send .ensures .0) (sent .send .ensures .1)
     (simp (sym (c .before .before .is-heard .ensures) ∙ c .before .if1 .taken)) (c .plain .ensures)
 
 same-length-2 : tie.Need-same-length-2
@@ -42,7 +42,8 @@ unfolding begun
 returns-2 c =
     let other = c .before .before in
     let sent = other .before .before .before .before in
-    gives-last (record { request = sent .before .before .before .args .request; sendings = 1 }) (c .over .ensures) _ _ _ (sent .send .ensures .0) (sent .send .ensures .1)
+    let a = sent .before .before .before .args in
+    gives-last (record { edition = a .edition; request = a .request; sendings = 1 }) (c .over .ensures) _ _ _ (sent .send .ensures .0) (sent .send .ensures .1)
     (simp (sym (other .before .is-heard .ensures) ∙ other .if1 .left))
 
 pub begin-spec : {M : Type 1} → statement M

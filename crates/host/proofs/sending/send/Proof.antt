@@ -8,6 +8,8 @@ use Rattle.lists.specs.Lists.{laidOver}
 use Rattle.settings.specs.Settings.{mostValues}
 use Rattle.packet.specs.declared.Written.{Written}
 use Rattle.packet.specs.Packet.{mostData}
+use Rattle.packet.specs.declared.Edition.{Edition}
+use Rattle.packet.proofs.EachEdition.{head-few}
 use Rattle.packet.proofs.Packets.{packet-length, packet-written, packet-laid}
 use Rattle.requests.specs.declared.Request.{Request}
 use Rattle.requests.specs.Request.{requestData, requestPacket}
@@ -20,8 +22,8 @@ bytesIn (Written.Bytes n) = n
 bytesIn Written.TooLong = 0
 bytesIn Written.NoRoom = 0
 
-data-fits : (r : Request) → length (r .values) ≡ mostValues → length (requestData r) ≤ mostData
-data-fits r n = simp length-take (omega arith)
+data-fits : (edition : Edition) (r : Request) → length (r .values) ≡ mostValues → length (requestData r) ≤ mostData edition
+data-fits edition r n = simp length-take (omega (arith, head-few edition))
 
 write-request-requires : tie.Need-write-request-requires
 write-request-requires c κs = search needs
@@ -41,15 +43,16 @@ same-length c = search needs
 -- what was written, whatever the match told
 written : (c : tie.After-write-request) (w : Written) → c .write-request .result ≡ w
     → let a = c .before .before .before .args in
-    (bytesIn w ≡ length (requestPacket (a .request))) × (c .write-request .last .1 .0 ≡ laidOver (requestPacket (a .request)) (a .out .now))
+    (bytesIn w ≡ length (requestPacket (a .edition) (a .request))) × (c .write-request .last .1 .1 .0 ≡ laidOver (requestPacket (a .edition) (a .request)) (a .out .now))
 unfolding requestPacket
 written c w e =
     let start = c .before .before .before in
+    let edition = start .args .edition in
     let r = start .args .request in
     let n : length (r .values) ≡ mostValues = search needs in
-    let fits = data-fits r n in (
-      ap bytesIn (sym e ∙ c .write-request .ensures .0 ∙ packet-written _ (r .id) (r .group) _ (start .pre) fits) ∙ sym (packet-length (r .id) (r .group) _ fits),
-      c .write-request .ensures .1 ∙ packet-laid _ _ _ _ (start .pre) fits,
+    let fits = data-fits edition r n in (
+      ap bytesIn (sym e ∙ c .write-request .ensures .0 ∙ packet-written edition _ (r .id) (r .group) _ (start .pre) fits) ∙ sym (packet-length edition (r .id) (r .group) _ fits),
+      c .write-request .ensures .1 ∙ packet-laid _ _ _ _ _ (start .pre) fits,
     )
 
 returns : tie.Need-returns

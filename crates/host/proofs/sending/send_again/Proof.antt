@@ -21,8 +21,8 @@ unfolding again
 gives-up h e = rw (length-replicate, le-ltb _ _ e)
 
 sends : (h : Host) → h .sendings < mostSendings
-    → let p = requestPacket (h .request) in
-    again (stateOf h) ≡ move (record { request = h .request; given = p ∷ stateOf h .given }) (p ∷ []) Outcome.Waiting []
+    → let p = requestPacket (h .edition) (h .request) in
+    again (stateOf h) ≡ move (record { edition = h .edition; request = h .request; given = p ∷ stateOf h .given }) (p ∷ []) Outcome.Waiting []
 unfolding again
 sends h e = rw (length-replicate, lt-ltb _ _ e)
 
@@ -38,8 +38,8 @@ returns c = ends (c .before .before .before .before .args .host) (c .over .ensur
 send-requires : tie.Need-send-requires
 send-requires c κs = search needs
 
-add-t13 : tie.Need-add-t13
-add-t13 c = search needs
+add-t14 : tie.Need-add-t14
+add-t14 c = search needs
 
 plain-requires : tie.Need-plain-requires
 plain-requires c κs = search needs
@@ -61,7 +61,7 @@ send-again-spec =
     over-requires
     returns
     send-requires
-    add-t13
+    add-t14
     plain-requires
     same-length
     returns-2)

@@ -39,8 +39,8 @@ returns c =
     let all = a .self .bytes ++ 0 ∷ [] in
     let burst = take-all (a .self .count) all (simp length-append (omega arith)) in
     let long : longest < length all = simp length-append (omega arith) in
-    let head = seems .seems-for .ensures ∙ sym (seems-alike (a .self .bytes) (0 ∷ []) (omega arith)) in
-    c .answered-on .ensures ∙ ap (answeredOn (a .t)) (same-reading refl refl head ∙ sym (ap readingOf burst ∙ long-reading all long))
+    let head = seems .seems-for .ensures ∙ sym (seems-alike (a .self .edition) (a .self .bytes) (0 ∷ []) (omega arith)) in
+    c .answered-on .ensures ∙ ap (answeredOn (a .t)) (same-reading refl refl head ∙ sym (ap (readingOf (a .self .edition)) burst ∙ long-reading (a .self .edition) all long))
 
 array-share-prefix-bytes-2 : tie.Need-array-share-prefix-bytes-2
 array-share-prefix-bytes-2 c =
@@ -61,7 +61,7 @@ unfolding burstOf
 returns-2 c =
     let a = c .before .before .before .before .args in
     let n : length (a .self .bytes) ≡ longest = search needs in
-    c .play .ensures ∙ ap (λ (b : List ℕ). answeredOn (a .t) (readingOf b)) (sym (take-append-le (a .self .count) (a .self .bytes) (0 ∷ []) (omega arith)))
+    c .play .ensures ∙ ap (λ (b : List ℕ). answeredOn (a .t) (readingOf (a .self .edition) b)) (sym (take-append-le (a .self .count) (a .self .bytes) (0 ∷ []) (omega arith)))
 
 pub answered-spec : {M : Type 1} → statement M
 answered-spec =

@@ -11,7 +11,7 @@ answered-requires c κs = search needs
 
 returns : tie.Need-returns
 unfolding receiverOf atMark
-returns c = ap heardAs (c .before .before .before .answered .ensures)
+returns c = ap (heardAs _) (c .before .before .before .answered .ensures)
 
 pub quiet-spec : {M : Type 1} → statement M
 quiet-spec = tie.close (tie.spec answered-requires returns)

@@ -5,8 +5,8 @@ use borrow.Author.Tests.{eq-eqb, ne-eqb, not-true, not-false}
 use Rattle.refusals.specs.Refusals.{isSound}
 use Rattle.undivarro.specs.Calls.{refusalFor}
 use borrow.Author.Needs.{needs}
-use Rattle.undivarro.proofs.refusal_for.Statement.{statement}
-use Rattle.undivarro.proofs.refusal_for.Tie as tie
+use Rattle.undivarro.proofs.parts.refusal_for.Statement.{statement}
+use Rattle.undivarro.proofs.parts.refusal_for.Tie as tie
 
 refusal-number-requires : tie.Need-refusal-number-requires
 refusal-number-requires c κs = search needs

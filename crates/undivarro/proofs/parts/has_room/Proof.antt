@@ -5,8 +5,8 @@ use native.Mathlib.Omega.{arith}
 use borrow.Author.Tests.{lt-leb, le-leb}
 use borrow.Author.Needs.{needs}
 use lib.Dec.{leb}
-use Rattle.undivarro.proofs.has_room.Statement.{statement}
-use Rattle.undivarro.proofs.has_room.Tie as tie
+use Rattle.undivarro.proofs.parts.has_room.Statement.{statement}
+use Rattle.undivarro.proofs.parts.has_room.Tie as tie
 
 returns : tie.Need-returns
 returns c =

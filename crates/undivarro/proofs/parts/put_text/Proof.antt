@@ -6,8 +6,8 @@ use borrow.Author.Needs.{needs}
 use lib.ListN.{length, take, drop}
 use lib.Seq.{take-length, length-take-le}
 use Rattle.lists.specs.Lists.{laidOver}
-use Rattle.undivarro.proofs.put_text.Statement.{statement}
-use Rattle.undivarro.proofs.put_text.Tie as tie
+use Rattle.undivarro.proofs.parts.put_text.Statement.{statement}
+use Rattle.undivarro.proofs.parts.put_text.Tie as tie
 
 slice-aggregate-copy : tie.Need-slice-aggregate-copy
 slice-aggregate-copy c = let s = c .before .before .before in sym (length-take-le (s .args .told) (s .args .text .now) (s .pre .0))

@@ -5,6 +5,7 @@ use Prim.Native.Nat.{ℕ, _≤_}
 use native.Mathlib.Omega.{arith}
 use borrow.Author.Tests.{le-leb}
 use lib.ListN.{length}
+use Rattle.packet.specs.declared.Edition.{Edition}
 use Rattle.packet.specs.Packet.{longest}
 use Rattle.lists.specs.Lists.{laidOver}
 use Rattle.answers.specs.declared.Reply.{Reply}
@@ -13,20 +14,21 @@ use Rattle.answers.specs.Reply.{sentBytes, sentOf, outputOf, mostReported}
 use Rattle.answers.proofs.Lengths.{bytesSent}
 use Rattle.undivarro.proofs.Lengths.{sent-few}
 use borrow.Author.Needs.{needs}
-use Rattle.undivarro.proofs.put_answer.Statement.{statement}
-use Rattle.undivarro.proofs.put_answer.Tie as tie
+use Rattle.undivarro.proofs.parts.put_answer.Statement.{statement}
+use Rattle.undivarro.proofs.parts.put_answer.Tie as tie
 
-fits : (out : List ℕ) (r : Reply) → longest ≤ length out → (sentOf out r ≡ Sent.Bytes (length (sentBytes r))) × (outputOf out r ≡ laidOver (sentBytes r) out)
+fits : (edition : Edition) (out : List ℕ) (r : Reply) → longest ≤ length out
+    → (sentOf edition out r ≡ Sent.Bytes (length (sentBytes edition r))) × (outputOf edition out r ≡ laidOver (sentBytes edition r) out)
 unfolding sentOf outputOf
-fits out r h = (simp (le-leb _ _ h), simp (le-leb _ _ h))
+fits edition out r h = (simp (le-leb _ _ h), simp (le-leb _ _ h))
 
 -- what was sent, whatever the match told
 sent : (c : tie.After-write-answer) (s : Sent) → c .write-answer .result ≡ s
     → let a = c .before .before .before .args in
-    (bytesSent s ≡ length (sentBytes (a .reply))) × (c .write-answer .last .1 .0 ≡ laidOver (sentBytes (a .reply)) (a .out .now))
+    (bytesSent s ≡ length (sentBytes (a .edition) (a .reply))) × (c .write-answer .last .1 .1 .0 ≡ laidOver (sentBytes (a .edition) (a .reply)) (a .out .now))
 sent c s e =
     let start = c .before .before .before in
-    let f = fits _ (start .args .reply) (start .pre) in
+    let f = fits _ _ (start .args .reply) (start .pre) in
     (ap bytesSent (sym e ∙ c .write-answer .ensures .0 ∙ f .0), c .write-answer .ensures .1 ∙ f .1)
 
 write-answer-requires : tie.Need-write-answer-requires
@@ -38,9 +40,9 @@ enum-known-sent c = search needs
 cast-result : tie.Need-cast-result
 cast-result c =
     let call = c .before .before .before .before .before in
-    let reply = call .before .before .before .args .reply in
-    let n : length (reply .bytes) ≡ mostReported = search needs in
-    omega (arith, sent-few reply n, sent call _ (c .before .sent .given .1) .0)
+    let a = call .before .before .before .args in
+    let n : length (a .reply .bytes) ≡ mostReported = search needs in
+    omega (arith, sent-few (a .edition) (a .reply) n, sent call _ (c .before .sent .given .1) .0)
 
 enum-told : tie.Need-enum-told
 enum-told c = search needs

@@ -11,8 +11,8 @@ use Rattle.image_write.proofs.Lengths.{products}
 use Rattle.image_write.proofs.Losing.{is-written}
 use Rattle.image_back.proofs.Back.{image-size}
 use borrow.Author.Needs.{needs}
-use Rattle.undivarro.proofs.put_setup.Statement.{statement}
-use Rattle.undivarro.proofs.put_setup.Tie as tie
+use Rattle.undivarro.proofs.parts.put_setup.Statement.{statement}
+use Rattle.undivarro.proofs.parts.put_setup.Tie as tie
 
 -- what was written, whatever the match told
 laid : (c : tie.After-write-image) (s : Written) → c .write-image .result ≡ s

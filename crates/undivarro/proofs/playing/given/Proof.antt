@@ -4,8 +4,8 @@ use Prim.Native.Nat.{ℕ}
 use Rattle.packet.specs.Packet.{damageNumber}
 use Rattle.undivarro.specs.declared.Outcome.{Outcome}
 use borrow.Author.Needs.{needs}
-use Rattle.undivarro.proofs.given.Statement.{statement}
-use Rattle.undivarro.proofs.given.Tie as tie
+use Rattle.undivarro.proofs.playing.given.Statement.{statement}
+use Rattle.undivarro.proofs.playing.given.Tie as tie
 
 damage-in-requires : tie.Need-damage-in-requires
 damage-in-requires c κs = search needs

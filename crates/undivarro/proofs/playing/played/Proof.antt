@@ -23,8 +23,8 @@ use Rattle.undivarro.specs.declared.Outcome.{Outcome}
 use Rattle.undivarro.specs.Calls.{After}
 use Rattle.undivarro.proofs.Calls.{formed-played, size-played, given-played}
 use borrow.Author.Needs.{needs}
-use Rattle.undivarro.proofs.played.Statement.{statement}
-use Rattle.undivarro.proofs.played.Tie as tie
+use Rattle.undivarro.proofs.playing.played.Statement.{statement}
+use Rattle.undivarro.proofs.playing.played.Tie as tie
 
 verdict-of-requires : tie.Need-verdict-of-requires
 verdict-of-requires c κs = search needs
@@ -50,24 +50,24 @@ cast-at-2 c = search needs
 count-of-requires : tie.Need-count-of-requires
 count-of-requires c κs = search needs
 
-cast-t24 : tie.Need-cast-t24
-cast-t24 c = search needs
+cast-t25 : tie.Need-cast-t25
+cast-t25 c = search needs
 
-element-copy-out-t22 : tie.Need-element-copy-out-t22
-element-copy-out-t22 c = search needs
+element-copy-out-t23 : tie.Need-element-copy-out-t23
+element-copy-out-t23 c = search needs
 
-cast-t27 : tie.Need-cast-t27
-cast-t27 c =
+cast-t28 : tie.Need-cast-t28
+cast-t28 c =
     let s = c .before .before .before .before .before .before .before .before .before .before .before .before in
     let g = c .before .before .before .before .before .names-in .result .group in
-    let few = members-found (s .pre .0) g (element-copy-out-t22 (c .before)) 0 in
-    omega (arith, few, members-few g (panelsOf (s .args .t1)), s .pre .0 .few)
+    let few = members-found (s .pre .0) g (element-copy-out-t23 (c .before)) 0 in
+    omega (arith, few, members-few g (panelsOf (s .args .t2)), s .pre .0 .few)
 
-mul-t29 : tie.Need-mul-t29
-mul-t29 c = search needs
+mul-t30 : tie.Need-mul-t30
+mul-t30 c = search needs
 
-element-copy-out-t32 : tie.Need-element-copy-out-t32
-element-copy-out-t32 c = search needs
+element-copy-out-t33 : tie.Need-element-copy-out-t33
+element-copy-out-t33 c = search needs
 
 abbrev start : tie.After-turn-of → tie.Start
 start c = c .before .before .before .before .before .before .before .before .before .before .before .before .before .before
@@ -81,16 +81,16 @@ part c = c .before .before .before .before .before .before .before .before .befo
 abbrev seems : tie.After-turn-of → Addressee
 seems c = c .before .before .before .before .before .before .before .before .seems-for .result
 
-turn-is : (c : tie.After-turn-of) → c .turn-of .result ≡ turnBy (entryOf (panelsOf (start c .args .t1)) (namesIn (verdict c) (seems c))) (verdict c) (part c) (seems c)
+turn-is : (c : tie.After-turn-of) → c .turn-of .result ≡ turnBy (entryOf (panelsOf (start c .args .t2)) (namesIn (verdict c) (seems c))) (verdict c) (part c) (seems c)
 turn-is c =
     let known = c .before .before .before in
     let count = known .before in
     let names = count .before .before .before in
-    let there = entry-is (start c .pre .0) (names .names-in .result) (element-copy-out-at (count .before .before)) (element-copy-out-t22 known) _ (count .count-of .ensures) _ in
-    c .turn-of .ensures ∙ ap (λ (e : Entry). turnBy e (verdict c) (part c) (seems c)) (there ∙ ap (entryOf (panelsOf (start c .args .t1))) (names .names-in .ensures))
+    let there = entry-is (start c .pre .0) (names .names-in .result) (element-copy-out-at (count .before .before)) (element-copy-out-t23 known) _ (count .count-of .ensures) _ in
+    c .turn-of .ensures ∙ ap (λ (e : Entry). turnBy e (verdict c) (part c) (seems c)) (there ∙ ap (entryOf (panelsOf (start c .args .t2))) (names .names-in .ensures))
 
 -- what was read is the burst's reading
-is-read : (c : tie.After-turn-of) → reading (verdict c) (part c) (seems c) ≡ readingOf (start c .args .burst .now)
+is-read : (c : tie.After-turn-of) → reading (verdict c) (part c) (seems c) ≡ readingOf (start c .args .edition) (start c .args .burst .now)
 is-read c = let read = c .before .before .before .before .before .before .before .before .before in same-reading (read .before .verdict-of .ensures) (read .data-of .ensures) (c .before .before .before .before .before .before .before .before .seems-for .ensures)
 
 -- with the table that a turn leaves
@@ -98,12 +98,12 @@ abbrev leaving : tie.After-turn-of → Table → Played
 leaving c u = record { table = u; reply = c .turn-of .result .reply; damage = damageIn (verdict c) }
 
 kept : (c : tie.After-turn-of) → c .turn-of .result .change .first ≡ c .turn-of .result .change .end → let a = start c .args in
-    leaving c (a .t1) ≡ answeredOn (a .t1) (readingOf (a .burst .now))
-kept c e = nothing-left (start c .pre .0) (verdict c) (part c) (seems c) (turn-is c) e ∙ ap (answeredOn (start c .args .t1)) (is-read c)
+    leaving c (a .t2) ≡ answeredOn (a .t2) (readingOf (a .edition) (a .burst .now))
+kept c e = nothing-left (start c .pre .0) (verdict c) (part c) (seems c) (turn-is c) e ∙ ap (answeredOn (start c .args .t2)) (is-read c)
 
 changed : (c : tie.After-turn-of) {u : Table} → (c .turn-of .result .change .first ≡ c .turn-of .result .change .end → ⊥) → let a = start c .args in
-    u ≡ tableOf (map (turnedBy (c .turn-of .result .change) (part c)) (panelsOf (a .t1))) → leaving c u ≡ answeredOn (a .t1) (readingOf (a .burst .now))
-changed c some e = something-left (start c .pre .0) (verdict c) (part c) (seems c) (turn-is c) some e ∙ ap (answeredOn (start c .args .t1)) (is-read c)
+    u ≡ tableOf (map (turnedBy (c .turn-of .result .change) (part c)) (panelsOf (a .t2))) → leaving c u ≡ answeredOn (a .t2) (readingOf (a .edition) (a .burst .now))
+changed c some e = something-left (start c .pre .0) (verdict c) (part c) (seems c) (turn-is c) some e ∙ ap (answeredOn (start c .args .t2)) (is-read c)
 
 abbrev numbers : Verdict → ℕ → ℕ → Outcome
 numbers v n m = record { refusal = 0; answered = n; written = m; damage = damageNumber (damageIn v) }
@@ -132,7 +132,7 @@ returns c =
     let sent = c .before .before .before .before .before .before .before .before .before in
     let turn = sent .before .before .before .before in
     let a = start turn .args in
-    let all = given-played (start turn .pre .0) (readingOf (a .burst .now)) (kept turn (put .before .before .if1 .taken)) Form.Two (a .answer .now) (a .out .now) in (
+    let all = given-played (start turn .pre .0) (a .edition) (a .burst .now) (kept turn (put .before .before .if1 .taken)) (a .answer .now) (a .out .now) in (
       c .given .ensures ∙ ap₂ (numbers (verdict turn)) (sent .put-answer .ensures .0) (put .put-setup .ensures .0) ∙ ap (λ (r : After). r .outcome) all,
       (sent .put-answer .ensures .1 ∙ ap (λ (r : After). r .answer) all, put .put-setup .ensures .1 ∙ ap (λ (r : After). r .out) all),
     )
@@ -147,8 +147,8 @@ put-setup-requires-2 c κs =
     let past = c .before .before in
     let turn = past .before .before .before .before .before .before .before .before in
     let is = changed turn (past .if1 .left) (c .before .stored .ensures) in
-    let burst = readingOf (start turn .args .burst .now) in
-    (formed-played (start turn .pre .0) burst is, two-holds _, rw (size-played (start turn .pre .0) burst is Form.Two) (start turn .pre .2))
+    let a = start turn .args in
+    (formed-played (start turn .pre .0) (a .edition) (a .burst .now) is, two-holds _, rw (size-played (start turn .pre .0) (a .edition) (a .burst .now) is) (start turn .pre .2))
 
 given-requires-2 : tie.Need-given-requires-2
 given-requires-2 c κs = search needs
@@ -166,7 +166,7 @@ returns-2 c =
     let turn = made .before .before .before .before .before .before .before .before .before in
     let sent = made .before .before .before .before .before in
     let a = start turn .args in
-    let all = given-played (start turn .pre .0) (readingOf (a .burst .now)) (changed turn (made .before .if1 .left) (made .stored .ensures)) Form.Two (a .answer .now) (a .out .now) in (
+    let all = given-played (start turn .pre .0) (a .edition) (a .burst .now) (changed turn (made .before .if1 .left) (made .stored .ensures)) (a .answer .now) (a .out .now) in (
       c .given2 .ensures ∙ ap₂ (numbers (verdict turn)) (sent .put-answer .ensures .0) (put .put-setup2 .ensures .0) ∙ ap (λ (r : After). r .outcome) all,
       (sent .put-answer .ensures .1 ∙ ap (λ (r : After). r .answer) all, put .put-setup2 .ensures .1 ∙ ap (λ (r : After). r .out) all),
     )
@@ -183,11 +183,11 @@ played-spec =
     element-copy-out-at
     cast-at-2
     count-of-requires
-    cast-t24
-    element-copy-out-t22
-    cast-t27
-    mul-t29
-    element-copy-out-t32
+    cast-t25
+    element-copy-out-t23
+    cast-t28
+    mul-t30
+    element-copy-out-t33
     turn-of-requires
     put-answer-requires
     put-setup-requires
