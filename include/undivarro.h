@@ -6,8 +6,8 @@
  * An image has one of two forms, told apart by its last byte, 1 or 2. In form 2 each panel has a profile, general or
  * Phoenix, which says what its video may be, a kind, 5 by 5 or 15 by 10, which says how large its wall may be, and a
  * tiling, which says where in its wall it sits; in form 1 every panel is general and 5 by 5, and its tiling is fresh.
- * Every function reads both forms. undivarro_play, undivarro_read and undivarro_salvage write form 2; undivarro_back
- * writes form 1, for boxes that know no other.
+ * Every function reads both forms. undivarro_play, undivarro_play_on, undivarro_read and undivarro_salvage write form 2;
+ * undivarro_back writes form 1, for boxes that know no other.
  *
  * Every byte string is lent for the call as a pointer and a length. Any bytes and any lengths may be given; nothing
  * outside the lent lengths is read or written. The buffers that are written, answer or lines and out, overlap neither
@@ -52,11 +52,20 @@ enum {
  * for a 15 by 10 one. The position is at most H * V. In a set the byte 0 keeps the panel's wall, whose byte is stored and
  * reported; in an image it is not allowed. Fresh: 0, 0, 1, 1. */
 
-/* What was wrong with a burst: the first that holds, in this order. It is a fact about the burst alone, told also where
- * the box stays silent. */
+/* The edition of SICP that a line speaks, by its name without the point. It is set for a line and never guessed from what
+ * comes. A packet of 2.01 is size, ID, group, data, checksum, 4 to 40 bytes. A packet of 1.85 has no group byte: size, ID,
+ * data, checksum, 3 to 40 bytes, so up to 37 of data; ID 0 addresses all panels, any other ID one panel, and answers have no
+ * group byte either. The settings, and what is answered to what, are the same. */
+enum {
+    UNDIVARRO_SICP_1_85 = 185,
+    UNDIVARRO_SICP_2_01 = 201
+};
+
+/* What was wrong with a burst: the first that holds, in this order. It is a fact about the burst and the line's edition
+ * alone, told also where the box stays silent. */
 enum {
     UNDIVARRO_NO_DAMAGE = 0,            /* intact or empty */
-    UNDIVARRO_TOO_SHORT = 1,            /* 1 to 3 bytes */
+    UNDIVARRO_TOO_SHORT = 1,            /* 1 to 3 bytes, on a 1.85 line 1 to 2 */
     UNDIVARRO_TOO_LONG = 2,             /* over 40 bytes */
     UNDIVARRO_SIZE_DIFFERS = 3,         /* the first byte is not the count of bytes */
     UNDIVARRO_CHECKSUM_WRONG = 4        /* the last byte is not the XOR of those before it */
@@ -78,28 +87,37 @@ enum {
  *   19  answer_cap under 40, lines_cap under UNDIVARRO_LINES_CAP, or out_cap under the size of what is written: 45n + 2,
  *       35n + 2 for undivarro_back, 45k + 2 for undivarro_salvage; n is the image's panel count, and k of these panels
  *       are kept
+ *   23  undivarro_play_on only: edition is neither 185 nor 201
  *
  * 11 to 15 are tested on the whole image; then record after record, each its 16 and then field after field its 17 and
  * its 18; the first fault counts. undivarro_salvage does not refuse 16 to 18 but tells them in its lines. 31 comes after
- * all of these, and 19 last. */
+ * all of these, then 19, and 23 last. */
 struct undivarro_result {
     uint32_t refusal;
     uint32_t answer_len;                /* bytes written to answer, and 0 is silence; or to lines, and 0 is a sound image */
     uint32_t image_len;                 /* bytes written to out: 45n + 2, or 35n + 2 by undivarro_back, or 45k + 2 by
                                            undivarro_salvage */
-    uint32_t damage;                    /* of the burst; 0 from every function but undivarro_play */
+    uint32_t damage;                    /* of the burst; 0 from every function but undivarro_play and undivarro_play_on */
 };
 
-/* Plays one burst on the wall of the image. A burst is all the bytes between two quiet marks of the line, of any number,
- * none included. The answer packet, ready to be sent, goes to the front of answer, and the image after the burst to the
- * front of out, in form 2; the bytes past them stay as they were. A damaged burst is no refusal: its answer is NACK or
- * silence, and damage says what was wrong with it. Each panel judges a set by its own profile and kind, and a tiling whose
- * byte is 0 by the wall that it has: of a group, one may take it while its neighbour keeps what it had. Power off to a
+/* Plays one burst of a 2.01 line on the wall of the image. A burst is all the bytes between two quiet marks of the line, of
+ * any number, none included. The answer packet, ready to be sent, goes to the front of answer, and the image after the burst
+ * to the front of out, in form 2; the bytes past them stay as they were. A damaged burst is no refusal: its answer is NACK
+ * or silence, and damage says what was wrong with it. Each panel judges a set by its own profile and kind, and a tiling
+ * whose byte is 0 by the wall that it has: of a group, one may take it while its neighbour keeps what it had. Power off to a
  * panel that is off gets NAV and changes nothing; any other set to the value that is there, power on too, gets ACK. */
 struct undivarro_result undivarro_play(const uint8_t *image, size_t image_len,
                                        const uint8_t *burst, size_t burst_len,
                                        uint8_t *answer, size_t answer_cap,
                                        uint8_t *out, size_t out_cap);
+
+/* The same on a line of this edition, 185 or 201; undivarro_play is it with 201. A damaged burst gets NACK if its second byte
+ * is a panel's ID, and on a 2.01 line only if a third byte is there and is 0; else silence. */
+struct undivarro_result undivarro_play_on(uint32_t edition,
+                                          const uint8_t *image, size_t image_len,
+                                          const uint8_t *burst, size_t burst_len,
+                                          uint8_t *answer, size_t answer_cap,
+                                          uint8_t *out, size_t out_cap);
 
 /* Reads an image and writes its wall to the front of out in form 2, with all ten fields of each panel, by rising code:
  * fields may come in any order, but for a kind behind the tiling, and one that is left out has the fresh value of the

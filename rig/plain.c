@@ -11,7 +11,9 @@
 
 /* Packet and burst */
 
-enum { MIN_PACKET = 4, MAX_PACKET = 40 };
+/* The bytes before a packet's data, by the edition of its line (02's A11): size and ID, in 2.01 the group too. A damaged
+ * burst needs as many for its NACK. */
+enum { HEAD_1_85 = 2, HEAD_2_01 = 3, MAX_PACKET = 40 };
 enum { ACK = 0x06, NACK = 0x15, NAV = 0x18 };
 
 static uint8_t xor_of(const uint8_t *bytes, size_t len)
@@ -22,11 +24,22 @@ static uint8_t xor_of(const uint8_t *bytes, size_t len)
     return sum;
 }
 
-static uint32_t damage_of(const uint8_t *burst, size_t len)
+/* 0 for an edition that is unknown. */
+static size_t head_of(uint32_t edition)
+{
+    return edition == UNDIVARRO_SICP_1_85 ? HEAD_1_85 : edition == UNDIVARRO_SICP_2_01 ? HEAD_2_01 : 0;
+}
+
+static uint8_t group_in(const uint8_t *burst, size_t head)
+{
+    return head == HEAD_2_01 ? burst[2] : 0;
+}
+
+static uint32_t damage_of(const uint8_t *burst, size_t len, size_t head)
 {
     if (len == 0)
         return UNDIVARRO_NO_DAMAGE;
-    if (len < MIN_PACKET)
+    if (len < head + 1)                 /* the checksum is behind it */
         return UNDIVARRO_TOO_SHORT;
     if (len > MAX_PACKET)
         return UNDIVARRO_TOO_LONG;
@@ -36,21 +49,22 @@ static uint32_t damage_of(const uint8_t *burst, size_t len)
 }
 
 /* An answer packet from the panel: the first data byte, then the rest. Its length. */
-static size_t write_answer(uint8_t *answer, uint8_t id, uint8_t first, const uint8_t *rest, size_t rest_len)
+static size_t write_answer(uint8_t *answer, size_t head, uint8_t id, uint8_t first, const uint8_t *rest, size_t rest_len)
 {
-    size_t len = 5 + rest_len;
+    size_t len = head + 1 + rest_len + 1;
     answer[0] = (uint8_t)len;
     answer[1] = id;
-    answer[2] = 0;
-    answer[3] = first;
-    memcpy(answer + 4, rest, rest_len);
+    if (head == HEAD_2_01)
+        answer[2] = 0;
+    answer[head] = first;
+    memcpy(answer + head + 1, rest, rest_len);
     answer[len - 1] = xor_of(answer, len - 1);
     return len;
 }
 
-static size_t write_control(uint8_t *answer, uint8_t id, uint8_t control)
+static size_t write_control(uint8_t *answer, size_t head, uint8_t id, uint8_t control)
 {
-    return write_answer(answer, id, 0x00, &control, 1);
+    return write_answer(answer, head, id, 0x00, &control, 1);
 }
 
 /* Who is addressed */
@@ -101,30 +115,30 @@ static bool store_tiling(struct wall *wall, uint8_t id, uint8_t group, const uin
 }
 
 /* Answering a burst: the length of the answer. answer has room for 40 bytes. */
-static size_t answer_burst(struct wall *wall, const uint8_t *burst, size_t len, uint32_t damage, uint8_t *answer)
+static size_t answer_burst(struct wall *wall, size_t head, const uint8_t *burst, size_t len, uint32_t damage, uint8_t *answer)
 {
     if (len == 0)
         return 0;
     if (damage) {
-        if (len < 3 || burst[2] != 0 || !panel_with_id(wall, burst[1]))
+        if (len < head || group_in(burst, head) != 0 || !panel_with_id(wall, burst[1]))
             return 0;
-        return write_control(answer, burst[1], NACK);
+        return write_control(answer, head, burst[1], NACK);
     }
 
-    uint8_t id = burst[1], group = burst[2];
+    uint8_t id = burst[1], group = group_in(burst, head);
     /* Answers are due only where one panel is meant by its ID. */
     struct panel *answering = group == 0 && id != 0 ? panel_with_id(wall, id) : NULL;
 
-    const uint8_t *data = burst + 3;
-    size_t data_len = len - 4;
+    const uint8_t *data = burst + head;
+    size_t data_len = len - head - 1;
     const struct field *f;
     if (data_len == 1 && (f = setting_by_get_code(data[0])))
-        return answering ? write_answer(answer, id, f->get_code, answering->values + f->place, f->count) : 0;
+        return answering ? write_answer(answer, head, id, f->get_code, answering->values + f->place, f->count) : 0;
     bool taken = false;
     if (data_len > 1 && (f = setting_by_set_code(data[0])) && data_len - 1 == f->count)
         taken = f == &fields[TILING] ? store_tiling(wall, id, group, data + 1)
                                      : store(wall, id, group, f, data + 1, answering);
-    return answering ? write_control(answer, id, taken ? ACK : NAV) : 0;
+    return answering ? write_control(answer, head, id, taken ? ACK : NAV) : 0;
 }
 
 /* For C */
@@ -144,10 +158,11 @@ static struct undivarro_result written(const struct wall *wall, uint8_t form, ui
     return (struct undivarro_result){.image_len = (uint32_t)len};
 }
 
-struct undivarro_result plain_play(const uint8_t *image, size_t image_len,
-                                   const uint8_t *burst, size_t burst_len,
-                                   uint8_t *answer, size_t answer_cap,
-                                   uint8_t *out, size_t out_cap)
+struct undivarro_result plain_play_on(uint32_t edition,
+                                      const uint8_t *image, size_t image_len,
+                                      const uint8_t *burst, size_t burst_len,
+                                      uint8_t *answer, size_t answer_cap,
+                                      uint8_t *out, size_t out_cap)
 {
     struct wall wall;
     uint32_t refusal = read_image(image, image_len, &wall);
@@ -155,15 +170,26 @@ struct undivarro_result plain_play(const uint8_t *image, size_t image_len,
         return refused(refusal);
     if (answer_cap < UNDIVARRO_ANSWER_CAP || out_cap < image_len_of(&wall, FORM_2))
         return refused(19);
+    size_t head = head_of(edition);
+    if (head == 0)
+        return refused(23);
 
-    uint32_t damage = damage_of(burst, burst_len);
-    size_t answer_len = answer_burst(&wall, burst, burst_len, damage, answer);
+    uint32_t damage = damage_of(burst, burst_len, head);
+    size_t answer_len = answer_burst(&wall, head, burst, burst_len, damage, answer);
     write_image(&wall, FORM_2, out);
     return (struct undivarro_result){
         .answer_len = (uint32_t)answer_len,
         .image_len = (uint32_t)image_len_of(&wall, FORM_2),
         .damage = damage,
     };
+}
+
+struct undivarro_result plain_play(const uint8_t *image, size_t image_len,
+                                   const uint8_t *burst, size_t burst_len,
+                                   uint8_t *answer, size_t answer_cap,
+                                   uint8_t *out, size_t out_cap)
+{
+    return plain_play_on(UNDIVARRO_SICP_2_01, image, image_len, burst, burst_len, answer, answer_cap, out, out_cap);
 }
 
 struct undivarro_result plain_read(const uint8_t *image, size_t image_len,

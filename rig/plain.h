@@ -9,6 +9,12 @@ struct undivarro_result plain_play(const uint8_t *image, size_t image_len,
                                    uint8_t *answer, size_t answer_cap,
                                    uint8_t *out, size_t out_cap);
 
+struct undivarro_result plain_play_on(uint32_t edition,
+                                      const uint8_t *image, size_t image_len,
+                                      const uint8_t *burst, size_t burst_len,
+                                      uint8_t *answer, size_t answer_cap,
+                                      uint8_t *out, size_t out_cap);
+
 struct undivarro_result plain_read(const uint8_t *image, size_t image_len,
                                    uint8_t *out, size_t out_cap);
 
