@@ -2,6 +2,7 @@
 #ifndef BOX_H
 #define BOX_H
 
+#include "edition.h"
 #include "setup.h"
 
 struct reply {
@@ -11,7 +12,8 @@ struct reply {
     struct setup after;                 /* the setup behind the burst */
 };
 
-/* 0, or the library's refusal of the setup. */
-uint32_t play_burst(const struct setup *setup, const uint8_t *burst, size_t len, struct reply *reply);
+/* On a line of the edition. 0, or the library's refusal of the setup. */
+uint32_t play_burst(const struct edition *edition, const struct setup *setup, const uint8_t *burst, size_t len,
+                    struct reply *reply);
 
 #endif

@@ -5,12 +5,22 @@
 #include <stddef.h>
 #include <stdint.h>
 
-/* log_path is NULL where no log is wanted. */
-int play(const char *path, const char *log_path);
+#include "edition.h"
+
+/* What `rig play` is given. */
+struct playing {
+    const char *image;
+    const struct edition *edition;
+    const char *log;                    /* or NULL */
+};
+/* From its arguments; the status may be MISFIT. */
+int read_playing(int count, char **given, struct playing *playing);
+int play(const struct playing *playing);
 
 /* What `rig serve` is given. */
 struct serving {
     const char *device, *image;
+    const struct edition *edition;
     const char *log;                    /* or NULL */
     unsigned baud;
     int64_t quiet;                      /* nanoseconds */

@@ -108,12 +108,12 @@ static void print_played(FILE *to, const void *of)
     fprintf(to, "%lu:", played->number);
     print_bytes(to, played->burst, played->len, played->shown);
     fputs(": ", to);
-    say_burst(to, played->burst, played->len, reply->damage);
+    say_burst(to, played->edition, played->burst, played->len, reply->damage);
     fputs(": ", to);
     if (played->failure)
         fprintf(to, "silence, since the setup is not kept (cannot %s, %s)", played->failure->failed_at, played->failure->why);
     else
-        say_answer(to, played->burst, played->len, reply->answer, reply->len);
+        say_answer(to, played->edition, played->burst, played->len, reply->answer, reply->len);
 }
 
 static void print_remark(FILE *to, const void *of)

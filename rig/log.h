@@ -18,6 +18,7 @@ struct log {
 struct played {
     unsigned long number;
     const struct timespec *at;          /* when it came, or NULL where no time is wanted */
+    const struct edition *edition;      /* of its line */
     const uint8_t *burst;
     size_t len;
     size_t shown;                       /* of its bytes these are at hand, from the front */

@@ -94,6 +94,8 @@ const char *refusal_words(uint32_t refusal)
         return "field: value not allowed";
     case 19:
         return "lent output too short: image under 45n + 2 bytes, in form 1 under 35n + 2, answer or packet under 40";
+    case 23:
+        return "edition: neither 1.85 nor 2.01";
     case 31:
         return "writing form 1 while a panel is Phoenix or 15x10, or has a tiling that is not fresh";
     default:

@@ -48,6 +48,7 @@ static void print_answer(const uint8_t *answer, size_t len)
 
 struct session {
     const char *path;
+    const struct edition *edition;
     struct setup setup;
     int held;                           /* or -1 while another program has the setup */
     pid_t holder;                       /* that one */
@@ -67,7 +68,7 @@ static int play_on(struct session *session, const uint8_t *burst, size_t len, st
 {
     int status = session->held < 0 ? load(session->path, -1, &session->setup, NULL) : DONE;
     while (status == DONE) {
-        uint32_t refusal = play_burst(&session->setup, burst, len, reply);
+        uint32_t refusal = play_burst(session->edition, &session->setup, burst, len, reply);
         if (refusal)
             return refused(session->path, refusal);
         if (session->held >= 0 || same_setup(&reply->after, &session->setup))
@@ -97,8 +98,8 @@ static int play_one(struct session *session, unsigned long number, const uint8_t
     if (status == DONE)
         status = keep_if_changed(session, &reply.after);
     if (status == DONE && session->log)
-        status = log_burst(session->log, &(struct played){.number = number, .burst = burst, .len = len, .shown = len,
-                                                          .reply = &reply});
+        status = log_burst(session->log, &(struct played){.number = number, .edition = session->edition, .burst = burst,
+                                                          .len = len, .shown = len, .reply = &reply});
     if (status != DONE)
         return status;
     print_answer(reply.answer, reply.len);
@@ -127,13 +128,14 @@ static int play_lines(struct session *session)
     return status;
 }
 
-int play(const char *path, const char *log_path)
+int play(const struct playing *playing)
 {
-    struct session session = {.path = path, .held = -1};
-    struct log log = {.path = log_path, .fd = -1, .never = {&session.held, NULL}};
-    session.log = log_path ? &log : NULL;
+    const char *path = playing->image;
+    struct session session = {.path = path, .edition = playing->edition, .held = -1};
+    struct log log = {.path = playing->log, .fd = -1, .never = {&session.held, NULL}};
+    session.log = playing->log ? &log : NULL;
     int status = take_up(&session);
-    if (status == DONE && log_path)
+    if (status == DONE && session.log)
         status = open_log(&log, path);
     if (status == DONE && session.held < 0) {
         taken(path, session.holder);

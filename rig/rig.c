@@ -13,8 +13,8 @@
 #include "status.h"
 
 static const char usage[] =
-    "usage: rig serve DEVICE IMAGE [--baud N] [--quiet MS] [--log FILE]   answers on a serial line\n"
-    "       rig play IMAGE [--log FILE]   plays bursts from standard input, one in hex on each line\n"
+    "usage: rig serve DEVICE IMAGE [--sicp EDITION] [--baud N] [--quiet MS] [--log FILE]   answers on a serial line\n"
+    "       rig play IMAGE [--sicp EDITION] [--log FILE]   plays bursts from standard input, one in hex on each line\n"
     "       rig new IMAGE [PANEL ...]     a new setup of up to 32 fresh panels, in this order\n"
     "       rig show IMAGE                the panels of a setup\n"
     "       rig diff A B                  what differs between two setups\n"
@@ -25,6 +25,8 @@ static const char usage[] =
     "or 57600, and 9600 where nothing is said. MS milliseconds without a byte end a burst; where nothing is said it is the\n"
     "time of three and a half bytes, but at least 20 ms. SIGTERM and SIGINT end it between two bursts, SIGHUP opens the log\n"
     "anew. A setup that another rig has is refused; play then answers bursts that change nothing, and ends at one that would.\n"
+    "EDITION is the SICP that the hosts of the line speak: 1.85, whose packets have no group byte, or 2.01, which it is where\n"
+    "nothing is said. It is never guessed.\n"
     "For play, a burst's bytes have two hex digits each, with or without spaces between bytes; an empty line is an empty\n"
     "burst. The answer is printed in hex, or - for silence.\n"
     "IMAGE is written at each burst that changes a setting, before its answer goes out, and at no other time. With --log a\n"
@@ -47,9 +49,9 @@ static int run_serve(int count, char **given)
 
 static int run_play(int count, char **given)
 {
-    if (count == 1)
-        return play(given[0], NULL);
-    return count == 3 && strcmp(given[1], "--log") == 0 ? play(given[0], given[2]) : MISFIT;
+    struct playing playing;
+    int status = read_playing(count, given, &playing);
+    return status == DONE ? play(&playing) : status;
 }
 
 static int run_new(int count, char **given)
@@ -82,8 +84,9 @@ static const struct command {
     int (*run)(int count, char **given);
     const char *takes;
 } commands[] = {
-    {"serve", run_serve, "a DEVICE and an IMAGE, and then --baud N, --quiet MS and --log FILE where they are wanted"},
-    {"play", run_play, "one IMAGE, and --log FILE where a log is wanted"},
+    {"serve", run_serve,
+     "a DEVICE and an IMAGE, and then --sicp EDITION, --baud N, --quiet MS and --log FILE where they are wanted"},
+    {"play", run_play, "one IMAGE, and then --sicp EDITION and --log FILE where they are wanted"},
     {"new", run_new, "an IMAGE and then panels"},
     {"show", run_show, "one IMAGE"},
     {"diff", run_diff, "two setups"},

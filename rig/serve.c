@@ -162,19 +162,20 @@ static void answer(struct server *server, const struct reply *reply)
     server->unheard = false;
 }
 
-/* What the box says to a burst over 40 bytes goes by its second and third byte alone, so its front stands for it. */
+/* What the box says to a burst over 40 bytes goes by its second and third byte at most, so its front stands for it. */
 static void serve_burst(struct server *server, const struct burst *burst)
 {
     struct reply reply;
     struct failure failure;
     size_t shown = burst->len < BURST_FRONT ? burst->len : BURST_FRONT;
-    uint32_t refusal = play_burst(&server->setup, burst->front, shown, &reply);
+    uint32_t refusal = play_burst(server->serving->edition, &server->setup, burst->front, shown, &reply);
     if (refusal) {
         refused(server->serving->image, refusal);
         return;
     }
     bool kept = keep_changed(server, &reply.after, &failure);
-    struct played played = {++server->number, &burst->at, burst->front, burst->len, shown, &reply, kept ? NULL : &failure};
+    struct played played = {++server->number, &burst->at, server->serving->edition, burst->front, burst->len, shown, &reply,
+                            kept ? NULL : &failure};
     if (server->serving->log)
         meet_log(server, try_log(&server->log, &played));
     if (kept)
@@ -313,8 +314,8 @@ static int open_server(struct server *server)
 static void tell_ready(const struct serving *serving)
 {
     char *line;
-    int len = asprintf(&line, "serving %s on %s at %u baud, a burst ends after %.*f ms of quiet\n", serving->image,
-                       serving->device, serving->baud, serving->quiet % MILLISECOND ? 1 : 0,
+    int len = asprintf(&line, "serving %s on %s at %u baud, SICP %s, a burst ends after %.*f ms of quiet\n", serving->image,
+                       serving->device, serving->baud, serving->edition->name, serving->quiet % MILLISECOND ? 1 : 0,
                        (double)serving->quiet / MILLISECOND);
     if (len < 0)
         return;

@@ -8,6 +8,7 @@
 #include "clock.h"
 #include "commands.h"
 #include "device.h"
+#include "options.h"
 #include "status.h"
 
 enum { LONGEST_QUIET = 60000, LEAST_USUAL_QUIET = 20 };  /* milliseconds */
@@ -54,10 +55,7 @@ static int read_option(const char *name, const char *text, struct serving *servi
         return read_baud(text, serving);
     if (strcmp(name, "--quiet") == 0 && !serving->quiet)
         return read_quiet(text, serving);
-    if (strcmp(name, "--log") != 0 || serving->log)
-        return MISFIT;
-    serving->log = text;
-    return DONE;
+    return read_shared_option(name, text, &serving->edition, &serving->log);
 }
 
 static int64_t usual_quiet(unsigned baud)
@@ -77,6 +75,8 @@ int read_serving(int count, char **given, struct serving *serving)
         if (status != DONE)
             return status;
     }
+    if (!serving->edition)
+        serving->edition = &editions[USUAL_EDITION];
     if (!serving->baud)
         serving->baud = USUAL_BAUD;
     if (!serving->quiet)

@@ -5,8 +5,6 @@
 #include "tiling.h"
 #include "undivarro.h"
 
-/* A packet: size, ID, group, data, checksum. */
-enum { SIZE_AT, ID_AT, GROUP_AT, DATA_AT, AROUND_DATA };
 enum { CONTROL = 0x00 };
 
 static const char *plural(size_t count)
@@ -78,18 +76,18 @@ static void say_data(FILE *to, const uint8_t *data, size_t len)
     }
 }
 
-static void say_damage(FILE *to, const uint8_t *burst, size_t len, uint32_t damage)
+static void say_damage(FILE *to, const struct edition *edition, const uint8_t *burst, size_t len, uint32_t damage)
 {
     fputs(damage_name(damage), to);
     switch (damage) {
     case UNDIVARRO_TOO_SHORT:
-        fprintf(to, ", %zu byte%s and a packet has at least 4", len, plural(len));
+        fprintf(to, ", %zu byte%s and a packet has at least %zu", len, plural(len), shortest_packet(edition));
         break;
     case UNDIVARRO_TOO_LONG:
         fprintf(to, ", %zu bytes and a packet has at most 40", len);
         break;
     case UNDIVARRO_SIZE_DIFFERS:
-        fprintf(to, ", the first byte says %u and %zu bytes came", burst[SIZE_AT], len);
+        fprintf(to, ", the first byte says %u and %zu bytes came", burst[0], len);
         break;
     case UNDIVARRO_CHECKSUM_WRONG:
         fprintf(to, ", the last byte is %02X and the others give %02X", burst[len - 1], xor_of(burst, len - 1));
@@ -97,16 +95,25 @@ static void say_damage(FILE *to, const uint8_t *burst, size_t len, uint32_t dama
     }
 }
 
-void say_burst(FILE *to, const uint8_t *burst, size_t len, uint32_t damage)
+static void say_packet(FILE *to, const struct edition *edition, const uint8_t *burst, size_t len)
 {
-    if (damage != UNDIVARRO_NO_DAMAGE) {
-        say_damage(to, burst, len, damage);
-    } else if (len == 0) {
+    struct packet packet = read_packet(edition, burst, len);
+    fprintf(to, "ID %u, ", packet.id);
+    if (has_group(edition))
+        fprintf(to, "group %u, ", packet.group);
+    say_data(to, packet.data, packet.len);
+}
+
+void say_burst(FILE *to, const struct edition *edition, const uint8_t *burst, size_t len, uint32_t damage)
+{
+    if (edition != &editions[USUAL_EDITION])
+        fprintf(to, "SICP %s, ", edition->name);
+    if (damage != UNDIVARRO_NO_DAMAGE)
+        say_damage(to, edition, burst, len, damage);
+    else if (len == 0)
         fputs("no bytes", to);
-    } else {
-        fprintf(to, "ID %u, group %u, ", burst[ID_AT], burst[GROUP_AT]);
-        say_data(to, burst + DATA_AT, len - AROUND_DATA);
-    }
+    else
+        say_packet(to, edition, burst, len);
 }
 
 static const char *control_name(uint8_t control)
@@ -114,23 +121,27 @@ static const char *control_name(uint8_t control)
     return control == ACK ? "ACK" : control == NACK ? "NACK" : "NAV";
 }
 
-static bool is_power_off(const uint8_t *data, size_t len)
+static bool is_power_off(struct packet packet)
 {
-    return len == 2 && data[0] == settings[POWER].set_code && data[1] == OFF;
+    return packet.len == 2 && packet.data[0] == settings[POWER].set_code && packet.data[1] == OFF;
 }
 
-void say_answer(FILE *to, const uint8_t *burst, size_t burst_len, const uint8_t *answer, size_t len)
+void say_answer(FILE *to, const struct edition *edition, const uint8_t *burst, size_t burst_len, const uint8_t *answer,
+                size_t len)
 {
     if (len == 0) {
         fputs("silence", to);
-    } else if (answer[DATA_AT] == CONTROL) {
-        uint8_t control = answer[DATA_AT + 1];
-        fprintf(to, "%s from panel %u", control_name(control), answer[ID_AT]);
+        return;
+    }
+    struct packet packet = read_packet(edition, answer, len);
+    if (packet.data[0] == CONTROL) {
+        uint8_t control = packet.data[1];
+        fprintf(to, "%s from panel %u", control_name(control), packet.id);
         /* NAV comes to intact bursts only, and to this one for no other reason. */
-        if (control == NAV && is_power_off(burst + DATA_AT, burst_len - AROUND_DATA))
+        if (control == NAV && is_power_off(read_packet(edition, burst, burst_len)))
             fputs(", which is off already", to);
     } else {
-        fprintf(to, "report from panel %u, ", answer[ID_AT]);
-        say_setting(to, setting_of(answer[DATA_AT]), answer + DATA_AT + 1);
+        fprintf(to, "report from panel %u, ", packet.id);
+        say_setting(to, setting_of(packet.data[0]), packet.data + 1);
     }
 }

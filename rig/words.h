@@ -2,14 +2,16 @@
 #ifndef WORDS_H
 #define WORDS_H
 
-#include <stddef.h>
-#include <stdint.h>
 #include <stdio.h>
 
-/* What the burst asks for, or what was wrong with it; damage is what the library told of it. */
-void say_burst(FILE *to, const uint8_t *burst, size_t len, uint32_t damage);
+#include "edition.h"
+
+/* What the burst asks for, or what was wrong with it; damage is what the library told of it. On a line of another edition
+ * than the usual one its name comes first. */
+void say_burst(FILE *to, const struct edition *edition, const uint8_t *burst, size_t len, uint32_t damage);
 
 /* What the box answered to the burst; no bytes are silence. */
-void say_answer(FILE *to, const uint8_t *burst, size_t burst_len, const uint8_t *answer, size_t len);
+void say_answer(FILE *to, const struct edition *edition, const uint8_t *burst, size_t burst_len, const uint8_t *answer,
+                size_t len);
 
 #endif
