@@ -7,9 +7,9 @@
 
 const char *const burst_kind_names[BURST_KINDS] = {
     "empty", "get", "set", "set with any values", "set of video for one profile", "power off or on", "tiling",
-    "set with any length", "get with bytes behind it", "any code", "code of the kind, or 0", "no data", "36 bytes of data",
-    "one byte changed", "one byte lost", "one byte added", "two bytes swapped", "1 to 3 bytes", "41 to 300 bytes",
-    "over 65,535 bytes", "3 to 5 or 39 to 41 bytes", "random bytes",
+    "set with any length", "get with bytes behind it", "any code", "code of the kind, or 0", "no data",
+    "as much data as fits", "packet of the other edition", "one byte changed", "one byte lost", "one byte added",
+    "two bytes swapped", "1 to 3 bytes", "41 to 300 bytes", "over 65,535 bytes", "2 to 5 or 39 to 41 bytes", "random bytes",
 };
 
 static void set_checksum(uint8_t *burst, size_t len)
@@ -24,14 +24,14 @@ static void close_packet(uint8_t *burst, size_t len)
 }
 
 /* To the panel, if there is one, its group, or all. A set that panels may judge each in its own way goes to all or to a
- * group more often. */
+ * group more often. A packet without a group byte has its data in the group's place. */
 static void address(struct source *s, enum burst_kind kind, const struct record *panel, uint8_t *id, uint8_t *group)
 {
     uint8_t an_id = panel ? panel->bytes[0] : any_byte(s), a_group = panel ? panel->bytes[1] : any_byte(s);
     bool judged = kind == BURST_SET_ONE_PROFILE || kind == BURST_SET_POWER || kind == BURST_SET_TILING;
     *id = an_id;
     *group = 0;
-    switch (below(s, judged ? 3 : 8)) {
+    switch (judged && one_in(s, 4) ? 1 : below(s, judged ? 3 : 8)) {
     case 0:
         *id = 0;
         break;
@@ -68,11 +68,12 @@ static size_t make_short(struct source *s, uint8_t *burst)
 }
 
 /* At one of the limits of a packet's length or beside it; the size right or wrong, and the XOR as well. */
-static size_t make_limit(struct source *s, uint8_t *burst)
+static size_t make_limit(struct source *s, const struct edition *form, uint8_t *burst)
 {
-    static const uint8_t lens[] = {3, 4, 5, 39, 40, 41};
+    static const uint8_t lens[] = {2, 3, 4, 5, 39, 40, 41};
     size_t len = lens[below(s, sizeof lens)];
-    fill_any(s, burst + 3, len - 3);
+    if (len > form->head)
+        fill_any(s, burst + form->head, len - form->head);
     burst[0] = one_in(s, 4) ? any_byte(s) : (uint8_t)(one_in(s, 3) ? len - 1 + 2 * below(s, 2) : len);
     set_checksum(burst, len);
     if (one_in(s, 2))
@@ -106,7 +107,7 @@ static size_t make_random(struct source *s, uint8_t *burst)
 }
 
 /* An intact burst made into one of the kind; its length then. */
-static size_t spoil_burst(struct source *s, enum burst_kind kind, uint8_t *burst, size_t len)
+static size_t spoil_burst(struct source *s, enum burst_kind kind, const struct edition *form, uint8_t *burst, size_t len)
 {
     size_t at = below(s, (unsigned)len);
     switch (kind) {
@@ -134,7 +135,7 @@ static size_t spoil_burst(struct source *s, enum burst_kind kind, uint8_t *burst
     case BURST_VERY_LONG:
         return make_long(s, burst, len, one_in(s, 3) ? 65536 : 65536 + below(s, 64));
     case BURST_LIMIT:
-        return make_limit(s, burst);
+        return make_limit(s, form, burst);
     case BURST_RANDOM:
         return make_random(s, burst);
     default:
@@ -154,27 +155,43 @@ static const struct record *choose_panel(struct source *s, enum burst_kind kind,
     return panel;
 }
 
+/* In which the packet is made: the line's own, but for one that is meant to be the other's. */
+static const struct edition *choose_form(struct source *s, enum burst_kind kind, const struct edition *line)
+{
+    if (!line)
+        return &editions[below(s, EDITIONS)];
+    bool old = line == &editions[SICP_1_85];
+    return &editions[old == (kind == BURST_OTHER_EDITION) ? SICP_2_01 : SICP_1_85];
+}
+
+/* Of what kind the data is that is then spoiled, or put into the other edition's form. */
+static enum burst_kind choose_data(struct source *s, enum burst_kind kind)
+{
+    if (kind == BURST_OTHER_EDITION)
+        return one_in(s, 5) ? BURST_NO_DATA : one_in(s, 2) ? BURST_GET : BURST_SET;
+    return kind >= BURST_CHANGED && one_in(s, 2) ? BURST_GET : kind;
+}
+
 void make_burst(struct source *s, struct test_case *c, const struct draft *d)
 {
     static const enum burst_kind often[] = {
         BURST_SET_ONE_PROFILE, BURST_SET_ONE_PROFILE, BURST_SET_ONE_PROFILE, BURST_SET_POWER, BURST_SET_POWER,
         BURST_SET_TILING, BURST_SET_TILING, BURST_SET_TILING, BURST_SET_TILING, BURST_SET_TILING, BURST_SET_TILING,
-        BURST_SET_TILING, BURST_SET_TILING, BURST_SET_TILING, BURST_SET_TILING, BURST_SET, BURST_GET, BURST_LIMIT,
-        BURST_LONG,
+        BURST_SET_TILING, BURST_SET_TILING, BURST_SET_TILING, BURST_SET_TILING, BURST_SET, BURST_GET, BURST_GET,
+        BURST_GET, BURST_LIMIT, BURST_LIMIT, BURST_LIMIT, BURST_SHORT, BURST_LONG,
     };
     enum burst_kind kind = one_in(s, 2) ? often[below(s, sizeof often / sizeof often[0])] : below(s, BURST_KINDS);
-    if (kind == BURST_VERY_LONG && !one_in(s, 5))
+    if (kind == BURST_VERY_LONG && !one_in(s, 3))
         kind = BURST_GET;
     c->burst_kind = kind;
 
     const struct record *panel = choose_panel(s, kind, d);
+    const struct edition *form = choose_form(s, kind, c->line);
     uint8_t *burst = c->burst, data[64] = {0};
     address(s, kind, panel, &burst[1], &burst[2]);
-    enum burst_kind data_kind = kind;
-    if (kind >= BURST_CHANGED && one_in(s, 2))
-        data_kind = BURST_GET;
-    size_t data_len = make_data(s, data_kind, panel, data);
-    memcpy(burst + 3, data, data_len);
-    close_packet(burst, data_len + AROUND_DATA);
-    c->burst_len = spoil_burst(s, kind, burst, data_len + AROUND_DATA);
+    size_t around = shortest_packet(form);
+    size_t data_len = make_data(s, choose_data(s, kind), panel, MAX_PACKET - (unsigned)around, data);
+    memcpy(burst + form->head, data, data_len);
+    close_packet(burst, data_len + around);
+    c->burst_len = spoil_burst(s, kind, form, burst, data_len + around);
 }

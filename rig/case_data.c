@@ -38,7 +38,7 @@ static unsigned choose_row(struct source *s, enum burst_kind kind)
     }
 }
 
-size_t make_data(struct source *s, enum burst_kind kind, const struct record *panel, uint8_t *data)
+size_t make_data(struct source *s, enum burst_kind kind, const struct record *panel, unsigned most, uint8_t *data)
 {
     unsigned row = choose_row(s, kind);
     switch (kind) {
@@ -46,11 +46,11 @@ size_t make_data(struct source *s, enum burst_kind kind, const struct record *pa
         data[0] = settings[row].get_code;
         return 1;
     case BURST_GET_LENGTH:
-        fill_any(s, data, MAX_DATA);
+        fill_any(s, data, most);
         data[0] = settings[row].get_code;
-        return one_in(s, 2) ? 1u + settings[row].count : 2 + below(s, MAX_DATA - 1);
+        return one_in(s, 2) ? 1u + settings[row].count : 2 + below(s, most - 1);
     case BURST_UNKNOWN:
-        fill_any(s, data, MAX_DATA);
+        fill_any(s, data, most);
         data[0] = any_code(s);
         return 1 + below(s, 9);
     case BURST_KIND:                    /* as a get, as a set of a kind, and longer; and code 0, beside it */
@@ -60,9 +60,9 @@ size_t make_data(struct source *s, enum burst_kind kind, const struct record *pa
     case BURST_NO_DATA:
         return 0;
     case BURST_FULL:
-        memset(data, (int)below(s, 3), MAX_DATA);
+        memset(data, (int)below(s, 3), most);
         data[0] = one_in(s, 2) ? settings[row].set_code : any_code(s);
-        return MAX_DATA;
+        return most;
     default:
         return make_set(s, kind, row, panel, data);
     }

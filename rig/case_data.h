@@ -4,9 +4,9 @@
 
 #include "case_records.h"
 
-enum { AROUND_DATA = 4, MAX_PACKET = 40, MAX_DATA = MAX_PACKET - AROUND_DATA };
+enum { MAX_PACKET = 40 };
 
-/* Of the kind, for the panel if there is one; the bytes are 0 before. Their number. */
-size_t make_data(struct source *s, enum burst_kind kind, const struct record *panel, uint8_t *data);
+/* Of the kind, for the panel if there is one, and so many at most; the bytes are 0 before. Their number. */
+size_t make_data(struct source *s, enum burst_kind kind, const struct record *panel, unsigned most, uint8_t *data);
 
 #endif

@@ -4,8 +4,29 @@
 #include "case_images.h"
 #include "plain.h"
 
-const char *const call_names[CALLS] = {"play", "read", "back", "salvage"};
+const char *const call_names[CALLS] = {"play", "play on a line of an edition", "read", "back", "salvage"};
 const char *const room_kind_names[ROOM_KINDS] = {"exact", "ample", "at the limits", "for the other form", "any"};
+
+const uint32_t unknown_editions[UNKNOWN_EDITIONS] = {
+    0, 1, 2, 16, 160, 184, 186, 200, 202, 255, 185 + 0x100, 201 + 0x100, 0x185, 0x201, 185 + 0x10000, 201 + 0x10000, UINT32_MAX,
+};
+
+bool is_play(const struct test_case *c)
+{
+    return c->call == CALL_PLAY || c->call == CALL_PLAY_ON;
+}
+
+static void choose_edition(struct source *s, struct test_case *c)
+{
+    unsigned which = c->call == CALL_PLAY_ON ? below(s, 20) : 20;
+    if (which < 10)
+        c->edition = UNDIVARRO_SICP_1_85;
+    else if (which < 13)
+        c->edition = one_in(s, 8) ? (uint32_t)next(s) : unknown_editions[below(s, UNKNOWN_EDITIONS)];
+    else
+        c->edition = UNDIVARRO_SICP_2_01;
+    c->line = edition_by_number(c->edition);
+}
 
 static size_t edge(struct source *s, size_t needed)
 {
@@ -71,12 +92,16 @@ static void make_room(struct source *s, struct test_case *c, size_t n)
 
 void make_case(uint64_t seed, uint64_t number, struct test_case *c)
 {
-    static const enum call calls[] = {CALL_PLAY, CALL_PLAY, CALL_PLAY, CALL_READ, CALL_BACK, CALL_SALVAGE};
+    static const enum call calls[] = {
+        CALL_PLAY, CALL_PLAY, CALL_PLAY_ON, CALL_PLAY_ON, CALL_PLAY_ON, CALL_PLAY_ON, CALL_PLAY_ON, CALL_READ, CALL_BACK,
+        CALL_BACK, CALL_SALVAGE, CALL_SALVAGE,
+    };
     struct source s = {seed};
     s.state = next(&s) ^ number * 0xD1342543DE82EF95u;
     struct draft draft;
     c->call = calls[below(&s, sizeof calls / sizeof calls[0])];
     c->fill = next(&s);
+    choose_edition(&s, c);
     make_image(&s, c, &draft);
     make_burst(&s, c, &draft);
     make_room(&s, c, draft.count);

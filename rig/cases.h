@@ -1,5 +1,5 @@
-/* Random cases for the comparison: a call, a setup image, a burst, and how much room is lent for answer or lines and for
- * output. A case is made from the seed and its number alone, and is the same on every machine. */
+/* Random cases for the comparison: a call, the edition of its line, a setup image, a burst, and how much room is lent for
+ * answer or lines and for output. A case is made from the seed and its number alone, and is the same on every machine. */
 #ifndef CASES_H
 #define CASES_H
 
@@ -7,9 +7,11 @@
 #include <stddef.h>
 #include <stdint.h>
 
+#include "edition.h"
+
 enum { MAX_IMAGE_BYTES = 70000, MAX_BURST_BYTES = 70000, MAX_ROOM = 3300 };
 
-enum call { CALL_PLAY, CALL_READ, CALL_BACK, CALL_SALVAGE, CALLS };
+enum call { CALL_PLAY, CALL_PLAY_ON, CALL_READ, CALL_BACK, CALL_SALVAGE, CALLS };
 
 /* What was done to the image last; a case may have up to three spoilings, and one spoiling may hide another. A wreck has
  * them in many of its records. */
@@ -27,7 +29,7 @@ enum image_kind {
 enum burst_kind {
     BURST_EMPTY, BURST_GET, BURST_SET, BURST_SET_ANY_VALUE, BURST_SET_ONE_PROFILE, BURST_SET_POWER, BURST_SET_TILING,
     BURST_SET_LENGTH, BURST_GET_LENGTH, BURST_UNKNOWN, BURST_KIND,
-    BURST_NO_DATA, BURST_FULL, BURST_CHANGED, BURST_LOST, BURST_ADDED, BURST_SWAPPED, BURST_SHORT, BURST_LONG,
+    BURST_NO_DATA, BURST_FULL, BURST_OTHER_EDITION, BURST_CHANGED, BURST_LOST, BURST_ADDED, BURST_SWAPPED, BURST_SHORT, BURST_LONG,
     BURST_VERY_LONG, BURST_LIMIT, BURST_RANDOM,
     BURST_KINDS
 };
@@ -50,8 +52,14 @@ extern const char *const image_kind_names[IMAGE_KINDS];
 extern const char *const burst_kind_names[BURST_KINDS];
 extern const char *const room_kind_names[ROOM_KINDS];
 
+/* Numbers of no edition: those beside one, those that are one in 8 bits or in 16, and others that one might be taken for. */
+enum { UNKNOWN_EDITIONS = 17 };
+extern const uint32_t unknown_editions[UNKNOWN_EDITIONS];
+
 struct test_case {
     enum call call;
+    uint32_t edition;                   /* the number that play_on is given; of the other calls 201 */
+    const struct edition *line;         /* which that is, or NULL */
     enum image_kind image_kind;
     unsigned spoilings;                 /* of the image */
     struct spoiled spoiled;
@@ -65,6 +73,9 @@ struct test_case {
     uint8_t image[MAX_IMAGE_BYTES];
     uint8_t burst[MAX_BURST_BYTES];
 };
+
+/* It plays its burst. */
+bool is_play(const struct test_case *c);
 
 void make_case(uint64_t seed, uint64_t number, struct test_case *c);
 

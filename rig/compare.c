@@ -13,11 +13,12 @@
 #include "tally.h"
 #include "trial.h"
 
-static const struct box plain = {"plain", plain_play, plain_read, plain_back, plain_salvage};
+static const struct box plain = {"plain", plain_play, plain_play_on, plain_read, plain_back, plain_salvage};
 #ifdef PLAIN_ALONE
 static const struct box *const proved = NULL;
 #else
-static const struct box proved_box = {"proved", undivarro_play, undivarro_read, undivarro_back, undivarro_salvage};
+static const struct box proved_box = {"proved", undivarro_play, undivarro_play_on, undivarro_read, undivarro_back,
+                                      undivarro_salvage};
 static const struct box *const proved = &proved_box;
 #endif
 
@@ -42,8 +43,8 @@ static void print_case(uint64_t seed, uint64_t number, const struct test_case *c
 {
     printf("case %" PRIu64 " of seed %" PRIu64 " (again: compare 1 %" PRIu64 " %" PRIu64 "): %s\n", number, seed, seed, number,
            call_names[c->call]);
-    printf("  image: %s; burst: %s; room: %s\n", image_kind_names[c->image_kind], burst_kind_names[c->burst_kind],
-           room_kind_names[c->room_kind]);
+    printf("  edition: %" PRIu32 "; image: %s; burst: %s; room: %s\n", c->edition, image_kind_names[c->image_kind],
+           burst_kind_names[c->burst_kind], room_kind_names[c->room_kind]);
     print_hex("image", c->image, c->image_len);
     print_hex("burst", c->burst, c->burst_len);
     print_hex("fill", (const uint8_t *)&c->fill, sizeof c->fill);

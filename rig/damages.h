@@ -17,9 +17,13 @@ struct damages {
     unsigned long at_limit[LIMITS];
 };
 
-/* Of a play. */
+/* Of the case's burst on a line of the edition with this number, whatever image and room are. */
+uint32_t damage_on(uint32_t edition, const struct test_case *c);
+
+/* Of a play on a line of an edition, to the counts of that edition. */
 void count_damage(struct damages *d, const struct test_case *c, const struct trial *by_plain);
 
 const char *limit_name(unsigned limit);
+uint32_t limit_damage(unsigned limit, unsigned edition);
 
 #endif

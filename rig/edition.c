@@ -37,11 +37,16 @@ size_t shortest_packet(const struct edition *edition)
     return edition->head + 1;
 }
 
+uint8_t group_in(const struct edition *edition, const uint8_t *burst)
+{
+    return has_group(edition) ? burst[GROUP_AT] : 0;
+}
+
 struct packet read_packet(const struct edition *edition, const uint8_t *burst, size_t len)
 {
     return (struct packet){
         .id = burst[ID_AT],
-        .group = has_group(edition) ? burst[GROUP_AT] : 0,
+        .group = group_in(edition, burst),
         .data = burst + edition->head,
         .len = len - shortest_packet(edition),
     };

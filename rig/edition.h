@@ -26,7 +26,10 @@ bool has_group(const struct edition *edition);
 /* One without data. */
 size_t shortest_packet(const struct edition *edition);
 
-/* What a packet says; the group is 0 where the edition has none. */
+/* Of a burst that has a packet's head; 0 where the edition has no group. */
+uint8_t group_in(const struct edition *edition, const uint8_t *burst);
+
+/* What a packet says. */
 struct packet {
     uint8_t id, group;
     const uint8_t *data;

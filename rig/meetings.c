@@ -77,7 +77,7 @@ static void count_spoiled(unsigned long *met, const struct test_case *c, uint32_
 static void count_room(unsigned long *met, const struct test_case *c, uint32_t refusal, const struct wall *wall)
 {
     bool for_1 = c->out_cap >= image_size(1, wall->count), for_2 = c->out_cap >= image_size(2, wall->count);
-    if (c->call == CALL_PLAY)
+    if (is_play(c))
         met[MET_PLAY_ROOM_FOR_1] += refusal == 19 && for_1 && c->answer_cap >= UNDIVARRO_ANSWER_CAP;
     else if (c->call == CALL_READ)
         met[MET_READ_ROOM_FOR_1] += refusal == 19 && for_1;
@@ -90,24 +90,25 @@ static void count_room(unsigned long *met, const struct test_case *c, uint32_t r
 /* The burst is a set of video that one profile alone allows. */
 static void count_set(unsigned long *met, const struct test_case *c, const struct trial *t, size_t panels)
 {
+    const uint8_t *values = packet_of(c).data + 1;
+    enum whom to = whom_of(c);
     bool took[2] = {false, false}, kept[2] = {false, false};
     for (size_t k = 0; k < panels; k++) {
         const uint8_t *record = record_at(t->out + GUARD, k);
         if (is_addressed(c, record)) {
-            bool has = memcmp(record + VIDEO_AT, c->burst + 4, settings[VIDEO].count) == 0;
+            bool has = memcmp(record + VIDEO_AT, values, settings[VIDEO].count) == 0;
             (has ? took : kept)[record[PROFILE_AT]] = true;
         }
     }
-    uint8_t id = c->burst[1], group = c->burst[2];
-    if (group == 0 && id != 0) {
-        uint8_t control = control_of(t);
+    if (to == ONE) {
+        uint8_t control = control_of(c, t);
         met[MET_GENERAL_ACK] += took[UNDIVARRO_GENERAL] && control == ACK;
         met[MET_GENERAL_NAV] += kept[UNDIVARRO_GENERAL] && control == NAV;
         met[MET_PHOENIX_ACK] += took[UNDIVARRO_PHOENIX] && control == ACK;
         met[MET_PHOENIX_NAV] += kept[UNDIVARRO_PHOENIX] && control == NAV;
     } else {
-        met[group ? MET_GROUP_GENERAL : MET_ALL_GENERAL] += took[UNDIVARRO_GENERAL] && kept[UNDIVARRO_PHOENIX];
-        met[group ? MET_GROUP_PHOENIX : MET_ALL_PHOENIX] += took[UNDIVARRO_PHOENIX] && kept[UNDIVARRO_GENERAL];
+        met[to == GROUP ? MET_GROUP_GENERAL : MET_ALL_GENERAL] += took[UNDIVARRO_GENERAL] && kept[UNDIVARRO_PHOENIX];
+        met[to == GROUP ? MET_GROUP_PHOENIX : MET_ALL_PHOENIX] += took[UNDIVARRO_PHOENIX] && kept[UNDIVARRO_GENERAL];
     }
 }
 
@@ -127,6 +128,6 @@ void count_meetings(struct meetings *m, const struct test_case *c, const struct 
         m->met[MET_NO_GENERAL_VIDEO] += c->no_video[UNDIVARRO_GENERAL];
         m->met[MET_NO_PHOENIX_VIDEO] += c->no_video[UNDIVARRO_PHOENIX];
     }
-    if (refusal == 0 && c->call == CALL_PLAY && c->burst_kind == BURST_SET_ONE_PROFILE)
+    if (refusal == 0 && is_play(c) && c->burst_kind == BURST_SET_ONE_PROFILE)
         count_set(m->met, c, by_plain, wall.count);
 }

@@ -50,7 +50,7 @@ void count_power(unsigned long met[POWER_CASES], const struct test_case *c, cons
     struct wall wall;
     if (c->burst_kind != BURST_SET_POWER || by_plain->result.refusal || !read_wall(c, &wall))
         return;
-    uint8_t value = c->burst[4];
+    uint8_t value = packet_of(c).data[1];
     size_t panels = 0;
     uint8_t before = set_power(c, &wall, value, &panels);
     enum whom to = whom_of(c);
@@ -58,6 +58,6 @@ void count_power(unsigned long met[POWER_CASES], const struct test_case *c, cons
         return;
     for (unsigned i = 0; i < POWER_CASES; i++) {
         const struct power_case *p = &power_cases[i];
-        met[i] += to == p->to && value == p->value && before == p->before && control_of(by_plain) == p->control;
+        met[i] += to == p->to && value == p->value && before == p->before && control_of(c, by_plain) == p->control;
     }
 }

@@ -4,17 +4,31 @@
 
 #include "names.h"
 
-static void count_answer(struct tally *tally, const struct trial *t)
+static void count_answer(struct line_tally *line, const struct test_case *c, const struct trial *t)
 {
-    const uint8_t *answer = t->answer + GUARD;
-    if (t->result.answer_len == 0)
-        tally->silence++;
-    else if (t->result.answer_len < 6)
+    if (t->result.answer_len == 0) {
+        line->silence++;
         return;
-    else if (answer[3] != 0)
-        tally->report[answer[3]]++;
+    }
+    struct packet answer = answer_of(c, t);
+    if (answer.data[0] != 0)
+        line->report[answer.data[0]]++;
     else
-        tally->control[answer[4]]++;
+        line->control[answer.data[1]]++;
+}
+
+static void count_play(struct tally *tally, const struct test_case *c, const struct trial *by_plain)
+{
+    count_editions(&tally->editions, c, by_plain);
+    if (!c->line)
+        return;
+    struct line_tally *line = &tally->lines[c->line - editions];
+    line->burst[c->burst_kind]++;
+    count_damage(&line->damages, c, by_plain);
+    count_power(tally->power, c, by_plain);
+    count_tiling(&tally->tilings, c, by_plain);
+    if (!by_plain->result.refusal)
+        count_answer(line, c, by_plain);
 }
 
 void count_outcome(struct tally *tally, const struct test_case *c, const struct trial *by_plain)
@@ -26,14 +40,8 @@ void count_outcome(struct tally *tally, const struct test_case *c, const struct 
     count_kinds(&tally->kinds, c, by_plain);
     if (c->call == CALL_SALVAGE)
         count_salvage(&tally->salvages, c, by_plain);
-    if (c->call != CALL_PLAY)
-        return;
-    tally->burst[c->burst_kind]++;
-    count_damage(&tally->damages, c, by_plain);
-    count_power(tally->power, c, by_plain);
-    count_tiling(&tally->tilings, c, by_plain);
-    if (!by_plain->result.refusal)
-        count_answer(tally, by_plain);
+    if (is_play(c))
+        count_play(tally, c, by_plain);
 }
 
 /* A line of the tally: what was met, and how often; a line whose what is NULL begins the section that is named. */
@@ -60,6 +68,8 @@ static void each_of_call(take_line *take, void *to, const struct tally *tally, e
         snprintf(what, sizeof what, "refusal %d", i);
         take(to, section, what, refusal[i]);
     }
+    if (call == CALL_PLAY_ON)
+        take(to, section, "refusal 23", refusal[23]);
     if (call == CALL_BACK)
         take(to, section, "refusal 31", refusal[31]);
     for (int i = 0; i < WALL_KINDS; i++)
@@ -68,30 +78,70 @@ static void each_of_call(take_line *take, void *to, const struct tally *tally, e
         take(to, section, kind_wall_names[i], tally->kinds.wall[call][i]);
 }
 
-static void each_answer(take_line *take, void *to, const struct tally *tally)
+/* The sections of one edition have its name. */
+static const char *section_of(char section[64], const char *what, const struct edition *edition)
 {
-    take(to, "answer", NULL, 0);
-    take(to, "answer", "silence", tally->silence);
-    take(to, "answer", "ACK", tally->control[ACK]);
-    take(to, "answer", "NACK", tally->control[NACK]);
-    take(to, "answer", "NAV", tally->control[NAV]);
+    snprintf(section, 64, "%s, %s", edition->name, what);
+    return section;
+}
+
+static void each_answer(take_line *take, void *to, const char *section, const struct line_tally *line)
+{
+    take(to, section, NULL, 0);
+    take(to, section, "silence", line->silence);
+    take(to, section, "ACK", line->control[ACK]);
+    take(to, section, "NACK", line->control[NACK]);
+    take(to, section, "NAV", line->control[NAV]);
     for (const struct setting *s = settings; s < settings + SETTINGS; s++) {
         char what[16];
         snprintf(what, sizeof what, "report 0x%02X", s->get_code);
-        take(to, "answer", what, tally->report[s->get_code]);
+        take(to, section, what, line->report[s->get_code]);
     }
 }
 
-static void each_damage(take_line *take, void *to, const struct damages *d)
+static void each_way(take_line *take, void *to, const char *section, const struct edition *edition, const unsigned long *met)
 {
-    take(to, "damage", NULL, 0);
+    take(to, section, NULL, 0);
+    for (int way = 0; way < WAYS; way++)
+        if (way != WAY_OTHER_GROUP || has_group(edition))
+            take(to, section, way_names[way], met[way]);
+}
+
+static void each_damage(take_line *take, void *to, const struct edition *edition, const struct damages *d)
+{
+    char section[64], what[96];
+    take(to, section_of(section, "damage", edition), NULL, 0);
     for (int damage = 0; damage < DAMAGES; damage++)
-        take(to, "damage", damage_name(damage), d->told[damage]);
+        take(to, section, damage_name(damage), d->told[damage]);
     for (int damage = UNDIVARRO_TOO_SHORT; damage < DAMAGES; damage++)
-        each_name(take, to, damage_name(damage), way_names, d->met[damage], WAYS);
-    take(to, "burst and damage", NULL, 0);
-    for (unsigned i = 0; i < LIMITS; i++)
-        take(to, "burst and damage", limit_name(i), d->at_limit[i]);
+        each_way(take, to, section_of(section, damage_name(damage), edition), edition, d->met[damage]);
+    take(to, section_of(section, "burst and damage", edition), NULL, 0);
+    for (unsigned i = 0; i < LIMITS; i++) {
+        snprintf(what, sizeof what, "%s: %s", limit_name(i), damage_name(limit_damage(i, (unsigned)(edition - editions))));
+        take(to, section, what, d->at_limit[i]);
+    }
+}
+
+static void each_of_edition(take_line *take, void *to, const struct edition *edition, const struct line_tally *line)
+{
+    char section[64];
+    each_name(take, to, section_of(section, "burst", edition), burst_kind_names, line->burst, BURST_KINDS);
+    each_answer(take, to, section_of(section, "answer", edition), line);
+    each_damage(take, to, edition, &line->damages);
+}
+
+static void each_edition_case(take_line *take, void *to, const struct editions *e)
+{
+    char what[40];
+    each_name(take, to, "editions", edition_case_names, e->met, EDITION_CASES);
+    for (unsigned i = 0; i < UNKNOWN_EDITIONS; i++) {
+        snprintf(what, sizeof what, "23 for %lu", (unsigned long)unknown_editions[i]);
+        take(to, "editions", what, e->number[i]);
+    }
+    for (unsigned i = 0; i < BESIDE; i++) {
+        snprintf(what, sizeof what, "%u though the edition is unknown too", FIRST_BESIDE + i);
+        take(to, "editions", what, e->beside[i]);
+    }
 }
 
 static void each_tiling(take_line *take, void *to, const struct tilings *t)
@@ -131,12 +181,12 @@ static void each_salvage(take_line *take, void *to, const struct salvages *s)
 static void each_line(take_line *take, void *to, const struct tally *tally)
 {
     each_name(take, to, "image, by its last spoiling", image_kind_names, tally->image, IMAGE_KINDS);
-    each_name(take, to, "burst", burst_kind_names, tally->burst, BURST_KINDS);
     each_name(take, to, "room lent", room_kind_names, tally->room, ROOM_KINDS);
     for (int call = 0; call < CALLS; call++)
         each_of_call(take, to, tally, call);
-    each_answer(take, to, tally);
-    each_damage(take, to, &tally->damages);
+    for (unsigned i = 0; i < EDITIONS; i++)
+        each_of_edition(take, to, &editions[i], &tally->lines[i]);
+    each_edition_case(take, to, &tally->editions);
     take(to, "power", NULL, 0);
     for (unsigned i = 0; i < POWER_CASES; i++)
         take(to, "power", power_case_name(i), tally->power[i]);
@@ -151,7 +201,7 @@ static void print_line(void *to, const char *section, const char *what, unsigned
 {
     (void)to;
     if (what)
-        printf("  %-64s %9lu\n", what, times);
+        printf("  %-66s %9lu\n", what, times);
     else
         printf("%s:\n", section);
 }

@@ -61,9 +61,9 @@ static void count_shared(unsigned long met[SHARED_SETS], struct outcome o, uint8
 
 static void count_set(struct tilings *t, const struct test_case *c, const struct trial *by_plain, struct wall *wall)
 {
-    const uint8_t *values = c->burst + 4;
+    const uint8_t *values = packet_of(c).data + 1;
     struct outcome o = set_tiling(c, wall, values);
-    uint8_t control = control_of(by_plain);
+    uint8_t control = control_of(c, by_plain);
     if (!is_after(wall, by_plain) || o.panels == 0)
         return;
     if (whom_of(c) == ONE)
@@ -74,12 +74,14 @@ static void count_set(struct tilings *t, const struct test_case *c, const struct
 
 static void count_get(unsigned long *met, const struct test_case *c, const struct trial *by_plain, const struct wall *wall)
 {
-    const uint8_t *answer = by_plain->answer + GUARD;
+    if (by_plain->result.answer_len == 0)
+        return;
+    struct packet report = answer_of(c, by_plain);
     for (size_t k = 0; k < wall->count; k++) {
         const uint8_t *record = record_at(wall->image, k);
-        if (whom_of(c) == ONE && is_addressed(c, record) && by_plain->result.answer_len == 5 + TILING_LEN)
+        if (is_addressed(c, record) && report.len == 1 + TILING_LEN)
             met[record[KIND_AT] == UNDIVARRO_5_BY_5 ? GOT_SMALL : GOT_LARGE]
-                += memcmp(answer + 4, record + TILING_AT, TILING_LEN) == 0;
+                += memcmp(report.data + 1, record + TILING_AT, TILING_LEN) == 0;
     }
 }
 
@@ -87,7 +89,8 @@ static void count_get(unsigned long *met, const struct test_case *c, const struc
 static void count_other(unsigned long *met, const struct test_case *c, const struct trial *by_plain, const struct wall *wall,
                         size_t given)
 {
-    uint8_t code = c->burst[3], control = control_of(by_plain);
+    struct packet p = packet_of(c);
+    uint8_t code = p.data[0], control = control_of(c, by_plain);
     if (!is_after(wall, by_plain))
         return;
     if (code == settings[TILING].get_code && given == 0) {
@@ -96,7 +99,7 @@ static void count_other(unsigned long *met, const struct test_case *c, const str
         met[SET_OF_3] += given == 3 && control == NAV;
         met[SET_OF_5] += given == 5 && control == NAV;
     } else if (code == UNDIVARRO_KIND_CODE) {
-        bool a_kind = given == 1 && c->burst[4] < KINDS;
+        bool a_kind = given == 1 && p.data[1] < KINDS;
         met[KIND_CODE_ALONE] += given == 0 && control == NAV;
         met[KIND_CODE_SET] += a_kind && control == NAV;
         met[KIND_CODE_TO_MANY] += a_kind && whom_of(c) != ONE && control == SILENCE && wall->count > 0;
@@ -108,10 +111,13 @@ static void count_other(unsigned long *met, const struct test_case *c, const str
 void count_tiling(struct tilings *t, const struct test_case *c, const struct trial *by_plain)
 {
     struct wall wall;
-    if (by_plain->result.refusal || by_plain->result.damage || c->burst_len < 5 || !read_wall(c, &wall))
+    if (by_plain->result.refusal || by_plain->result.damage || c->burst_len == 0)
         return;
-    size_t given = c->burst_len - 5;
-    if (c->burst[3] == settings[TILING].set_code && given == TILING_LEN)
+    struct packet p = packet_of(c);
+    if (p.len == 0 || !read_wall(c, &wall))
+        return;
+    size_t given = p.len - 1;
+    if (p.data[0] == settings[TILING].set_code && given == TILING_LEN)
         count_set(t, c, by_plain, &wall);
     else
         count_other(t->other, c, by_plain, &wall, given);

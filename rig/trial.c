@@ -48,7 +48,7 @@ static const char *fault_of(const struct test_case *c, const struct trial *t)
         return "the lent burst was written to";
     if (r.refusal && (r.answer_len || r.image_len))
         return "a refusal with a length that is not 0";
-    if (r.damage && (r.refusal || c->call != CALL_PLAY))
+    if (r.damage && (r.refusal || !is_play(c)))
         return "damage from a refusal, or from a call without a burst";
     if (r.damage > UNDIVARRO_CHECKSUM_WRONG)
         return "a damage that the header does not name";
@@ -84,6 +84,8 @@ void run_trial(const struct box *box, const struct test_case *c, struct trial *t
     close_all(c, t, true);
     if (c->call == CALL_PLAY)
         t->result = box->play(image, c->image_len, burst, c->burst_len, answer, c->answer_cap, out, c->out_cap);
+    else if (c->call == CALL_PLAY_ON)
+        t->result = box->play_on(c->edition, image, c->image_len, burst, c->burst_len, answer, c->answer_cap, out, c->out_cap);
     else if (c->call == CALL_SALVAGE)
         t->result = box->salvage(image, c->image_len, answer, c->answer_cap, out, c->out_cap);
     else
@@ -100,9 +102,14 @@ bool same_outcome(const struct test_case *c, const struct trial *a, const struct
         && memcmp(a->out, b->out, GUARD + c->out_cap + GUARD) == 0;
 }
 
-uint8_t control_of(const struct trial *t)
+struct packet answer_of(const struct test_case *c, const struct trial *t)
 {
-    return t->result.answer_len > 0 ? t->answer[GUARD + 4] : SILENCE;
+    return read_packet(c->line, t->answer + GUARD, t->result.answer_len);
+}
+
+uint8_t control_of(const struct test_case *c, const struct trial *t)
+{
+    return t->result.answer_len > 0 ? answer_of(c, t).data[1] : SILENCE;
 }
 
 static uint64_t mix(uint64_t sum, uint64_t word)

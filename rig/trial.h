@@ -11,6 +11,8 @@ enum { GUARD = 32, AREA = GUARD + MAX_ROOM + GUARD };
 struct box {
     const char *name;
     struct undivarro_result (*play)(const uint8_t *, size_t, const uint8_t *, size_t, uint8_t *, size_t, uint8_t *, size_t);
+    struct undivarro_result (*play_on)(uint32_t, const uint8_t *, size_t, const uint8_t *, size_t, uint8_t *, size_t, uint8_t *,
+                                       size_t);
     struct undivarro_result (*read)(const uint8_t *, size_t, uint8_t *, size_t);
     struct undivarro_result (*back)(const uint8_t *, size_t, uint8_t *, size_t);
     struct undivarro_result (*salvage)(const uint8_t *, size_t, uint8_t *, size_t, uint8_t *, size_t);
@@ -28,9 +30,12 @@ void run_trial(const struct box *box, const struct test_case *c, struct trial *t
 /* Refusal, lengths, damage and every byte of both areas the same. */
 bool same_outcome(const struct test_case *c, const struct trial *a, const struct trial *b);
 
+/* What the answer says, which is there. */
+struct packet answer_of(const struct test_case *c, const struct trial *t);
+
 /* The answer's control word, or SILENCE. */
 enum { SILENCE = 0 };
-uint8_t control_of(const struct trial *t);
+uint8_t control_of(const struct test_case *c, const struct trial *t);
 
 /* The outcome mixed into a sum over all cases so far; runs with equal sums met equal outcomes. */
 uint64_t add_outcome(uint64_t sum, const struct trial *t);

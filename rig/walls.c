@@ -22,13 +22,19 @@ bool is_after(const struct wall *wall, const struct trial *t)
     return memcmp(t->out + GUARD, wall->image, t->result.image_len) == 0;
 }
 
+struct packet packet_of(const struct test_case *c)
+{
+    return read_packet(c->line, c->burst, c->burst_len);
+}
+
 enum whom whom_of(const struct test_case *c)
 {
-    return c->burst[2] != 0 ? GROUP : c->burst[1] == 0 ? ALL : ONE;
+    struct packet p = packet_of(c);
+    return p.group != 0 ? GROUP : p.id == 0 ? ALL : ONE;
 }
 
 bool is_addressed(const struct test_case *c, const uint8_t *record)
 {
-    uint8_t id = c->burst[1], group = c->burst[2];
-    return group == 0 ? id == 0 || record[ID_AT] == id : group != 255 && record[GROUP_AT] == group;
+    struct packet p = packet_of(c);
+    return p.group == 0 ? p.id == 0 || record[ID_AT] == p.id : p.group != 255 && record[GROUP_AT] == p.group;
 }

@@ -18,7 +18,8 @@ const uint8_t *record_at(const uint8_t *image, size_t k);
 /* The wall is the one that a call without a refusal has written. */
 bool is_after(const struct wall *wall, const struct trial *t);
 
-/* Of the case's burst, which is intact. */
+/* Of the case's burst, which is intact on its line. */
+struct packet packet_of(const struct test_case *c);
 enum whom { ONE, GROUP, ALL };
 enum whom whom_of(const struct test_case *c);
 bool is_addressed(const struct test_case *c, const uint8_t *record);
