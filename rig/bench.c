@@ -9,14 +9,15 @@
 #include <string.h>
 #include <unistd.h>
 
+#include "bench_images.h"
 #include "count.h"
+#include "edition.h"
 #include "plain.h"
-#include "record.h"
-
-enum { PANELS = UNDIVARRO_MAX_PANELS };
 
 typedef struct undivarro_result play_function(const uint8_t *, size_t, const uint8_t *, size_t, uint8_t *, size_t, uint8_t *,
                                               size_t);
+typedef struct undivarro_result play_on_function(uint32_t, const uint8_t *, size_t, const uint8_t *, size_t, uint8_t *, size_t,
+                                                 uint8_t *, size_t);
 typedef struct undivarro_result read_function(const uint8_t *, size_t, uint8_t *, size_t);
 
 static int count_from, count_to;        /* the pipe through which the counts come */
@@ -40,6 +41,13 @@ static struct undivarro_result no_play(const uint8_t *image, size_t image_len, c
     return (struct undivarro_result){0};
 }
 
+static struct undivarro_result no_play_on(uint32_t edition, const uint8_t *image, size_t image_len, const uint8_t *burst,
+                                          size_t burst_len, uint8_t *answer, size_t answer_cap, uint8_t *out, size_t out_cap)
+{
+    (void)edition;
+    return no_play(image, image_len, burst, burst_len, answer, answer_cap, out, out_cap);
+}
+
 static struct undivarro_result no_read(const uint8_t *image, size_t image_len, uint8_t *out, size_t out_cap)
 {
     (void)image, (void)image_len, (void)out, (void)out_cap;
@@ -50,15 +58,6 @@ struct outcome {
     struct undivarro_result result;
     uint8_t answer[UNDIVARRO_ANSWER_CAP], out[UNDIVARRO_IMAGE_CAP];
 };
-
-/* 32 fresh general 5 by 5 panels, all in group 9, as each form is written; and in form 2 with one of them in group 8, and with
- * eleven faults each. */
-struct image {
-    size_t len;
-    uint8_t bytes[UNDIVARRO_IMAGE_CAP + PANELS];
-};
-
-static struct image form_1, form_2, one_apart, wreck;
 
 /* A salvage as a reading, with its lines apart. */
 static uint8_t proved_lines[UNDIVARRO_LINES_CAP], plain_lines[UNDIVARRO_LINES_CAP];
@@ -80,6 +79,14 @@ __attribute__((noipa)) static uint64_t count_play(play_function *function, const
 {
     _Alignas(64) volatile uint64_t before = count_now();
     o->result = function(image->bytes, image->len, burst, len, o->answer, sizeof o->answer, o->out, sizeof o->out);
+    return count_now() - before;
+}
+
+__attribute__((noipa)) static uint64_t count_play_on(play_on_function *function, uint32_t edition, const struct image *image,
+                                                     const uint8_t *burst, size_t len, struct outcome *o)
+{
+    _Alignas(64) volatile uint64_t before = count_now();
+    o->result = function(edition, image->bytes, image->len, burst, len, o->answer, sizeof o->answer, o->out, sizeof o->out);
     return count_now() - before;
 }
 
@@ -118,50 +125,77 @@ enum { EACH = -1, ALL = 0, ABSENT = PANELS + 1 };
 struct trial {
     const char *what;
     const struct image *image;
-    const uint8_t *packet;              /* without size, ID, group and checksum */
-    size_t len;
+    unsigned edition;                   /* of the line */
+    const uint8_t *data;
+    size_t len;                         /* of the data */
     int id;                             /* or EACH panel's in turn */
     uint8_t group, spoil;
 };
 
-static const uint8_t get_power[] = {0, 0, 0, 0x19, 0};
-static const uint8_t set_video[] = {0, 0, 0, 0x32, 10, 20, 30, 40, 60, 70, 2, 0};
-static const uint8_t set_fan[] = {0, 0, 0, 0x61, 4, 0};
-static const uint8_t set_tiling[] = {0, 0, 0, 0x22, 1, 0, 2, 8, 0};
+static const uint8_t get_power[] = {0x19};
+static const uint8_t set_video[] = {0x32, 10, 20, 30, 40, 60, 70, 2};
+static const uint8_t set_fan[] = {0x61, 4};
+static const uint8_t set_tiling[] = {0x22, 1, 0, 2, 8};
 static const struct trial trials[] = {
-    {"get of power, 5 bytes, to one of 32, form 2", &form_2, get_power, sizeof get_power, EACH, 0, 0},
-    {"set of video, 12 bytes, to one of 32, form 2", &form_2, set_video, sizeof set_video, EACH, 0, 0},
-    {"set of fan, 6 bytes, to all 32, form 2", &form_2, set_fan, sizeof set_fan, ALL, 0, 0},
-    {"set of video, 12 bytes, to all 32, form 2", &form_2, set_video, sizeof set_video, ALL, 0, 0},
-    {"set of tiling, 9 bytes, to all 32, form 2", &form_2, set_tiling, sizeof set_tiling, ALL, 0, 0},
-    {"damaged burst, 5 bytes, for one of 32 (NACK), form 2", &form_2, get_power, sizeof get_power, EACH, 0, 1},
-    {"get of power, 5 bytes, to the first of 32, form 2", &form_2, get_power, sizeof get_power, 1, 0, 0},
-    {"get of power, 5 bytes, to the last of 32, form 2", &form_2, get_power, sizeof get_power, PANELS, 0, 0},
-    {"get of power, 5 bytes, to an ID that is not there, form 2", &form_2, get_power, sizeof get_power, ABSENT, 0, 0},
-    {"set of fan, 6 bytes, to a group without panels, form 2", &form_2, set_fan, sizeof set_fan, ALL, 8, 0},
-    {"set of fan, 6 bytes, to a group with one panel, form 2", &one_apart, set_fan, sizeof set_fan, ALL, 8, 0},
-    {"set of fan, 6 bytes, to a group with all 32, form 2", &form_2, set_fan, sizeof set_fan, ALL, 9, 0},
+    {"get of power, 5 bytes, to one of 32, form 2", &form_2, SICP_2_01, get_power, sizeof get_power, EACH, 0, 0},
+    {"set of video, 12 bytes, to one of 32, form 2", &form_2, SICP_2_01, set_video, sizeof set_video, EACH, 0, 0},
+    {"set of fan, 6 bytes, to all 32, form 2", &form_2, SICP_2_01, set_fan, sizeof set_fan, ALL, 0, 0},
+    {"set of video, 12 bytes, to all 32, form 2", &form_2, SICP_2_01, set_video, sizeof set_video, ALL, 0, 0},
+    {"set of tiling, 9 bytes, to all 32, form 2", &form_2, SICP_2_01, set_tiling, sizeof set_tiling, ALL, 0, 0},
+    {"damaged burst, 5 bytes, for one of 32 (NACK), form 2", &form_2, SICP_2_01, get_power, sizeof get_power, EACH, 0, 1},
+    {"get of power, 5 bytes, to the first of 32, form 2", &form_2, SICP_2_01, get_power, sizeof get_power, 1, 0, 0},
+    {"get of power, 5 bytes, to the last of 32, form 2", &form_2, SICP_2_01, get_power, sizeof get_power, PANELS, 0, 0},
+    {"get of power, 5 bytes, to an ID that is not there, form 2", &form_2, SICP_2_01, get_power, sizeof get_power, ABSENT, 0, 0},
+    {"set of fan, 6 bytes, to a group without panels, form 2", &form_2, SICP_2_01, set_fan, sizeof set_fan, ALL, 8, 0},
+    {"set of fan, 6 bytes, to a group with one panel, form 2", &one_apart, SICP_2_01, set_fan, sizeof set_fan, ALL, 8, 0},
+    {"set of fan, 6 bytes, to a group with all 32, form 2", &form_2, SICP_2_01, set_fan, sizeof set_fan, ALL, 9, 0},
+    {"on 1.85, get of power, 4 bytes, to one of 32, form 2", &form_2, SICP_1_85, get_power, sizeof get_power, EACH, 0, 0},
+    {"on 1.85, set of video, 11 bytes, to one of 32, form 2", &form_2, SICP_1_85, set_video, sizeof set_video, EACH, 0, 0},
 };
 enum { TRIALS = sizeof trials / sizeof trials[0] };
 
-/* One burst for each panel in turn, the mean of all; where not each is named, all 32 calls are alike. Size, ID and group are
- * put in as the first bytes, the checksum with spoil as the last. */
+/* The trial's packet to this ID; its length. */
+static size_t make_burst(const struct trial *t, uint8_t id, uint8_t *burst)
+{
+    const struct edition *edition = &editions[t->edition];
+    size_t len = shortest_packet(edition) + t->len;
+    burst[0] = (uint8_t)len;
+    burst[1] = id;
+    burst[2] = t->group;                /* behind which the data is, or in whose place */
+    memcpy(burst + edition->head, t->data, t->len);
+    burst[len - 1] = t->spoil;
+    for (size_t i = 0; i < len - 1; i++)
+        burst[len - 1] ^= burst[i];
+    return len;
+}
+
+/* One implementation: of a 2.01 line the call that takes no edition. */
+struct box {
+    play_function *play;
+    play_on_function *play_on;
+};
+
+static const struct box nothing = {no_play, no_play_on}, proved_box = {undivarro_play, undivarro_play_on},
+    plain_box = {plain_play, plain_play_on};
+
+static uint64_t count_burst(const struct box *box, const struct trial *t, const uint8_t *burst, size_t len, struct outcome *o)
+{
+    if (t->edition == SICP_2_01)
+        return count_play(box->play, t->image, burst, len, o);
+    return count_play_on(box->play_on, editions[t->edition].number, t->image, burst, len, o);
+}
+
+/* One burst for each panel in turn, the mean of all; where not each is named, all 32 calls are alike. */
 static struct cost cost_of_play(const struct trial *t)
 {
     static struct outcome proved, plain, none;
     uint64_t proved_sum = 0, plain_sum = 0;
     for (unsigned k = 0; k < PANELS; k++) {
         uint8_t burst[UNDIVARRO_ANSWER_CAP];
-        memcpy(burst, t->packet, t->len);
-        burst[0] = (uint8_t)t->len;
-        burst[1] = (uint8_t)(t->id == EACH ? (int)k + 1 : t->id);
-        burst[2] = t->group;
-        burst[t->len - 1] = t->spoil;
-        for (size_t i = 0; i < t->len - 1; i++)
-            burst[t->len - 1] ^= burst[i];
-        uint64_t around = count_play(no_play, t->image, burst, t->len, &none);
-        proved_sum += count_play(undivarro_play, t->image, burst, t->len, &proved) - around;
-        plain_sum += count_play(plain_play, t->image, burst, t->len, &plain) - around;
+        size_t len = make_burst(t, (uint8_t)(t->id == EACH ? (int)k + 1 : t->id), burst);
+        uint64_t around = count_burst(&nothing, t, burst, len, &none);
+        proved_sum += count_burst(&proved_box, t, burst, len, &proved) - around;
+        plain_sum += count_burst(&plain_box, t, burst, len, &plain) - around;
         check_same(t->what, &proved, &plain);
     }
     return (struct cost){proved_sum / PANELS, plain_sum / PANELS};
@@ -191,42 +225,6 @@ static struct cost cost_of_reading(const struct reading *r)
     uint64_t by_plain = count_read(r->plain, r->image, &plain) - around;
     check_same(r->what, &proved, &plain);
     return (struct cost){by_proved, by_plain};
-}
-
-/* No value is allowed, and behind each record's fields stands a code alone. */
-static void make_wreck(void)
-{
-    uint8_t *to = wreck.bytes, *starts = to + (RECORD_LEN + 1) * PANELS;
-    for (unsigned k = 0; k < PANELS; k++) {
-        *starts++ = (uint8_t)((to - wreck.bytes) >> 8);
-        *starts++ = (uint8_t)(to - wreck.bytes);
-        memcpy(to, form_2.bytes + RECORD_LEN * k, RECORD_LEN);
-        for (size_t at = FIELDS_AT; at < RECORD_LEN; at += 2u + to[at + 1])
-            memset(to + at + 2, 0xFF, to[at + 1]);
-        to[RECORD_LEN] = 0xFF;
-        to += RECORD_LEN + 1;
-    }
-    *starts++ = PANELS;
-    *starts++ = 2;
-    wreck.len = (size_t)(starts - wreck.bytes);
-}
-
-static void make_images(void)
-{
-    uint8_t fresh[4 * PANELS + 2];      /* form 1, records of ID and group */
-    for (unsigned k = 0; k < PANELS; k++) {
-        fresh[2 * k] = (uint8_t)(k + 1);
-        fresh[2 * k + 1] = 9;
-        fresh[2 * PANELS + 2 * k] = 0;
-        fresh[2 * PANELS + 2 * k + 1] = (uint8_t)(2 * k);
-    }
-    fresh[4 * PANELS] = PANELS;
-    fresh[4 * PANELS + 1] = 1;
-    form_1.len = plain_back(fresh, sizeof fresh, form_1.bytes, sizeof form_1.bytes).image_len;
-    form_2.len = plain_read(fresh, sizeof fresh, form_2.bytes, sizeof form_2.bytes).image_len;
-    one_apart = form_2;
-    one_apart.bytes[RECORD_LEN * 16 + GROUP_AT] = 8;
-    make_wreck();
 }
 
 int main(void)
