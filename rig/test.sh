@@ -59,7 +59,7 @@ new_wall() { rm -f "$1" && rig new "$@"; }
 wall() { new_wall "$1" 1:9 2:9; }
 # the same, the second Phoenix
 mixed_wall() { new_wall "$1" 1:9 2:9:phoenix; }
-# packet ID GROUP DATA...: the burst of these bytes, with its size and checksum
+# packet ID [GROUP] DATA...: the burst of these bytes, with its size and checksum; on a 1.85 line it has no group
 packet() {
     local size=$(($# + 2)) sum byte
     sum=$size
@@ -79,8 +79,23 @@ image() {
 }
 # image_of FILE HEX: a file of these bytes, in one run of digits
 image_of() { image "$1" "$(echo "$2" | sed 's/../& /g')"; }
-# in_one_run: lines of a burst and its answer, played on w one behind the other
-in_one_run() { cat >lines && same answers "$(cut -d' ' -f 1 lines | rig play w)" "$(cut -d' ' -f 2 lines)"; }
+# in_one_run OPTION...: lines of a burst and its answer, played on w one behind the other
+in_one_run() { cat >lines && same answers "$(cut -d' ' -f 1 lines | rig play w "$@")" "$(cut -d' ' -f 2 lines)"; }
+# on_fresh_walls OPTION...: lines of a burst and its answer, each on a fresh wall
+on_fresh_walls() {
+    local burst answer
+    while read -r burst answer; do
+        wall w && same "$burst" "$(echo "$burst" | rig play w "$@")" "$answer" || return
+    done
+}
+# logged OPTION...: lines of `burst; what it was: answer`, each burst on a fresh wall of both profiles, with a log of its own
+logged() {
+    local burst words
+    while IFS=';' read -r burst words; do
+        mixed_wall w && rm -f w.log && echo "$burst" | rig play w "$@" --log w.log >answers || return
+        same "the log of $burst" "$(cat w.log)" "1: $burst:$words" || return
+    done
+}
 # stays BURST ANSWER: and w is not written
 stays() {
     bytes w >before && touch -d 2001-01-01 w || return
@@ -158,7 +173,7 @@ refused_images() {
     done
 }
 
-for part in comparison live program forms power tiling salvage salvage_command keeping words log diff install; do
+for part in comparison live program editions forms power tiling salvage salvage_command keeping words log diff install; do
     . "$parts/test_$part.sh" || exit 2
 done
 comparison_tests

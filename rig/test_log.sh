@@ -65,8 +65,10 @@ no_log_of_a_setup_that_is_refused() {
 log_arguments() {
     wall w && rm -f w.log || return
     local arguments
-    for arguments in 'w --log' '--log w.log w' 'w --lag w.log' 'w w.log' 'w --log w.log w' '--log w.log'; do
-        ends 2 'rig: play takes one IMAGE, and --log FILE where a log is wanted' rig play $arguments || return
+    for arguments in 'w --log' '--log w.log w' 'w --lag w.log' 'w w.log' 'w --log w.log w' '--log w.log' \
+        'w --log w.log --log w.log'; do
+        ends 2 'rig: play takes one IMAGE, and then --sicp EDITION and --log FILE where they are wanted' rig play $arguments ||
+            return
     done
     ends 2 'rig: show takes one IMAGE' rig show w --log w.log && [ ! -e w.log ]
 }

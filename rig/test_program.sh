@@ -2,10 +2,7 @@
 
 # 01, "Bursts to try"
 bursts_of_01() {
-    local burst answer
-    while read -r burst answer; do
-        wall w && same "$burst" "$(echo "$burst" | rig play w)" "$answer" || return
-    done <<'END'
+    on_fresh_walls <<'END'
 050100191D 06010019021C
 050100191C 060100001512
 0401191C -

@@ -1,15 +1,6 @@
 # The lines of a log by example: bursts and answers in words, with the settings of 01, the damages of 02's A3 and the NAV of
 # its A5. Sourced by test.sh.
 
-# Lines of `burst; what it was: answer`, each burst on a fresh wall of both profiles and with a log of its own.
-logged() {
-    local burst words
-    while IFS=';' read -r burst words; do
-        mixed_wall w && rm -f w.log && echo "$burst" | rig play w --log w.log >answers || return
-        same "the log of $burst" "$(cat w.log)" "1: $burst:$words" || return
-    done
-}
-
 each_setting_got() {
     logged <<'END'
 05 01 00 19 1D; ID 1, group 0, get power: report from panel 1, power on

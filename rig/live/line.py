@@ -151,9 +151,9 @@ class Site:
                               env=dict(os.environ, STOP_AT=stop_at or "never", STOP_UNTIL=stop_until),
                               input="".join(b.hex() + "\n" for b in bursts))
 
-    def play(self, image, *bursts):
+    def play(self, image, *bursts, options=()):
         """The answers to bursts played on a setup, which so has to be a whole one."""
-        run = self.run("play", image, bursts=bursts)
+        run = self.run("play", image, *options, bursts=bursts)
         run.check_returncode()
         return [bytes.fromhex(line.replace("-", "")) for line in run.stdout.splitlines()]
 

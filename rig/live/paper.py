@@ -1,4 +1,4 @@
-"""Packets, and what a panel may hold, from document 01 and requests A1 and A6 of 02: what a host sends and expects."""
+"""Packets, and what a panel may hold, from document 01 and requests A1, A6 and A11 of 02: what a host sends and expects."""
 
 ACK, NACK, NAV = 0x06, 0x15, 0x18
 PROFILES = GENERAL, PHOENIX = range(2)
@@ -23,16 +23,21 @@ VIDEOS = {
 }
 
 
-def packet(monitor, group, *data):
-    front = bytes([len(data) + 4, monitor, group, *data])
+EDITIONS = OLD, NEW = "1.85", "2.01"
+
+
+def packet(monitor, group, *data, sicp=NEW):
+    """In 1.85 it has no byte for the group, which is 0."""
+    inside = [monitor, group, *data] if sicp == NEW else [monitor, *data]
+    front = bytes([len(inside) + 2, *inside])
     checksum = 0
     for byte in front:
         checksum ^= byte
     return front + bytes([checksum])
 
 
-def control(panel, word):
-    return packet(panel, 0, 0x00, word)
+def control(panel, word, sicp=NEW):
+    return packet(panel, 0, 0x00, word, sicp=sicp)
 
 
 def fan_set(panel, value):
@@ -73,7 +78,7 @@ def all_models():
     return [Panel(1 + profile + 2 * kind, 9, profile, kind) for kind in KINDS for profile in PROFILES]
 
 
-def random_packet(panels, random):
+def random_packet(panels, random, sicp=NEW):
     """Sets, most of them allowed, and gets; to a panel, a group, all, none; and codes and lengths of no setting."""
     panel = random.choice(panels)
     set_code, get_code = random.choice(SETTINGS)
@@ -86,7 +91,7 @@ def random_packet(panels, random):
         data[random.randrange(1, len(data))] = random.randrange(256)
     elif what < 0.45:
         data = [random.randrange(256) for _ in range(random.randrange(8))]
-    return packet(monitor, group, *data)
+    return packet(monitor, group, *data, sicp=sicp)
 
 
 def spoiled(burst, random):

@@ -10,6 +10,7 @@ from concurrent.futures import ThreadPoolExecutor
 from random import Random
 
 import test_answers
+import test_editions
 import test_held
 import test_keeping
 import test_line
@@ -18,7 +19,7 @@ import test_running
 from line import Missed, Site
 
 AT_ONCE = 4
-PARTS = test_answers, test_keeping, test_held, test_line, test_meeting, test_running
+PARTS = test_answers, test_editions, test_keeping, test_held, test_line, test_meeting, test_running
 
 
 def fault_of(test, programs, random):

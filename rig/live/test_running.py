@@ -225,7 +225,7 @@ def baud_rates(site, _):
         rate = rate or 9600
         quiet = "29.2" if rate == 1200 else "20"
         same("its first word", host.box.said,
-             f"serving {image} on {line.path} at {rate} baud, a burst ends after {quiet} ms of quiet\n")
+             f"serving {image} on {line.path} at {rate} baud, SICP 2.01, a burst ends after {quiet} ms of quiet\n")
         iflag, oflag, cflag, lflag, ispeed, ospeed, _ = termios.tcgetattr(line.box)
         speed = getattr(termios, f"B{rate}")
         same(f"the line at {rate}", (iflag, oflag, lflag, ispeed, ospeed), (0, 0, 0, speed, speed))
@@ -243,8 +243,10 @@ def arguments_that_are_refused(site, _):
     image, line = site.new("w", TWO), Line()
     for quiet in ("0", "-1", "60001", "20ms", "1.5", ""):
         refused(site, f"rig: {quiet} is no quiet; give whole milliseconds from 1 to 60000\n", line.path, image, "--quiet", quiet)
+    for sicp in ("1.86", "185", "2.010", ""):
+        refused(site, f"rig: {sicp} is no edition of SICP that the box speaks; give 1.85 or 2.01\n", line.path, image, "--sicp", sicp)
     for more in (["--baud"], ["--log"], ["--lag", "x"], ["x"], ["--baud", 9600, "--baud", 9600], ["--log", "a", "--log", "b"],
-                 ["--quiet", 20, "--quiet", 20]):
+                 ["--quiet", 20, "--quiet", 20], ["--sicp"], ["--sicp", "1.85", "--sicp", "1.85"]):
         refused(site, "rig: serve takes a DEVICE and an IMAGE, and then", line.path, image, *more)
     refused(site, "rig: serve takes a DEVICE and an IMAGE, and then", line.path)
     refused(site, f"rig: there is no {site.folder}/none; make it with", line.path, f"{site.folder}/none")
