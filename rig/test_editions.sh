@@ -172,6 +172,24 @@ END
 END2
 }
 
+# docs/RIG.md, of packets that both editions take, each for something else
+one_packet_and_two_editions() {
+    new_wall w 1:9 2:66 && in_one_run $on_1_85 <<'END' || return
+06014218015C 0501000602
+04014346 06014318015D
+0402191F 050219021C
+060142610420 0501000602
+04014346 060143610421
+END
+    new_wall w 1:9 2:66 && in_one_run <<'END'
+06014218015C -
+050200191E 06020019011C
+060142610420 -
+0502006265 060200620462
+0501004347 07010043323245
+END
+}
+
 # In any order; a text that is no edition is told before a file is touched.
 edition_arguments() {
     local edition words='is no edition of SICP that the box speaks; give 1.85 or 2.01' arguments
@@ -196,4 +214,5 @@ test_that 'bursts of 40 and 41 bytes on a 1.85 line' lengths_on_1_85
 test_that 'packets spoiled by every byte changed, lost or added, on both editions' packets_spoiled
 test_that 'the log of a 1.85 line' log_on_1_85
 test_that 'the log of a host that speaks the other edition' log_of_another_edition
+test_that 'packets that mean something else to each edition' one_packet_and_two_editions
 test_that 'arguments of the edition' edition_arguments
