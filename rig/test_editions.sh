@@ -136,7 +136,7 @@ packets_spoiled() {
 }
 
 log_on_1_85() {
-    logged $on_1_85 <<'END'
+    logged $on_1_85 <<'END' || return
 04 01 19 1C; SICP 1.85, ID 1, get power: report from panel 1, power on
 05 01 61 04 61; SICP 1.85, ID 1, set fan 4: ACK from panel 1
 0B 02 32 32 32 32 0A CE 32 03 FC; SICP 1.85, ID 2, set video brightness 50, colour 50, contrast 50, sharpness 10, tint -50 (byte CE), black level 50, gamma 3: ACK from panel 2

@@ -48,6 +48,8 @@ static const char *fault_of(const struct test_case *c, const struct trial *t)
         return "the lent burst was written to";
     if (r.refusal && (r.answer_len || r.image_len))
         return "a refusal with a length that is not 0";
+    if (!c->line && !r.refusal)
+        return "a number of no edition is taken for one";
     if (r.damage && (r.refusal || !is_play(c)))
         return "damage from a refusal, or from a call without a burst";
     if (r.damage > UNDIVARRO_CHECKSUM_WRONG)
