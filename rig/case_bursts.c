@@ -160,8 +160,8 @@ static const struct edition *choose_form(struct source *s, enum burst_kind kind,
 {
     if (!line)
         return &editions[below(s, EDITIONS)];
-    bool old = line == &editions[SICP_1_85];
-    return &editions[old == (kind == BURST_OTHER_EDITION) ? SICP_2_01 : SICP_1_85];
+    bool old = line == &editions[SICP_1_85], other = kind == BURST_OTHER_EDITION;
+    return &editions[old != other ? SICP_1_85 : SICP_2_01];
 }
 
 /* Of what kind the data is that is then spoiled, or put into the other edition's form. */

@@ -8,7 +8,8 @@ const char *const call_names[CALLS] = {"play", "play on a line of an edition", "
 const char *const room_kind_names[ROOM_KINDS] = {"exact", "ample", "at the limits", "for the other form", "any"};
 
 const uint32_t unknown_editions[UNKNOWN_EDITIONS] = {
-    0, 1, 2, 16, 160, 184, 186, 200, 202, 255, 185 + 0x100, 201 + 0x100, 0x185, 0x201, 185 + 0x10000, 201 + 0x10000, UINT32_MAX,
+    0, 1, 2, 16, 160, 184, 186, 200, 202, 255, 185 + 0x100, 201 + 0x100, 0x185, 0x201, 185 + 0x10000, 201 + 0x10000,
+    UINT32_MAX,
 };
 
 bool is_play(const struct test_case *c)

@@ -111,7 +111,8 @@ void count_damage(struct damages *d, const struct test_case *c, const struct tri
 {
     struct undivarro_result r = by_plain->result;
     if (r.refusal) {
-        d->met[damage_on(c->edition, c)][r.refusal == 19 ? WAY_NO_ROOM : WAY_IMAGE_REFUSED] += r.damage == UNDIVARRO_NO_DAMAGE;
+        enum way way = r.refusal == 19 ? WAY_NO_ROOM : WAY_IMAGE_REFUSED;
+        d->met[damage_on(c->edition, c)][way] += r.damage == UNDIVARRO_NO_DAMAGE;
         return;
     }
     d->told[r.damage]++;

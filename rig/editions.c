@@ -50,7 +50,7 @@ static void count_damaged(unsigned long *met, const struct test_case *c, uint8_t
         return;
     met[OLD_THIRD_BYTE] += old && c->burst[2] != 0 && control == NACK;
     met[OLD_ID_0] += old && c->burst[1] == 0 && control == SILENCE;
-    met[NEW_3_BYTES] += !old && damage_on(UNDIVARRO_SICP_1_85, c) == UNDIVARRO_NO_DAMAGE && c->burst_len == 3;
+    met[NEW_3_BYTES] += !old && c->burst_len == 3 && damage_on(UNDIVARRO_SICP_1_85, c) == UNDIVARRO_NO_DAMAGE;
 }
 
 /* A host that speaks the other edition: it means one thing, and the line hears another. */

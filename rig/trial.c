@@ -87,7 +87,8 @@ void run_trial(const struct box *box, const struct test_case *c, struct trial *t
     if (c->call == CALL_PLAY)
         t->result = box->play(image, c->image_len, burst, c->burst_len, answer, c->answer_cap, out, c->out_cap);
     else if (c->call == CALL_PLAY_ON)
-        t->result = box->play_on(c->edition, image, c->image_len, burst, c->burst_len, answer, c->answer_cap, out, c->out_cap);
+        t->result = box->play_on(c->edition, image, c->image_len, burst, c->burst_len, answer, c->answer_cap, out,
+                                 c->out_cap);
     else if (c->call == CALL_SALVAGE)
         t->result = box->salvage(image, c->image_len, answer, c->answer_cap, out, c->out_cap);
     else

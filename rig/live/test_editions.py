@@ -41,8 +41,8 @@ def hosts_of_the_other_edition(site, _):
         for data in ([0x19], [0x62], [0x61, 4]):
             burst = packet(1, 0, *data, sicp=meant)
             same(f"the answer of {box} to {burst.hex()}", host.ask(burst), b"" if box == NEW else control(1, NAV, OLD))
-            if "damage" in host.last_line or "wrong" in host.last_line or "too" in host.last_line:
-                raise Missed(f"no damage was to be told: {host.last_line}")
+            if not host.last_line.split(": ")[2].removeprefix("SICP 1.85, ").startswith("ID 1, "):
+                raise Missed(f"a damage was told: {host.last_line}")
         same("its own packets", host.ask(packet(1, 0, 0x62, sicp=box)), packet(1, 0, 0x62, 1, sicp=box))
         host.end()
 
