@@ -17,7 +17,6 @@ use Rattle.answers.specs.Played.{answeredOn}
 use Rattle.answers.specs.Turn.{namesIn, turnBy, turnedBy}
 use Rattle.answers.proofs.Turns.{entryOf}
 use Rattle.answers.proofs.Entries.{entry-is, reading, nothing-left, fits, something-left}
-use Rattle.image_forms.specs.declared.Form.{Form}
 use Rattle.image_write.proofs.Losing.{two-holds}
 use Rattle.undivarro.specs.declared.Outcome.{Outcome}
 use Rattle.undivarro.specs.Calls.{After}
