@@ -1,5 +1,6 @@
 -- What a burst says to the host that waits for a request. 01, "Host side": it heeds only an intact burst with group 0 and the
--- request's ID (02, A11: on 1.85 every burst's group is 0): for a set ACK, for a get its report with the right length and allowed values, for either NAV or NACK.
+-- request's ID: for a set ACK, for a get its report with the right length and allowed values, for either NAV or NACK. 02, A11: on
+-- 1.85 every burst's group is 0.
 use Prim.Native.Nat.{ℕ}
 use mathlib.Core.Bool.{cond, _&&_}
 use mathlib.Core.List.{List}
