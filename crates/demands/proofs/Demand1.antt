@@ -44,6 +44,7 @@ use Rattle.requests.specs.Request.{isRequest}
 use Rattle.host.specs.Machine.{Happening, start, burst, mark, State, Move, sendings, waits, quiet, begun, again, ending, heard, step}
 use Rattle.host.specs.Calls.{hostOf, stateOf, stepOf, call}
 use Rattle.host.proofs.Answers.{host-back}
+use Rattle.host.proofs.EachMove.{step-holds}
 use Rattle.demands.specs.Demand1.{AddRefused, RemoveRefused, ReadRefused, CallRefused, Bad, BadBurst, AnswerAlone, ImageAlone}
 
 pub add-refused : AddRefused
@@ -142,28 +143,15 @@ one-of s false m n h k = k
 quiet-stays : (s : State) (o : Outcome) → Stays s (quiet s o)
 quiet-stays s o r e = (refl, refl)
 
-again-stays : (s : State) → Stays s (again s)
-unfolding again
-again-stays s = one-of s (ltb (sendings s) 3) _ _ (taken _ refl) (taken _ refl)
-
-ending-stays : (s : State) (d : List ℕ) (w : Said) → Stays s (ending s d w)
-unfolding ending
-ending-stays s d Said.Ack = taken _ refl
-ending-stays s d Said.Nack = again-stays s
-ending-stays s d Said.Nav = taken _ refl
-ending-stays s d Said.Report = taken _ refl
-ending-stays s d Said.Nothing = taken _ refl
-
-begun-stays : (s : State) (edition : Edition) (r : Request) → Stays s (begun edition r)
-unfolding begun
-begun-stays s edition r = one-of s (isHeard (r .id) (r .group)) _ _ (taken _ refl) (taken _ refl)
-
 step-stays : (s : State) (h : Happening) → Stays s (step s h)
-unfolding step heard
-step-stays s (start r) =
-    one-of s (waits s) _ _ (quiet-stays s _) (one-of s (isRequest (s .edition) r) _ _ (begun-stays s (s .edition) r) (quiet-stays s _))
-step-stays s (burst b) = one-of s (waits s) (heard s (readingOf (s .edition) b)) (quiet s Outcome.Idle) (ending-stays s _ _) (quiet-stays s _)
-step-stays s mark = one-of s (waits s) _ _ (again-stays s) (quiet-stays s _)
+step-stays s = step-holds s (Stays s) (record {
+  stays = quiet-stays s;
+  starts = λ r. taken _ refl;
+  unheard = λ r. taken _ refl;
+  sends = taken _ refl;
+  ends = λ e vs. taken _ refl;
+  tells = λ d m held. held;
+})
 
 pub call-refused : CallRefused
 unfolding call stepOf laidOver flatten

@@ -10,9 +10,7 @@ use Rattle.settings.specs.Settings.{mostValues}
 use Rattle.packet.specs.declared.Edition.{Edition}
 use Rattle.packet.specs.declared.Verdict.{Verdict}
 use Rattle.packet.specs.Edition.{groupOn}
-use Rattle.packet.specs.Answered.{isHeard}
 use Rattle.packet.specs.Packet.{monitorId, groupId, longest, isIntact, verdictOf, dataOf}
-use Rattle.packet.specs.Reading.{readingOf}
 use Rattle.packet.proofs.EachEdition.{number-back}
 use Rattle.packet.proofs.Packets.{intact-verdict}
 use Rattle.requests.specs.declared.Request.{Request}
@@ -23,7 +21,8 @@ use Rattle.line.specs.declared.Receiver.{Receiver}
 use Rattle.line.specs.Receiver.{receiverOf, withByte, atMark}
 use Rattle.line.proofs.Streams.{stream-after}
 use Rattle.host.specs.Heard.{saidBy, saidTo}
-use Rattle.host.specs.Machine.{Happening, start, burst, mark, State, Move, sendings, mostSendings, waits, begun, again, ending, heard, step}
+use Rattle.host.specs.Machine.{Happening, State, step}
+use Rattle.host.proofs.EachMove.{step-holds}
 use Rattle.demands.proofs.Demand2.{by-readings}
 use Rattle.demands.specs.Editions.{OpenedByNumber, NeverGuesses, KeepsEdition, GroupZero, heeds, Heeded}
 
@@ -43,36 +42,19 @@ byte-keeps r b = go (ltb (r .count) longest) _ _ refl refl
     go false x y e f = f
 
 -- the host
-record Keeps (s : State) (m : Move) : Type 0 where
-  pub same : m .next .edition ≡ s .edition
-
-either : {s : State} (t : Bool) {x y : Move} → Keeps s x → Keeps s y → Keeps s (cond t x y)
-either true e f = e
-either false e f = f
-
-again-keeps : (s : State) → Keeps s (again s)
-unfolding again
-again-keeps s = either (ltb (sendings s) mostSendings) (record { same = refl }) (record { same = refl })
-
-ending-keeps : (s : State) (d : List ℕ) (w : Said) → Keeps s (ending s d w)
-unfolding ending
-ending-keeps s d Said.Ack = record { same = refl }
-ending-keeps s d Said.Nack = again-keeps s
-ending-keeps s d Said.Nav = record { same = refl }
-ending-keeps s d Said.Report = record { same = refl }
-ending-keeps s d Said.Nothing = record { same = refl }
-
-step-keeps : (s : State) (h : Happening) → Keeps s (step s h)
-unfolding step heard begun
-step-keeps s (start r) =
-    either (waits s) (record { same = refl })
-    (either (isRequest (s .edition) r) (either (isHeard (r .id) (r .group)) (record { same = refl }) (record { same = refl })) (record { same = refl }))
-step-keeps s (burst b) = record { same = either (waits s) (ending-keeps s _ (saidTo (s .request) (readingOf (s .edition) b))) (record { same = refl }) .same }
-step-keeps s mark = either (waits s) (again-keeps s) (record { same = refl })
+step-keeps : (s : State) (h : Happening) → step s h .next .edition ≡ s .edition
+step-keeps s = step-holds s (λ m. m .next .edition ≡ s .edition) (record {
+  stays = λ o. refl;
+  starts = λ r. refl;
+  unheard = λ r. refl;
+  sends = refl;
+  ends = λ e vs. refl;
+  tells = λ d m held. held;
+})
 
 pub keeps-edition : KeepsEdition
 unfolding atMark receiverOf
-keeps-edition = (byte-keeps, (λ r t. refl), (λ s h. step-keeps s h .same))
+keeps-edition = (byte-keeps, (λ r t. refl), step-keeps)
 
 pub group-zero : GroupZero
 unfolding isRequest
