@@ -4,16 +4,13 @@ use mathlib.Core.Bool.{Bool, true, false, cond, false≢true, _&&_}
 use mathlib.Core.Logic.{inl, inr}
 use mathlib.Core.Path.{_≡_, refl, sym, ap, _∙_}
 use mathlib.Core.List.{List, [], _∷_, flatten}
-use lib.Dec.{leb, ltb, eqb}
+use lib.Dec.{leb, eqb}
 use lib.ListN.{length, getD, drop}
 use Rattle.lists.proofs.Laid.{behind-over}
-use Rattle.packet.specs.Answered.{isHeard}
-use Rattle.packet.specs.declared.Edition.{Edition}
 use Rattle.packet.specs.declared.MonitorId.{MonitorId}
 use Rattle.packet.specs.declared.GroupId.{GroupId}
 use Rattle.packet.specs.declared.Verdict.{Verdict}
 use Rattle.packet.specs.Packet.{longest}
-use Rattle.packet.specs.Reading.{readingOf}
 use Rattle.lists.specs.Lists.{laidOver}
 use Rattle.panels.specs.declared.Panel.{Panel}
 use Rattle.panels.specs.declared.Place.{Place}
@@ -37,11 +34,8 @@ use Rattle.image_read.specs.Read.{ReadImage, refused, recordRefusal, readRecord
 use Rattle.image_read.proofs.OnTheWay.{wallWith}
 use Rattle.image_back.proofs.Back.{image-size}
 use Rattle.host.specs.declared.Refusal.{Refusal as HostRefusal}
-use Rattle.requests.specs.declared.Request.{Request}
 use Rattle.host.specs.declared.Outcome.{Outcome}
-use Rattle.requests.specs.declared.Said.{Said}
-use Rattle.requests.specs.Request.{isRequest}
-use Rattle.host.specs.Machine.{Happening, start, burst, mark, State, Move, sendings, waits, quiet, begun, again, ending, heard, step}
+use Rattle.host.specs.Machine.{Happening, State, Move, quiet, step}
 use Rattle.host.specs.Calls.{hostOf, stateOf, stepOf, call}
 use Rattle.host.proofs.Answers.{host-back}
 use Rattle.host.proofs.EachMove.{step-holds}
