@@ -1,4 +1,4 @@
-/* The display control box for C: one burst played on a setup image.
+/* The display control box for C: bursts played on a setup image, one in a call or many.
  *
  * A setup image holds a wall of up to 32 panels with all their settings. The library keeps nothing between calls: the
  * caller hands in the image, gets the image after the burst, and hands that in with the next burst.
@@ -6,12 +6,12 @@
  * An image has one of two forms, told apart by its last byte, 1 or 2. In form 2 each panel has a profile, general or
  * Phoenix, which says what its video may be, a kind, 5 by 5 or 15 by 10, which says how large its wall may be, and a
  * tiling, which says where in its wall it sits; in form 1 every panel is general and 5 by 5, and its tiling is fresh.
- * Every function reads both forms. undivarro_play, undivarro_play_on, undivarro_read and undivarro_salvage write form 2;
- * undivarro_back writes form 1, for boxes that know no other.
+ * Every function reads both forms. undivarro_back writes form 1, for boxes that know no other; all the others write
+ * form 2.
  *
  * Every byte string is lent for the call as a pointer and a length. Any bytes and any lengths may be given; nothing
- * outside the lent lengths is read or written. The buffers that are written, answer or lines and out, overlap neither
- * each other nor what is read: out is not image. A pointer whose length is 0 is not used. */
+ * outside the lent lengths is read or written. The buffers that are written, answer, answers or lines and out, overlap
+ * neither each other nor what is read: out is not image. A pointer whose length is 0 is not used. */
 #ifndef UNDIVARRO_H
 #define UNDIVARRO_H
 
@@ -25,6 +25,7 @@ extern "C" {
 enum {
     UNDIVARRO_MAX_PANELS = 32,
     UNDIVARRO_ANSWER_CAP = 40,          /* what answer must have room for */
+    UNDIVARRO_BATCH_CAP = 41,           /* what answers must have room for, for each burst of the list */
     UNDIVARRO_IMAGE_CAP = 45 * 32 + 2,  /* room for every image that is written: for n panels form 2 has 45n + 2 bytes,
                                            form 1 35n + 2 */
     UNDIVARRO_LINES_CAP = 32 * 11 * 9   /* what lines must have room for: at most 32 records; of each at most eleven
@@ -86,18 +87,21 @@ enum {
  *   31  undivarro_back only: a panel is Phoenix or 15 by 10, or its tiling is not fresh, which form 1 cannot say
  *   19  answer_cap under 40, lines_cap under UNDIVARRO_LINES_CAP, or out_cap under the size of what is written: 45n + 2,
  *       35n + 2 for undivarro_back, 45k + 2 for undivarro_salvage; n is the image's panel count, and k of these panels
- *       are kept
- *   23  undivarro_play_on only: edition is neither 185 nor 201
+ *       are kept. Of a batch it speaks of out_cap only
+ *   23  undivarro_play_on and undivarro_batch_on: edition is neither 185 nor 201
+ *   32  list: stops inside a burst
+ *   33  answers_cap under 41 bytes for each burst of the list
  *
  * 11 to 15 are tested on the whole image; then record after record, each its 16 and then field after field its 17 and
  * its 18; the first fault counts. undivarro_salvage does not refuse 16 to 18 but tells them in its lines. 31 comes after
- * all of these, then 19, and 23 last. */
+ * all of these, then 19, 23, 32 and 33. */
 struct undivarro_result {
     uint32_t refusal;
-    uint32_t answer_len;                /* bytes written to answer, and 0 is silence; or to lines, and 0 is a sound image */
-    uint32_t image_len;                 /* bytes written to out: 45n + 2, or 35n + 2 by undivarro_back, or 45k + 2 by
-                                           undivarro_salvage */
     uint32_t damage;                    /* of the burst; 0 from every function but undivarro_play and undivarro_play_on */
+    size_t answer_len;                  /* bytes written to answer, and 0 is silence; or to answers; or to lines, and 0 is a
+                                           sound image */
+    size_t image_len;                   /* bytes written to out: 45n + 2, or 35n + 2 by undivarro_back, or 45k + 2 by
+                                           undivarro_salvage */
 };
 
 /* Plays one burst of a 2.01 line on the wall of the image. A burst is all the bytes between two quiet marks of the line, of
@@ -118,6 +122,24 @@ struct undivarro_result undivarro_play_on(uint32_t edition,
                                           const uint8_t *burst, size_t burst_len,
                                           uint8_t *answer, size_t answer_cap,
                                           uint8_t *out, size_t out_cap);
+
+/* Plays a list of bursts of a 2.01 line on the wall of the image, one after the other: a scene, or a night's changes. In the
+ * list each burst has a byte that counts its bytes, 0 to 255, and then these. To the front of answers go, for each burst in
+ * its order, a byte that counts the bytes of its answer, and then these; 0 is silence. The image after the last burst goes to
+ * the front of out, in form 2. Wall and answers are those of undivarro_play, called with one burst after the other, each on
+ * the image of the one before. The list is looked at whole before a burst is played: where it is refused, none is. A list of
+ * no bytes has no bursts, and the image is written as by undivarro_read. */
+struct undivarro_result undivarro_batch(const uint8_t *image, size_t image_len,
+                                        const uint8_t *list, size_t list_len,
+                                        uint8_t *answers, size_t answers_cap,
+                                        uint8_t *out, size_t out_cap);
+
+/* The same on a line of this edition, 185 or 201; undivarro_batch is it with 201. */
+struct undivarro_result undivarro_batch_on(uint32_t edition,
+                                           const uint8_t *image, size_t image_len,
+                                           const uint8_t *list, size_t list_len,
+                                           uint8_t *answers, size_t answers_cap,
+                                           uint8_t *out, size_t out_cap);
 
 /* Reads an image and writes its wall to the front of out in form 2, with all ten fields of each panel, by rising code:
  * fields may come in any order, but for a kind behind the tiling, and one that is left out has the fresh value of the

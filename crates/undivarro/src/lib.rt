@@ -12,14 +12,14 @@ use packet::LONGEST;
 use packet::Numbered;
 use refusals::UNKNOWN_EDITION;
 
-// What comes back: 0 or the refusal's number, how many bytes the answer and the image written have, and the number of what was
-// wrong with the burst.
+// What comes back: 0 or the refusal's number, the number of what was wrong with the burst, and how many bytes the answer and the
+// image written have.
 #[repr(C)]
 pub struct Outcome {
     pub refusal: u32,
-    pub answered: u32,
-    pub written: u32,
     pub damage: u32,
+    pub answered: usize,
+    pub written: usize,
 }
 
 // A setup image of either form read, and its table written in a form.
@@ -42,9 +42,9 @@ fn moved(form: Form, image: &[u8], out: &mut [u8]) -> Outcome
     let written = parts::put_setup(form, table, out);
     Outcome {
         refusal: 0,
+        damage: 0,
         answered: 0,
         written,
-        damage: 0,
     }
 }
 
@@ -132,8 +132,8 @@ pub extern "C" fn undivarro_salvage(image: &[u8], lines: &mut [u8], out: &mut [u
     let written = parts::put_setup(Form::Two, table, out);
     Outcome {
         refusal: 0,
-        answered: told as u32,
-        written,
         damage: 0,
+        answered: told,
+        written,
     }
 }

@@ -54,34 +54,34 @@ pub(crate) fn refused(refusal: u32) -> Outcome
 {
     Outcome {
         refusal,
+        damage: 0,
         answered: 0,
         written: 0,
-        damage: 0,
     }
 }
 
 // The answer, on a line of an edition, at the front of an output with room for it, and its length.
-pub(crate) fn put_answer(edition: Edition, reply: Reply, out: &mut [u8]) -> u32
+pub(crate) fn put_answer(edition: Edition, reply: Reply, out: &mut [u8]) -> usize
     requires { ⌜ longest ≤ length (now out) ⌝ }
     ensures { λ r. ⌜ r ≡ length (sentBytes edition reply) ⌝ }
     ensures { λ _. ⌜ now (out .exit) ≡ laidOver (sentBytes edition reply) (now (out .entry)) ⌝ }
 {
     let sent = answers::write_answer(edition, reply, out);
     match sent {
-        Sent::Bytes(n) => n as u32,
+        Sent::Bytes(n) => n,
         Sent::NoRoom => 0,
     }
 }
 
 // The image of a table that a form holds, at the front of an output with room for it, and its length.
-pub(crate) fn put_setup(form: Form, t: Table, out: &mut [u8]) -> u32
+pub(crate) fn put_setup(form: Form, t: Table, out: &mut [u8]) -> usize
     requires { ⌜ WellFormed t × (losesNothing form (panelsOf t) ≡ true) × (sizeOf form (panelsOf t) ≤ length (now out)) ⌝ }
     ensures { λ r. ⌜ r ≡ length (setupOf form (panelsOf t)) ⌝ }
     ensures { λ _. ⌜ now (out .exit) ≡ laidOver (setupOf form (panelsOf t)) (now (out .entry)) ⌝ }
 {
     let written = image_write::write_image(form, t, out);
     match written {
-        Written::Bytes(n) => n as u32,
+        Written::Bytes(n) => n,
         Written::WouldLose => 0,
         Written::NoRoom => 0,
     }

@@ -18,15 +18,15 @@ use panels::MOST_PANELS;
 use panels::Table;
 
 // The outcome of a burst that was played.
-fn given(answered: u32, written: u32, verdict: Verdict) -> Outcome
+fn given(answered: usize, written: usize, verdict: Verdict) -> Outcome
     ensures { λ r. ⌜ r ≡ record { refusal = 0; answered = answered; written = written; damage = damageNumber (damageIn verdict) } ⌝ }
 {
     let damage = packet::damage_in(verdict);
     Outcome {
         refusal: 0,
+        damage: packet::damage_number(damage) as u32,
         answered,
         written,
-        damage: packet::damage_number(damage) as u32,
     }
 }
 

@@ -73,12 +73,6 @@ put-setup-requires c κs =
     let e = s .salvage .ensures .0 in
     (formed-kept image _ e, two-holds _, rw (wall-kept image _ e) (there past .1))
 
-cast-t24 : tie.Need-cast-t24
-cast-t24 c =
-    let past = c .before .before .before .before .before .before .before .before .before in
-    let s = salvage-of (past .before) in
-    omega (arith, told-short (start s .args .image .now) _ (s .salvage .ensures .0))
-
 same-length : tie.Need-same-length
 same-length c = search needs
 
@@ -117,7 +111,6 @@ undivarro-salvage-spec =
     slice-aggregate-put-text
     put-text-requires
     put-setup-requires
-    cast-t24
     same-length
     same-length-2
     returns-2)

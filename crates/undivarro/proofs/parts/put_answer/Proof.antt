@@ -1,8 +1,7 @@
--- There is room, so the answer is written; its length is small. Assumes nothing.
+-- There is room, so the answer is written. Assumes nothing.
 use mathlib.Core.Path.{_≡_, sym, ap, _∙_}
 use mathlib.Core.List.{List}
 use Prim.Native.Nat.{ℕ, _≤_}
-use native.Mathlib.Omega.{arith}
 use borrow.Author.Tests.{le-leb}
 use lib.ListN.{length}
 use Rattle.packet.specs.declared.Edition.{Edition}
@@ -10,9 +9,8 @@ use Rattle.packet.specs.Packet.{longest}
 use Rattle.lists.specs.Lists.{laidOver}
 use Rattle.answers.specs.declared.Reply.{Reply}
 use Rattle.answers.specs.declared.Sent.{Sent}
-use Rattle.answers.specs.Reply.{sentBytes, sentOf, outputOf, mostReported}
+use Rattle.answers.specs.Reply.{sentBytes, sentOf, outputOf}
 use Rattle.answers.proofs.Lengths.{bytesSent}
-use Rattle.undivarro.proofs.Lengths.{sent-few}
 use borrow.Author.Needs.{needs}
 use Rattle.undivarro.proofs.parts.put_answer.Statement.{statement}
 use Rattle.undivarro.proofs.parts.put_answer.Tie as tie
@@ -37,13 +35,6 @@ write-answer-requires c κs = search needs
 enum-known-sent : tie.Need-enum-known-sent
 enum-known-sent c = search needs
 
-cast-result : tie.Need-cast-result
-cast-result c =
-    let call = c .before .before .before .before .before in
-    let a = call .before .before .before .args in
-    let n : length (a .reply .bytes) ≡ mostReported = search needs in
-    omega (arith, sent-few (a .edition) (a .reply) n, sent call _ (c .before .sent .given .1) .0)
-
 enum-told : tie.Need-enum-told
 enum-told c = search needs
 
@@ -65,7 +56,6 @@ put-answer-spec =
     (tie.spec
     write-answer-requires
     enum-known-sent
-    cast-result
     enum-told
     same-length
     returns

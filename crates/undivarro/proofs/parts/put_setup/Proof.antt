@@ -1,13 +1,11 @@
--- Nothing would be lost and there is room, so the image is written; it has at most 1,442 bytes. Assumes nothing.
+-- Nothing would be lost and there is room, so the image is written. Assumes nothing.
 use mathlib.Core.Path.{_≡_, sym, ap, _∙_}
-use native.Mathlib.Omega.{arith}
 use lib.ListN.{length}
 use Rattle.lists.specs.Lists.{laidOver}
 use Rattle.panels.specs.Wall.{panelsOf}
 use Rattle.image_write.specs.declared.Written.{Written}
 use Rattle.image_write.specs.Written.{setupOf}
 use Rattle.image_write.proofs.Lengths.{bytesWritten}
-use Rattle.image_write.proofs.Lengths.{products}
 use Rattle.image_write.proofs.Losing.{is-written}
 use Rattle.image_back.proofs.Back.{image-size}
 use borrow.Author.Needs.{needs}
@@ -29,13 +27,6 @@ write-image-requires c κs = search needs
 
 enum-known-written : tie.Need-enum-known-written
 enum-known-written c = search needs
-
-cast-result : tie.Need-cast-result
-cast-result c =
-    let call = c .before .before .before .before .before in
-    let start = call .before .before .before in
-    let w = panelsOf (start .args .t) in
-    omega (arith, products (start .args .form) 0 (length w) .0, products (start .args .form) 0 (length w) .3, image-size (start .args .form) w (start .pre .0 .good), start .pre .0 .few, laid call _ (c .before .written .given .1) .0)
 
 enum-told : tie.Need-enum-told
 enum-told c = search needs
@@ -67,7 +58,6 @@ put-setup-spec =
     (tie.spec
     write-image-requires
     enum-known-written
-    cast-result
     enum-told
     enum-told-2
     same-length
