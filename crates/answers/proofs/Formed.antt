@@ -1,5 +1,5 @@
 -- A burst keeps a wall good: every setting stays in its range. Assumes nothing.
-use mathlib.Core.Path.{_≡_, refl, sym, ap, _∙_}
+use mathlib.Core.Path.{_≡_, refl, sym, ap, subst, _∙_}
 use mathlib.Core.Bool.{Bool, true, false, cond}
 use mathlib.Core.List.{List}
 use Prim.Native.Nat.{ℕ, _<_}
@@ -26,8 +26,10 @@ use Rattle.panels.specs.Addressed.{reaches}
 use Rattle.panels.specs.WellFormed.{GoodPanel, GoodWall, WellFormed}
 use Rattle.panels.proofs.Values.{with-own, set-row, other-row, with-in-range}
 use Rattle.panels.proofs.Formed.{formed, good-map}
+use Rattle.panels.proofs.Laws.{panels-of-table}
+use Rattle.answers.specs.declared.Played.{Played}
 use Rattle.answers.specs.Judged.{Command, getOf, setOf, unavailable, command, notAvailable, taken, offAlready, heldThen, takes, judge, stored, panelAfter}
-use Rattle.answers.specs.Played.{turned, answeredBy, answered}
+use Rattle.answers.specs.Played.{turned, answeredBy, answered, answeredOn}
 use Rattle.answers.proofs.Orders.{OnLine, on-line, taken-allowed}
 
 -- storing what a row has changes nothing
@@ -130,3 +132,11 @@ unfolding answered
 answered-formed {t} f r =
     let (good, n) = by-verdict (r .verdict) (panelsOf t) (r .part) (r .seems) in
     formed _ (omega (arith, f .few)) (good (f .good))
+
+-- what was answered on a table: its own, and its wall
+module _ {t : Table} (f : WellFormed t) (r : Reading) {p : Played} (is : p ≡ answeredOn t r) where
+  pub formed-played : WellFormed (p .table)
+  formed-played = subst WellFormed (sym (ap (λ (q : Played). q .table) is)) (answered-formed f r)
+
+  pub wall-played : panelsOf (p .table) ≡ answered (panelsOf t) r .wall
+  wall-played = ap (λ (q : Played). panelsOf (q .table)) is ∙ panels-of-table _

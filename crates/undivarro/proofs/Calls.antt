@@ -18,7 +18,7 @@ use Rattle.panels.proofs.Laws.{panels-of-table}
 use Rattle.answers.specs.declared.Played.{Played}
 use Rattle.answers.specs.Reply.{sentBytes}
 use Rattle.answers.specs.Played.{answered, answeredOn}
-use Rattle.answers.proofs.Formed.{answered-count, answered-formed}
+use Rattle.answers.proofs.Formed.{answered-count, wall-played}
 use Rattle.image_forms.specs.declared.Form.{Form}
 use Rattle.refusals.specs.declared.Refusal.{Refusal}
 use Rattle.image_read.specs.declared.Read.{Read}
@@ -62,19 +62,16 @@ module _ (image : List ℕ) (read : Read) (is-read : read ≡ inTable (readOf im
 
 -- What was answered to a burst on a table.
 module _ {t : Table} (f : WellFormed t) (edition : Edition) (burst : List ℕ) {p : Played} (is : p ≡ answeredOn t (readingOf edition burst)) where
-  pub formed-played : WellFormed (p .table)
-  formed-played = subst WellFormed (sym (ap (λ (q : Played). q .table) is)) (answered-formed f (readingOf edition burst))
-
-  wall-played : panelsOf (p .table) ≡ answered (panelsOf t) (readingOf edition burst) .wall
-  wall-played = ap (λ (q : Played). panelsOf (q .table)) is ∙ panels-of-table _
+  wall-is : panelsOf (p .table) ≡ answered (panelsOf t) (readingOf edition burst) .wall
+  wall-is = wall-played f (readingOf edition burst) is
 
   pub size-played : sizeOf Form.Two (panelsOf (p .table)) ≡ sizeOf Form.Two (panelsOf t)
-  size-played = ap (λ (k : ℕ). panelSize Form.Two * k + 2) (ap length wall-played ∙ answered-count (panelsOf t) (readingOf edition burst))
+  size-played = ap (λ (k : ℕ). panelSize Form.Two * k + 2) (ap length wall-is ∙ answered-count (panelsOf t) (readingOf edition burst))
 
   pub given-played : (answer out : List ℕ)
       → given (sentBytes edition (p .reply)) (setupOf Form.Two (panelsOf (p .table))) (p .damage) answer out ≡ afterBurst edition (panelsOf t) burst answer out
   given-played answer out =
-      ap (λ (w : Wall). given (sentBytes edition (p .reply)) (setupOf Form.Two w) (p .damage) answer out) wall-played
+      ap (λ (w : Wall). given (sentBytes edition (p .reply)) (setupOf Form.Two w) (p .damage) answer out) wall-is
       ∙ ap (λ (q : Played). given (sentBytes edition (q .reply)) (setupOf Form.Two (answered (panelsOf t) (readingOf edition burst) .wall)) (q .damage) answer out) is
 
 -- Both ends of each call.

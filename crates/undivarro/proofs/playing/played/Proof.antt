@@ -15,12 +15,13 @@ use Rattle.answers.specs.declared.Entry.{Entry}
 use Rattle.answers.specs.declared.Played.{Played}
 use Rattle.answers.specs.Played.{answeredOn}
 use Rattle.answers.specs.Turn.{namesIn, turnBy, turnedBy}
+use Rattle.answers.proofs.Formed.{formed-played}
 use Rattle.answers.proofs.Turns.{entryOf}
 use Rattle.answers.proofs.Entries.{entry-is, reading, nothing-left, fits, something-left}
 use Rattle.image_write.proofs.Losing.{two-holds}
 use Rattle.undivarro.specs.declared.Outcome.{Outcome}
 use Rattle.undivarro.specs.Calls.{After}
-use Rattle.undivarro.proofs.Calls.{formed-played, size-played, given-played}
+use Rattle.undivarro.proofs.Calls.{size-played, given-played}
 use borrow.Author.Needs.{needs}
 use Rattle.undivarro.proofs.playing.played.Statement.{statement}
 use Rattle.undivarro.proofs.playing.played.Tie as tie
@@ -147,7 +148,7 @@ put-setup-requires-2 c κs =
     let turn = past .before .before .before .before .before .before .before .before in
     let is = changed turn (past .if1 .left) (c .before .stored .ensures) in
     let a = start turn .args in
-    (formed-played (start turn .pre .0) (a .edition) (a .burst .now) is, two-holds _, rw (size-played (start turn .pre .0) (a .edition) (a .burst .now) is) (start turn .pre .2))
+    (formed-played (start turn .pre .0) (readingOf (a .edition) (a .burst .now)) is, two-holds _, rw (size-played (start turn .pre .0) (a .edition) (a .burst .now) is) (start turn .pre .2))
 
 given-requires-2 : tie.Need-given-requires-2
 given-requires-2 c κs = search needs

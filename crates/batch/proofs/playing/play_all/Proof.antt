@@ -1,0 +1,306 @@
+-- The invariant: what is written, and what the bursts that are left come to, is what the list comes to. Assumes nothing.
+use mathlib.Core.Bool.{false}
+use mathlib.Core.Path.{_≡_, refl, sym, ap, ap₂, subst, _∙_}
+use mathlib.Core.List.{List, map}
+use Prim.Native.Nat.{ℕ, _+_, _-_, _*_, _≤_, _<_}
+use native.Mathlib.Omega.{arith}
+use borrow.Author.Needs.{needs}
+use lib.ListN.{length, take, drop}
+use Rattle.lists.proofs.Laid.{length-laid}
+use Rattle.bursts.specs.Bursts.{Bursts, burstsIn}
+use Rattle.bursts.proofs.Bursts.{first-of}
+use Rattle.packet.specs.declared.Addressee.{Addressee}
+use Rattle.packet.specs.declared.MonitorId.{MonitorId}
+use Rattle.packet.specs.declared.Verdict.{Verdict}
+use Rattle.packet.specs.Packet.{damageIn}
+use Rattle.packet.specs.Reading.{readingOf}
+use Rattle.packet.proofs.Readings.{same-reading}
+use Rattle.panels.specs.declared.Place.{Place}
+use Rattle.panels.specs.declared.Table.{Table}
+use Rattle.panels.specs.Wall.{Wall, panelsOf, tableOf, placeOf, placeNumber, mostPanels}
+use Rattle.panels.specs.WellFormed.{WellFormed}
+use Rattle.panels.proofs.Laws.{place-there}
+use Rattle.panels.proofs.Index.{place-found, members-few, members-found}
+use Rattle.answers.specs.declared.Entry.{Entry}
+use Rattle.answers.specs.declared.Played.{Played}
+use Rattle.answers.specs.Played.{answeredOn}
+use Rattle.answers.specs.Turn.{namesIn, turnBy, turnedBy}
+use Rattle.answers.proofs.Formed.{formed-played, wall-played}
+use Rattle.answers.proofs.Turns.{entryOf}
+use Rattle.answers.proofs.Entries.{entry-is, reading, nothing-left, fits, something-left}
+use Rattle.batch.specs.declared.Batch.{Batch}
+use Rattle.batch.specs.declared.Refusal.{Refusal}
+use Rattle.batch.specs.Scene.{roomForOne}
+use Rattle.batch.proofs.Walks.{bursts-end, burst-at, whole-there}
+use Rattle.batch.proofs.Scenes.{Playing, playing-first, playing-next, playing-last}
+use Rattle.batch.proofs.playing.play_all.Statement.{statement}
+use Rattle.batch.proofs.playing.play_all.Tie as tie
+
+-- a place in the index is small
+place-few : (i : MonitorId) (w : Wall) → length w ≤ mostPanels → placeNumber (placeOf i w) ≤ mostPanels
+place-few i w few = go (placeOf i w) refl
+  where
+    go : (q : Place) → placeOf i w ≡ q → placeNumber q ≤ mostPanels
+    go (Place.At k) e = omega (arith, place-there i w k e .0)
+    go Place.Nowhere e = omega arith
+
+abbrev Inv-loop : tie.InvT-loop
+Inv-loop edition list out₀ t₀ written₀ at₀ out t written at =
+    let rest = burstsIn (drop at list) in
+    WellFormed t × (at ≤ length list) × (rest .cut ≡ false) × (length out ≡ length out₀) × (written + roomForOne * length (rest .whole) ≤ length out₀)
+    × Playing edition (panelsOf t₀) (burstsIn list .whole) out₀ (panelsOf t) (rest .whole) written out
+
+abbrev μ-loop : tie.MeasureT-loop
+μ-loop edition list out₀ t₀ written₀ at₀ out t written at = length list - at
+
+loop-holds : tie.Need-loop-holds Inv-loop μ-loop
+loop-holds c =
+    let s = c .before .before in
+    (s .pre .0, omega arith, s .pre .1, refl, omega (arith, s .pre .2), playing-first (s .args .edition) (panelsOf (s .args .t2)) _ (s .args .out .now))
+
+add-end : tie.Need-add-end Inv-loop μ-loop
+add-end c = search needs
+
+shared-slice-read-count-of : tie.Need-shared-slice-read-count-of Inv-loop μ-loop
+shared-slice-read-count-of c = search needs
+
+count-of-requires : tie.Need-count-of-requires Inv-loop μ-loop
+count-of-requires c κs = search needs
+
+-- the list, the place in it, and the burst there, which is whole
+abbrev args-of : tie.After-count-of Inv-loop μ-loop → tie.Start Inv-loop μ-loop
+args-of c = c .before .before .before .before .before .before
+
+inside : (c : tie.After-count-of Inv-loop μ-loop) → c .before .before .before .loop .at < length (args-of c .args .list .now)
+inside c = omega arith
+
+there : (c : tie.After-count-of Inv-loop μ-loop) → c .before .before .before .loop .at + 1 + c .count-of .result ≤ length (args-of c .args .list .now)
+there c =
+    let loop = c .before .before .before in
+    whole-there (args-of c .args .list .now) (loop .loop .at) _ _ (c .count-of .ensures) (inside c) (loop .loop .inv .2)
+
+abbrev burst : tie.After-count-of Inv-loop μ-loop → List ℕ
+burst c = take (c .count-of .result) (drop (c .before .before .before .loop .at + 1) (args-of c .args .list .now))
+
+abbrev left : tie.After-count-of Inv-loop μ-loop → Bursts
+left c = burstsIn (drop (c .before .before .before .loop .at + 1 + c .count-of .result) (args-of c .args .list .now))
+
+here : (c : tie.After-count-of Inv-loop μ-loop) → burstsIn (drop (c .before .before .before .loop .at) (args-of c .args .list .now)) ≡ first-of (burst c) (left c)
+here c =
+    let loop = c .before .before .before in
+    burst-at (args-of c .args .list .now) (loop .loop .at) _ _ (c .count-of .ensures) (inside c) (there c)
+
+add-end-2 : tie.Need-add-end-2 Inv-loop μ-loop
+add-end-2 c = record { fits = omega (arith, there c) }
+
+add-burst : tie.Need-add-burst Inv-loop μ-loop
+add-burst c = search needs
+
+sub-burst : tie.Need-sub-burst Inv-loop μ-loop
+sub-burst c = search needs
+
+part-burst-start : tie.Need-part-burst-start Inv-loop μ-loop
+part-burst-start c = search needs
+
+part-burst-end : tie.Need-part-burst-end Inv-loop μ-loop
+part-burst-end c = there c
+
+verdict-of-requires : tie.Need-verdict-of-requires Inv-loop μ-loop
+verdict-of-requires c κs = search needs
+
+data-of-requires : tie.Need-data-of-requires Inv-loop μ-loop
+data-of-requires c κs = search needs
+
+seems-for-requires : tie.Need-seems-for-requires Inv-loop μ-loop
+seems-for-requires c κs = search needs
+
+names-in-requires : tie.Need-names-in-requires Inv-loop μ-loop
+names-in-requires c κs = search needs
+
+cast-place : tie.Need-cast-place Inv-loop μ-loop
+cast-place c = search needs
+
+element-copy-out-place : tie.Need-element-copy-out-place Inv-loop μ-loop
+element-copy-out-place c = search needs
+
+cast-place-2 : tie.Need-cast-place-2 Inv-loop μ-loop
+cast-place-2 c =
+    let loop = c .before .before .before .before .before .before .before .before .before .before in
+    let i = c .before .before .names-in .result .id in
+    let f = loop .loop .inv .0 in
+    record { fits = omega (arith, place-found f i (element-copy-out-place (c .before)) 0, place-few i (panelsOf (loop .loop .t)) (f .few)) }
+
+count-of-requires-2 : tie.Need-count-of-requires-2 Inv-loop μ-loop
+count-of-requires-2 c κs = search needs
+
+cast-t19 : tie.Need-cast-t19 Inv-loop μ-loop
+cast-t19 c = search needs
+
+element-copy-out-t23 : tie.Need-element-copy-out-t23 Inv-loop μ-loop
+element-copy-out-t23 c = search needs
+
+cast-t31 : tie.Need-cast-t31 Inv-loop μ-loop
+cast-t31 c =
+    let loop = c .before .before .before .before .before .before .before .before .before .before .before .before .before in
+    let g = c .before .before .before .before .before .names-in .result .group in
+    let f = loop .loop .inv .0 in
+    record { fits = omega (arith, members-found f g (element-copy-out-t23 (c .before)) 0, members-few g (panelsOf (loop .loop .t)), f .few) }
+
+mul-t33 : tie.Need-mul-t33 Inv-loop μ-loop
+mul-t33 c = search needs
+
+element-copy-out-t36 : tie.Need-element-copy-out-t36 Inv-loop μ-loop
+element-copy-out-t36 c = search needs
+
+abbrev count-at : tie.After-turn-of Inv-loop μ-loop → tie.After-count-of Inv-loop μ-loop
+count-at c = c .before .before .before .before .before .before .before .before .before .before .before .before
+
+abbrev loop-at : tie.After-turn-of Inv-loop μ-loop → tie.At-loop Inv-loop μ-loop
+loop-at c = c .before .before .before .before .before .before .before .before .before .before .before .before .before .before .before
+
+abbrev verdict : tie.After-turn-of Inv-loop μ-loop → Verdict
+verdict c = c .before .before .before .before .before .before .before .before .before .before .verdict-of .result
+
+abbrev part : tie.After-turn-of Inv-loop μ-loop → List ℕ
+part c = c .before .before .before .before .before .before .before .before .before .data-of .result .now
+
+abbrev seems : tie.After-turn-of Inv-loop μ-loop → Addressee
+seems c = c .before .before .before .before .before .before .before .before .seems-for .result
+
+turn-is : (c : tie.After-turn-of Inv-loop μ-loop)
+    → c .turn-of .result ≡ turnBy (entryOf (panelsOf (loop-at c .loop .t)) (namesIn (verdict c) (seems c))) (verdict c) (part c) (seems c)
+turn-is c =
+    let known = c .before .before .before in
+    let count = known .before in
+    let names = count .before .before .before in
+    let t = loop-at c .loop .t in
+    let there = entry-is (loop-at c .loop .inv .0) (names .names-in .result) (element-copy-out-place (count .before .before)) (element-copy-out-t23 known) _ (count .count-of2 .ensures) _ in
+    c .turn-of .ensures ∙ ap (λ (e : Entry). turnBy e (verdict c) (part c) (seems c)) (there ∙ ap (entryOf (panelsOf t)) (names .names-in .ensures))
+
+-- what was read is the burst's reading
+is-read : (c : tie.After-turn-of Inv-loop μ-loop) → reading (verdict c) (part c) (seems c) ≡ readingOf (args-of (count-at c) .args .edition) (burst (count-at c))
+is-read c =
+    let read = c .before .before .before .before .before .before .before .before .before in
+    let count = count-at c in
+    let n = count .count-of .result in
+    let loop = loop-at c in
+    let size : loop .loop .at + 1 + n - (loop .loop .at + 1) ≡ n = omega arith in
+    same-reading (read .before .verdict-of .ensures) (read .data-of .ensures) (c .before .before .before .before .before .before .before .before .seems-for .ensures)
+    ∙ ap (λ (k : ℕ). readingOf (args-of count .args .edition) (take k (drop (loop .loop .at + 1) (args-of count .args .list .now)))) size
+
+-- with the table that a turn leaves
+abbrev leaving : tie.After-turn-of Inv-loop μ-loop → Table → Played
+leaving c u = record { table = u; reply = c .turn-of .result .reply; damage = damageIn (verdict c) }
+
+abbrev Left : tie.After-turn-of Inv-loop μ-loop → Table → Type 0
+Left c u = leaving c u ≡ answeredOn (loop-at c .loop .t) (readingOf (args-of (count-at c) .args .edition) (burst (count-at c)))
+
+kept : (c : tie.After-turn-of Inv-loop μ-loop) → c .turn-of .result .change .first ≡ c .turn-of .result .change .end → Left c (loop-at c .loop .t)
+kept c e = nothing-left (loop-at c .loop .inv .0) (verdict c) (part c) (seems c) (turn-is c) e ∙ ap (answeredOn (loop-at c .loop .t)) (is-read c)
+
+changed : (c : tie.After-turn-of Inv-loop μ-loop) {u : Table} → (c .turn-of .result .change .first ≡ c .turn-of .result .change .end → ⊥)
+    → u ≡ tableOf (map (turnedBy (c .turn-of .result .change) (part c)) (panelsOf (loop-at c .loop .t))) → Left c u
+changed c some e = something-left (loop-at c .loop .inv .0) (verdict c) (part c) (seems c) (turn-is c) some e ∙ ap (answeredOn (loop-at c .loop .t)) (is-read c)
+
+turn-of-requires : tie.Need-turn-of-requires Inv-loop μ-loop
+turn-of-requires c κs = search needs
+
+put-answer-requires : tie.Need-put-answer-requires Inv-loop μ-loop
+put-answer-requires c κs =
+    let read = c .before .before .before .before .before .before .before .before .before .before .before .before .before .before .before in
+    let loop = read .before .before .before in
+    omega (arith, loop .loop .inv .3, loop .loop .inv .4, ap (λ (b : Bursts). length (b .whole)) (here read))
+
+stored-requires : tie.Need-stored-requires Inv-loop μ-loop
+stored-requires c κs =
+    let turn = c .before .before .before .before .before .before .before .before in
+    let f = loop-at turn .loop .inv .0 in
+    (f, fits f (verdict turn) (part turn) (seems turn) (turn-is turn) (c .if1 .taken))
+
+-- the invariant behind the burst, with the table that it leaves
+next : (c : tie.After-put-answer Inv-loop μ-loop) {u : Table} → Left (c .before .before .before .before) u → let turn = c .before .before .before .before in
+    let count = count-at turn in
+    let a = args-of count .args in
+    Inv-loop (a .edition) (a .list .now) (a .out .now) (a .t2) 0 0 (c .put-answer .last .1 .1 .0) u (c .put-answer .result) (loop-at turn .loop .at + 1 + count .count-of .result)
+next c is =
+    let turn = c .before .before .before .before in
+    let count = count-at turn in
+    let loop = loop-at turn in
+    let a = args-of count .args in
+    let r = readingOf (a .edition) (burst count) in
+    let inv = loop .loop .inv in
+    let (end, small) = c .put-answer .ensures .0 in
+    let fewer = ap (λ (b : Bursts). length (b .whole)) (here count) in (
+      formed-played (inv .0) r is,
+      there count,
+      sym (ap (λ (b : Bursts). b .cut) (here count)) ∙ inv .2,
+      ap length (c .put-answer .ensures .1) ∙ length-laid (loop .loop .written) _ (loop .loop .out) (omega (arith, inv .3, inv .4)) ∙ inv .3,
+      omega (arith, inv .4),
+      playing-next (subst (λ (bs : List (List ℕ)). Playing (a .edition) (panelsOf (a .t2)) (burstsIn (a .list .now) .whole) (a .out .now) (panelsOf (loop .loop .t)) bs (loop .loop .written) (loop .loop .out))
+          (ap (λ (b : Bursts). b .whole) (here count)) (inv .5))
+          (wall-played (inv .0) r is) (ap (λ (p : Played). p .reply) is) end (c .put-answer .ensures .1) (omega (arith, inv .4)),
+    )
+
+loop-less : tie.Need-loop-less Inv-loop μ-loop
+loop-less c = let turn = c .before .before .before .before .before .before .before .before .before in omega (arith, inside (count-at turn), there (count-at turn))
+
+loop-again : tie.Need-loop-again Inv-loop μ-loop
+loop-again c = next (c .before .before .before .before .before) (changed (c .before .before .before .before .before .before .before .before .before) (c .before .if1 .taken) (c .stored .ensures))
+
+loop-less-2 : tie.Need-loop-less-2 Inv-loop μ-loop
+loop-less-2 c = let turn = c .before .before .before .before .before .before .before .before in omega (arith, inside (count-at turn), there (count-at turn))
+
+loop-again-2 : tie.Need-loop-again-2 Inv-loop μ-loop
+loop-again-2 c = next (c .before .before .before .before) (kept (c .before .before .before .before .before .before .before .before) (c .if1 .left))
+
+same-length : tie.Need-same-length Inv-loop μ-loop
+same-length c = search needs
+
+returns : tie.Need-returns Inv-loop μ-loop
+returns c =
+    let loop = c .before in
+    let a = loop .before .before .before .args in
+    let end = bursts-end (a .list .now) (loop .loop .at) (omega arith) in
+    let (wall, many, laid) =
+    playing-last (subst (λ (bs : List (List ℕ)). Playing (a .edition) (panelsOf (a .t2)) (burstsIn (a .list .now) .whole) (a .out .now) (panelsOf (loop .loop .t)) bs (loop .loop .written) (loop .loop .out))
+    (ap (λ (b : Bursts). b .whole) end) (loop .loop .inv .5))
+    in
+    (ap₂ {C = Batch} (λ (t : Table) (n : ℕ). record { table = t; written = n; refusal = Refusal.Nothing }) (loop .loop .inv .0 .held ∙ ap tableOf wall) many, laid)
+
+pub play-all-spec : {M : Type 1} → statement M
+play-all-spec =
+    tie.close
+    (tie.spec
+    Inv-loop
+    μ-loop
+    loop-holds
+    add-end
+    shared-slice-read-count-of
+    count-of-requires
+    add-end-2
+    add-burst
+    sub-burst
+    part-burst-start
+    part-burst-end
+    verdict-of-requires
+    data-of-requires
+    seems-for-requires
+    names-in-requires
+    cast-place
+    element-copy-out-place
+    cast-place-2
+    count-of-requires-2
+    cast-t19
+    element-copy-out-t23
+    cast-t31
+    mul-t33
+    element-copy-out-t36
+    turn-of-requires
+    put-answer-requires
+    stored-requires
+    loop-less
+    loop-again
+    loop-less-2
+    loop-again-2
+    same-length
+    returns)

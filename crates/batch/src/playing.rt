@@ -1,0 +1,74 @@
+// The bursts of a list played one by one.
+ghost use mathlib.Core.Bool.{false};
+ghost use mathlib.Core.Path.{_≡_};
+ghost use Prim.Native.Nat.{_+_, _*_, _≤_};
+ghost use lib.ListN.{length};
+ghost use Rattle.lists.specs.Lists.{laidAt, laidOver};
+ghost use Rattle.bursts.specs.Bursts.{burstsIn};
+ghost use Rattle.panels.specs.Wall.{panelsOf};
+ghost use Rattle.panels.specs.WellFormed.{WellFormed};
+ghost use Rattle.batch.specs.Scene.{roomForOne, withCount, playedOut, batchOf};
+use crate::Batch;
+use crate::Refusal;
+use crate::listing;
+use answers::Entry;
+use answers::Reply;
+use answers::Sent;
+use packet::Edition;
+use panels::MOST_PANELS;
+use panels::Table;
+
+// The count byte of an answer and the answer, at a place of an output with room for any; the place behind them.
+fn put_answer(edition: Edition, reply: Reply, out: &mut [u8], at: usize) -> usize
+    requires { ⌜ at + roomForOne ≤ length (now out) ⌝ }
+    ensures { λ r. ⌜ (r ≡ at + length (withCount edition reply)) × (r ≤ at + roomForOne) ⌝ }
+    ensures { λ _. ⌜ now (out .exit) ≡ laidAt at (withCount edition reply) (now (out .entry)) ⌝ }
+{
+    let sent = answers::write_answer(edition, reply, &mut out[at + 1..]);
+    match sent {
+        Sent::Bytes(n) => {
+            out[at] = n as u8;
+            at + 1 + n
+        }
+        Sent::NoRoom => at,
+    }
+}
+
+// All bursts of a list that is not cut, with an output that has room for each. A burst does what answers::play does, but a table
+// that nothing changes stays where it lies.
+pub(crate) fn play_all(edition: Edition, mut t: Table, list: &[u8], out: &mut [u8]) -> Batch
+    requires { ⌜ WellFormed t × (burstsIn (now list) .cut ≡ false) × (roomForOne * length (burstsIn (now list) .whole) ≤ length (now out)) ⌝ }
+    ensures { λ r. ⌜ r ≡ batchOf (playedOut edition (panelsOf t) (burstsIn (now (list .entry)) .whole)) ⌝ }
+    ensures { λ _. ⌜ now (out .exit) ≡ laidOver (playedOut edition (panelsOf t) (burstsIn (now (list .entry)) .whole) .answers) (now (out .entry)) ⌝ }
+{
+    let mut written = 0;
+    let mut at = 0;
+    while at < list.len() {
+        let end = at + 1 + listing::count_of(list[at]);
+        let burst = &list[at + 1..end];
+        let verdict = packet::verdict_of(edition, burst);
+        let d = packet::data_of(edition, burst, verdict);
+        let seems = packet::seems_for(edition, burst);
+        let names = answers::names_in(verdict, seems);
+        let place = t.places[names.id.0 as usize] as usize;
+        let entry = Entry {
+            count: panels::count_of(t),
+            members: t.members[names.group.0 as usize] as usize,
+            at: place,
+            panel: t.panels[place % MOST_PANELS],
+        };
+        let turn = answers::turn_of(entry, verdict, d, seems);
+        let reply = turn.reply;
+        let change = turn.change;
+        written = put_answer(edition, reply, out, written);
+        if change.first != change.end {
+            t = answers::stored(t, change, d);
+        }
+        at = end;
+    }
+    Batch {
+        table: t,
+        written,
+        refusal: Refusal::Nothing,
+    }
+}
