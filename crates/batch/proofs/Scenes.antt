@@ -16,7 +16,7 @@ use Rattle.answers.specs.declared.Reply.{Reply}
 use Rattle.answers.specs.Played.{played}
 use Rattle.answers.specs.Session.{byBurst}
 use Rattle.batch.specs.declared.Refusal.{Refusal}
-use Rattle.batch.specs.Scene.{Scene, refusalNumber, withCount, answersOf, roomForOne, refusalOf, playedOut, sceneBy}
+use Rattle.batch.specs.Scene.{Scene, refusalNumber, withCount, answersOf, roomForOne, refusalOf, playedOut, sceneBy, sceneOf}
 
 -- a list that is not refused is whole, and there is room for each of its bursts
 pub taken-whole : (list : List ℕ) (room : ℕ) → refusalNumber (refusalOf list room) ≡ 0
@@ -40,6 +40,16 @@ module _ (edition : Edition) (w : Wall) (bursts : List (List ℕ)) where
   scene-refused Refusal.Nothing e = absurd (e refl)
   scene-refused Refusal.Cut e = refl
   scene-refused Refusal.NoRoom e = refl
+
+-- nothing is written of a list that is refused
+pub refused-silent : (edition : Edition) (w : Wall) (list : List ℕ) (room : ℕ) → (refusalNumber (sceneOf edition w list room .refusal) ≡ 0 → ⊥) → sceneOf edition w list room .answers ≡ []
+unfolding sceneOf
+refused-silent edition w list room = go (refusalOf list room) _
+  where
+    go : (r : Refusal) (bursts : List (List ℕ)) → (refusalNumber (sceneBy r edition w bursts .refusal) ≡ 0 → ⊥) → sceneBy r edition w bursts .answers ≡ []
+    go Refusal.Nothing bursts e = absurd (e refl)
+    go Refusal.Cut bursts e = refl
+    go Refusal.NoRoom bursts e = refl
 
 -- behind what was written
 abbrev behind : List ℕ → Scene → Scene

@@ -8,7 +8,7 @@ use native.Mathlib.Numerals.{add-one}
 use native.Mathlib.Omega.{arith}
 use borrow.Rule.Slice.PartMut.{midOf, putMid}
 use lib.ListN.{length, getD, take, drop, set, length-append, length-drop, take-append-drop}
-use lib.Seq.{length-take-le, take-all, take-length, drop-length, take-at, drop-at, take-take, take-add, drop-drop, set-split, drop-append-add}
+use lib.Seq.{length-take-le, take-all, take-suc, take-length, drop-length, take-at, drop-at, take-take, take-add, drop-drop, set-at, set-split, append-snoc, drop-append-add}
 use Rattle.lists.specs.Lists.{laidAt, laidOver}
 use Rattle.lists.proofs.Flat.{flat-more}
 
@@ -118,6 +118,18 @@ laid-then at m a b l e h =
 pub laid-set : (at v : ℕ) (l : List ℕ) → at < length l → set l at v ≡ laidAt at (v ∷ []) l
 unfolding laidAt
 laid-set at v l h = set-split l at v h ∙ rw (append-assoc (take at l) (v ∷ []), add-one)
+
+-- a byte put before what was laid
+pub laid-before : (at v : ℕ) (s l : List ℕ) → at < length l → set (laidAt (at + 1) s l) at v ≡ laidAt at (v ∷ s) l
+unfolding laidAt
+laid-before at v s l h =
+    let front = take at l in
+    let rest = drop (at + suc (length s)) l in
+    let x = getD l at 0 in
+    let one : take (at + 1) l ≡ front ++ x ∷ [] = rw add-one (take-suc l at 0 h) in
+    let same : at + 1 + length s ≡ at + suc (length s) = omega arith in
+    rw (one, same, append-snoc front x s, append-assoc front (x ∷ s) rest, append-assoc front (v ∷ s) rest)
+    (set-at front x (s ++ rest) v at (length-take-le at l (omega arith)))
 
 pub laid-two : (at a b : ℕ) (l : List ℕ) → at + 1 < length l → set (set l at a) (at + 1) b ≡ laidAt at (a ∷ b ∷ []) l
 laid-two at a b l h =

@@ -1,7 +1,7 @@
 -- What the parts of a call leave together. Assumes nothing.
 use mathlib.Core.Path.{_≡_, refl, sym, ap, ap₂, subst, _∙_}
 use mathlib.Core.Bool.{Bool, true, false, cond, _&&_}
-use mathlib.Core.List.{List, []}
+use mathlib.Core.List.{List}
 use Prim.Native.Nat.{ℕ, _+_, _*_, _≤_}
 use native.Mathlib.Omega.{arith}
 use borrow.Author.Tests.{eq-eqb, ne-eqb, eqb-false, leb-true}
@@ -9,7 +9,6 @@ use lib.Dec.{leb}
 use lib.ListN.{length}
 use Rattle.lists.proofs.Both.{both}
 use Rattle.packet.specs.declared.Edition.{Edition}
-use Rattle.packet.specs.Packet.{longest}
 use Rattle.packet.specs.Reading.{readingOf}
 use Rattle.panels.specs.declared.Table.{Table}
 use Rattle.panels.specs.Wall.{Wall, panelsOf}
@@ -75,12 +74,12 @@ module _ {t : Table} (f : WellFormed t) (edition : Edition) (burst : List ℕ) {
       ∙ ap (λ (q : Played). given (sentBytes edition (q .reply)) (setupOf Form.Two (answered (panelsOf t) (readingOf edition burst) .wall)) (q .damage) answer out) is
 
 -- Both ends of each call.
-module _ (form : Form) (image : List ℕ) (then : Wall → After) (answer out : List ℕ) (n : ℕ)
-    (is : n ≡ refusalFor (readOf image .refusal) (losesNothing form (readOf image .wall)) (leb longest (length answer) && leb (sizeOf form (readOf image .wall)) (length out))) where
-  pub setup-refused : (n ≡ 0 → ⊥) → refused n answer out ≡ afterSetup form image then answer out
+module _ (form : Form) (least : ℕ) (image : List ℕ) (then : Wall → After) (answer out : List ℕ) (n : ℕ)
+    (is : n ≡ refusalFor (readOf image .refusal) (losesNothing form (readOf image .wall)) (leb least (length answer) && leb (sizeOf form (readOf image .wall)) (length out))) where
+  pub setup-refused : (n ≡ 0 → ⊥) → refused n answer out ≡ afterSetup form least image then answer out
   unfolding afterSetup
   setup-refused h = sym (rw (sym is, ne-eqb n 0 h))
 
-  pub setup-taken : n ≡ 0 → then (readOf image .wall) ≡ afterSetup form image then answer out
+  pub setup-taken : n ≡ 0 → then (readOf image .wall) ≡ afterSetup form least image then answer out
   unfolding afterSetup
   setup-taken z = sym (rw (sym is, eq-eqb n 0 z))

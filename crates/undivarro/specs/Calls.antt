@@ -1,10 +1,11 @@
 -- What a call from C leaves: four numbers, and every byte of both buffers. 01, "For C"; 02, A2: play and read write form 2, and
--- back writes form 1; A3: play tells what is wrong with the burst; A7; A11: play takes the number of the line's edition.
+-- back writes form 1; A3: play tells what is wrong with the burst; A7; A9: a list is played; A11: play takes the number of the
+-- line's edition.
 use Prim.Native.Nat.{ℕ}
 use mathlib.Core.Bool.{Bool, true, cond, _&&_}
 use mathlib.Core.List.{List, []}
 use lib.Dec.{leb, eqb}
-use lib.ListN.{length, replicate}
+use lib.ListN.{length}
 use Rattle.packet.specs.declared.Damage.{Damage}
 use Rattle.packet.specs.declared.Edition.{Edition}
 use Rattle.packet.specs.Edition.{editionNumber, editionWith, ifKnown}
@@ -14,6 +15,7 @@ use Rattle.lists.specs.Lists.{laidOver}
 use Rattle.panels.specs.Wall.{Wall}
 use Rattle.answers.specs.Reply.{sentBytes}
 use Rattle.answers.specs.Played.{answered}
+use Rattle.batch.specs.Scene.{sceneOf, refusalNumber as listNumber}
 use Rattle.refusals.specs.declared.Refusal.{Refusal}
 use Rattle.image_forms.specs.declared.Form.{Form}
 use Rattle.image_write.specs.Written.{setupOf, sizeOf, losesNothing}
@@ -21,6 +23,7 @@ use Rattle.refusals.specs.Refusals.{isSound, refusalNumber, noRoom, unknownEdit
 use Rattle.image_read.specs.Read.{readOf}
 use Rattle.image_frame.specs.Frame.{frameRefusal}
 use Rattle.image_salvage.specs.Salvaged.{salvageOf, textOf, linesCap}
+use Rattle.undivarro.specs.declared.Heard.{Heard}
 use Rattle.undivarro.specs.declared.Outcome.{Outcome}
 
 pub record After : Type 0 where
@@ -51,28 +54,56 @@ afterBurst edition w burst answer out =
 unfoldable pub refusalFor : Refusal → Bool → Bool → ℕ
 refusalFor read held room = cond (isSound read) (cond held (cond room 0 noRoom) wouldLose) (refusalNumber read)
 
--- What comes of a setup that is written in a form, where nothing is refused. There is room where the answer buffer has it for any
--- packet, and the output for the image.
-unfoldable pub afterSetup : Form → List ℕ → (Wall → After) → List ℕ → List ℕ → After
-afterSetup form image then answer out =
+-- What comes of a setup that is written in a form, where nothing is refused. There is room where the answer buffer has at least so
+-- many bytes, and the output has it for the image.
+unfoldable pub afterSetup : Form → ℕ → List ℕ → (Wall → After) → List ℕ → List ℕ → After
+afterSetup form least image then answer out =
     let r = readOf image in
-    let room = leb longest (length answer) && leb (sizeOf form (r .wall)) (length out) in
+    let room = leb least (length answer) && leb (sizeOf form (r .wall)) (length out) in
     let n = refusalFor (r .refusal) (losesNothing form (r .wall)) room in
     cond (eqb n 0) (then (r .wall)) (refused n answer out)
 
--- it is written again; for an answer, which there is not, there is room
+-- it is written again, and nothing is answered
 unfoldable pub afterMove : Form → List ℕ → List ℕ → After
-afterMove form image out = let none : List ℕ = replicate longest 0 in afterSetup form image (λ w. given [] (setupOf form w) Damage.Nothing none out) none out
+afterMove form image out = afterSetup form 0 image (λ w. given [] (setupOf form w) Damage.Nothing [] out) [] out
 
--- a burst is played, on a line opened with this number; 23 comes after all other refusals
-unfoldable pub afterPlayOn : ℕ → List ℕ → List ℕ → List ℕ → List ℕ → After
-afterPlayOn number image burst answer out =
-    afterSetup Form.Two image
-    (λ w. ifKnown (editionWith number) (λ edition. afterBurst edition w burst answer out) (refused unknownEdition answer out))
+-- one burst, or a list of them (02, A9), played on a line of an edition; the wall is then written in form 2
+abbrev pub afterList : Edition → Wall → List ℕ → List ℕ → List ℕ → After
+afterList edition w list answers out =
+    let s = sceneOf edition w list (length answers) in
+    let n = listNumber (s .refusal) in
+    cond (eqb n 0) (given (s .answers) (setupOf Form.Two (s .wall)) Damage.Nothing answers out) (refused n answers out)
+
+abbrev pub afterHeard : Heard → Edition → Wall → List ℕ → List ℕ → List ℕ → After
+afterHeard Heard.Burst = afterBurst
+afterHeard Heard.List = afterList
+
+-- an answer needs room for any packet; what a list needs is part of what is wrong with it
+abbrev pub leastAnswer : Heard → ℕ
+leastAnswer Heard.Burst = longest
+leastAnswer Heard.List = 0
+
+-- on a line opened with this number; 23 comes after what is wrong with the setup and its room
+unfoldable pub afterLine : Heard → ℕ → List ℕ → List ℕ → List ℕ → List ℕ → After
+afterLine heard number image bytes answer out =
+    afterSetup Form.Two (leastAnswer heard) image
+    (λ w. ifKnown (editionWith number) (λ edition. afterHeard heard edition w bytes answer out) (refused unknownEdition answer out))
     answer out
 
+abbrev pub usual : ℕ
+usual = editionNumber Edition.Sicp201
+
+abbrev pub afterPlayOn : ℕ → List ℕ → List ℕ → List ℕ → List ℕ → After
+afterPlayOn = afterLine Heard.Burst
+
 abbrev pub afterPlay : List ℕ → List ℕ → List ℕ → List ℕ → After
-afterPlay = afterPlayOn (editionNumber Edition.Sicp201)
+afterPlay = afterPlayOn usual
+
+abbrev pub afterBatchOn : ℕ → List ℕ → List ℕ → List ℕ → List ℕ → After
+afterBatchOn = afterLine Heard.List
+
+abbrev pub afterBatch : List ℕ → List ℕ → List ℕ → List ℕ → After
+afterBatch = afterBatchOn usual
 
 abbrev pub afterRead : List ℕ → List ℕ → After
 afterRead = afterMove Form.Two

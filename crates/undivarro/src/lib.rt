@@ -1,16 +1,14 @@
-// The exported functions, for C: a setup image read, a burst played on it, and the setup written out again; or what can be kept
-// of an image that the reader refuses.
+// The exported functions, for C: a setup image read, a burst or a list of them played on it, and the setup written out again; or
+// what can be kept of an image that the reader refuses.
+mod batching;
+mod lines;
 mod parts;
 mod playing;
 
 ghost use mathlib.Core.Path.{_≡_};
-ghost use Rattle.undivarro.specs.Calls.{afterMove, afterPlayOn, afterPlay, afterRead, afterBack, afterSalvage};
+ghost use Rattle.undivarro.specs.Calls.{afterMove, afterPlayOn, afterPlay, afterBatchOn, afterBatch, afterRead, afterBack, afterSalvage};
 use image_forms::Form;
 use image_salvage::LINES_CAP;
-use packet::Edition;
-use packet::LONGEST;
-use packet::Numbered;
-use refusals::UNKNOWN_EDITION;
 
 // What comes back: 0 or the refusal's number, the number of what was wrong with the burst, and how many bytes the answer and the
 // image written have.
@@ -22,6 +20,12 @@ pub struct Outcome {
     pub written: usize,
 }
 
+// What is played in a call: a burst, or a list of them.
+enum Heard {
+    Burst,
+    List,
+}
+
 // A setup image of either form read, and its table written in a form.
 fn moved(form: Form, image: &[u8], out: &mut [u8]) -> Outcome
     ensures { λ r. ⌜ r ≡ afterMove form (now (image .entry)) (now (out .entry)) .outcome ⌝ }
@@ -31,11 +35,7 @@ fn moved(form: Form, image: &[u8], out: &mut [u8]) -> Outcome
     let table = read.table;
     let why = read.refusal;
     let held = image_write::loses_nothing(form, table);
-    let refusal = parts::refusal_for(
-        why,
-        held,
-        parts::has_room(form, table, LONGEST, LONGEST, out.len()),
-    );
+    let refusal = parts::refusal_for(why, held, parts::has_room(form, table, 0, 0, out.len()));
     if refusal != 0 {
         return parts::refused(refusal);
     }
@@ -62,19 +62,7 @@ pub extern "C" fn undivarro_play_on(
     ensures { λ _. ⌜ now (answer .exit) ≡ afterPlayOn edition (now (image .entry)) (now (burst .entry)) (now (answer .entry)) (now (out .entry)) .answer ⌝ }
     ensures { λ _. ⌜ now (out .exit) ≡ afterPlayOn edition (now (image .entry)) (now (burst .entry)) (now (answer .entry)) (now (out .entry)) .out ⌝ }
 {
-    let read = image_read::read_image(image);
-    let table = read.table;
-    let why = read.refusal;
-    let room = parts::has_room(Form::Two, table, LONGEST, answer.len(), out.len());
-    let refusal = parts::refusal_for(why, true, room);
-    if refusal != 0 {
-        return parts::refused(refusal);
-    }
-    let numbered = packet::edition_with(edition);
-    let Numbered::Known(known) = numbered else {
-        return parts::refused(UNKNOWN_EDITION as u32);
-    };
-    playing::played(known, table, burst, answer, out)
+    lines::on_line(Heard::Burst, edition, image, burst, answer, out)
 }
 
 // The same on a 2.01 line.
@@ -89,8 +77,39 @@ pub extern "C" fn undivarro_play(
     ensures { λ _. ⌜ now (answer .exit) ≡ afterPlay (now (image .entry)) (now (burst .entry)) (now (answer .entry)) (now (out .entry)) .answer ⌝ }
     ensures { λ _. ⌜ now (out .exit) ≡ afterPlay (now (image .entry)) (now (burst .entry)) (now (answer .entry)) (now (out .entry)) .out ⌝ }
 {
-    let number = packet::edition_number(Edition::Sicp201);
-    undivarro_play_on(number, image, burst, answer, out)
+    lines::on_2_01(Heard::Burst, image, burst, answer, out)
+}
+
+// A list of bursts played one after the other on a setup image of either form, on a line opened with an edition's number: for each
+// the length of its answer and the answer, and the setup as it then is, in form 2.
+#[no_mangle]
+pub extern "C" fn undivarro_batch_on(
+    edition: u32,
+    image: &[u8],
+    list: &[u8],
+    answers: &mut [u8],
+    out: &mut [u8],
+) -> Outcome
+    ensures { λ r. ⌜ r ≡ afterBatchOn edition (now (image .entry)) (now (list .entry)) (now (answers .entry)) (now (out .entry)) .outcome ⌝ }
+    ensures { λ _. ⌜ now (answers .exit) ≡ afterBatchOn edition (now (image .entry)) (now (list .entry)) (now (answers .entry)) (now (out .entry)) .answer ⌝ }
+    ensures { λ _. ⌜ now (out .exit) ≡ afterBatchOn edition (now (image .entry)) (now (list .entry)) (now (answers .entry)) (now (out .entry)) .out ⌝ }
+{
+    lines::on_line(Heard::List, edition, image, list, answers, out)
+}
+
+// The same on a 2.01 line.
+#[no_mangle]
+pub extern "C" fn undivarro_batch(
+    image: &[u8],
+    list: &[u8],
+    answers: &mut [u8],
+    out: &mut [u8],
+) -> Outcome
+    ensures { λ r. ⌜ r ≡ afterBatch (now (image .entry)) (now (list .entry)) (now (answers .entry)) (now (out .entry)) .outcome ⌝ }
+    ensures { λ _. ⌜ now (answers .exit) ≡ afterBatch (now (image .entry)) (now (list .entry)) (now (answers .entry)) (now (out .entry)) .answer ⌝ }
+    ensures { λ _. ⌜ now (out .exit) ≡ afterBatch (now (image .entry)) (now (list .entry)) (now (answers .entry)) (now (out .entry)) .out ⌝ }
+{
+    lines::on_2_01(Heard::List, image, list, answers, out)
 }
 
 // A setup image of either form, written in form 2.

@@ -4,8 +4,7 @@ use mathlib.Core.Bool.{true, _&&_}
 use mathlib.Core.List.{List, []}
 use Prim.Native.Nat.{ℕ, _≤_}
 use lib.Dec.{leb}
-use lib.ListN.{length, replicate}
-use Rattle.packet.specs.Packet.{longest}
+use lib.ListN.{length}
 use Rattle.packet.specs.declared.Damage.{Damage}
 use Rattle.panels.specs.Wall.{Wall}
 use Rattle.undivarro.specs.declared.Outcome.{Outcome}
@@ -18,12 +17,8 @@ use borrow.Author.Needs.{needs}
 use Rattle.undivarro.proofs.moved.Statement.{statement}
 use Rattle.undivarro.proofs.moved.Tie as tie
 
--- the answer buffer that there is room in
-abbrev room-for : List ℕ
-room-for = replicate longest 0
-
 abbrev rewritten : Form → List ℕ → Wall → After
-rewritten form out w = given [] (setupOf form w) Damage.Nothing room-for out
+rewritten form out w = given [] (setupOf form w) Damage.Nothing [] out
 
 abbrev start : tie.After-read-image → tie.Start
 start c = c .before .before .before
@@ -34,20 +29,20 @@ read-of c = c .before .before .before .before
 -- the refusal is the definition's, and where there is none there is room
 number : (c : tie.After-refusal-for) → let a = start (read-of c) .args in
     let r = readOf (a .image .now) in
-    c .refusal-for .result ≡ refusalFor (r .refusal) (losesNothing (a .form) (r .wall)) (leb longest longest && leb (sizeOf (a .form) (r .wall)) (length (a .out .now)))
+    c .refusal-for .result ≡ refusalFor (r .refusal) (losesNothing (a .form) (r .wall)) (leb 0 0 && leb (sizeOf (a .form) (r .wall)) (length (a .out .now)))
 number c =
     let room = c .before in
     let held = room .before in
-    refusal-is _ _ (read-of c .read-image .ensures) _ longest longest _ _ _ (held .loses-nothing .ensures) (room .has-room .ensures) _ (c .refusal-for .ensures)
+    refusal-is _ _ (read-of c .read-image .ensures) _ 0 0 _ _ _ (held .loses-nothing .ensures) (room .has-room .ensures) _ (c .refusal-for .ensures)
 
 there : (c : tie.Else1) → let a = start (read-of (c .before)) .args in
     let w = readOf (a .image .now) .wall in
-    (losesNothing (a .form) w ≡ true) × ((longest ≤ longest) × (sizeOf (a .form) w ≤ length (a .out .now)))
+    (losesNothing (a .form) w ≡ true) × ((0 ≤ 0) × (sizeOf (a .form) w ≤ length (a .out .now)))
 there c =
     let refusal = c .before in
     let room = refusal .before in
     let held = room .before in
-    enough _ _ (read-of refusal .read-image .ensures) _ longest longest _ _ _ (held .loses-nothing .ensures) (room .has-room .ensures) _ (refusal .refusal-for .ensures) (c .if1 .left)
+    enough _ _ (read-of refusal .read-image .ensures) _ 0 0 _ _ _ (held .loses-nothing .ensures) (room .has-room .ensures) _ (refusal .refusal-for .ensures) (c .if1 .left)
 
 read-image-requires : tie.Need-read-image-requires
 read-image-requires c κs = search needs
@@ -69,7 +64,7 @@ unfolding afterMove
 returns c =
     let refusal = c .before .before in
     let a = start (read-of refusal) .args in
-    let e = setup-refused (a .form) (a .image .now) (rewritten (a .form) (a .out .now)) room-for (a .out .now) _ (number refusal) (c .before .if1 .taken) in
+    let e = setup-refused (a .form) 0 (a .image .now) (rewritten (a .form) (a .out .now)) [] (a .out .now) _ (number refusal) (c .before .if1 .taken) in
     (c .refused .ensures ∙ ap (λ (r : After). r .outcome) e, ap (λ (r : After). r .out) e)
 
 put-setup-requires : tie.Need-put-setup-requires
@@ -91,7 +86,7 @@ returns-2 c =
     let a = start (read-of refusal) .args in
     let e = read-of refusal .read-image .ensures in
     let then = rewritten (a .form) (a .out .now) in
-    let all = ap then (wall-read (a .image .now) _ e) ∙ setup-taken (a .form) (a .image .now) then room-for (a .out .now) _ (number refusal) (past .if1 .left) in (
+    let all = ap then (wall-read (a .image .now) _ e) ∙ setup-taken (a .form) 0 (a .image .now) then [] (a .out .now) _ (number refusal) (past .if1 .left) in (
       ap {B = Outcome} (λ (m : ℕ). record { refusal = 0; answered = 0; written = m; damage = 0 }) (put .put-setup .ensures .0) ∙ ap (λ (r : After). r .outcome) all,
       put .put-setup .ensures .1 ∙ ap (λ (r : After). r .out) all,
     )

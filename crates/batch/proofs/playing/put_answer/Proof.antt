@@ -1,15 +1,14 @@
 -- The answer stands behind its count, and there is room for both. Assumes nothing.
-use mathlib.Core.Path.{_≡_, refl, sym, ap, ap₂, _∙_}
-use mathlib.Core.List.{List, [], _∷_, _++_, append-assoc}
-use Prim.Native.Nat.{ℕ, suc, _+_, _-_, _≤_, _<_}
-use native.Mathlib.Numerals.{add-one}
+use mathlib.Core.Path.{_≡_, sym, ap, ap₂, _∙_}
+use mathlib.Core.List.{List, _++_}
+use Prim.Native.Nat.{ℕ, _+_, _-_, _≤_}
 use native.Mathlib.Omega.{arith}
 use borrow.Author.Tests.{le-leb}
 use borrow.Rule.Slice.PartMut.{midOf, putMid}
-use lib.ListN.{length, getD, take, drop, set, length-take, length-drop}
-use lib.Seq.{length-take-le, take-length, take-suc, append-snoc, set-at}
+use lib.ListN.{length, take, drop, set, length-take, length-drop}
+use lib.Seq.{take-length}
 use Rattle.lists.specs.Lists.{laidAt, laidOver}
-use Rattle.lists.proofs.Laid.{laid-copy}
+use Rattle.lists.proofs.Laid.{laid-copy, laid-before}
 use Rattle.packet.specs.declared.Edition.{Edition}
 use Rattle.packet.specs.Packet.{longest}
 use Rattle.answers.specs.declared.Reply.{Reply}
@@ -21,18 +20,6 @@ use Rattle.batch.proofs.Lengths.{sent-few}
 use borrow.Author.Needs.{needs}
 use Rattle.batch.proofs.playing.put_answer.Statement.{statement}
 use Rattle.batch.proofs.playing.put_answer.Tie as tie
-
--- a byte put before what was laid
-laid-before : (at v : ℕ) (s l : List ℕ) → at < length l → set (laidAt (at + 1) s l) at v ≡ laidAt at (v ∷ s) l
-unfolding laidAt
-laid-before at v s l h =
-    let front = take at l in
-    let rest = drop (at + suc (length s)) l in
-    let x = getD l at 0 in
-    let one : take (at + 1) l ≡ front ++ x ∷ [] = rw add-one (take-suc l at 0 h) in
-    let same : at + 1 + length s ≡ at + suc (length s) = omega arith in
-    rw (one, same, append-snoc front x s, append-assoc front (x ∷ s) rest, append-assoc front (v ∷ s) rest)
-    (set-at front x (s ++ rest) v at (length-take-le at l (omega arith)))
 
 -- an answer in the part of an output behind a place
 module _ (edition : Edition) (r : Reply) (at : ℕ) (l : List ℕ) (room : at + roomForOne ≤ length l) where
