@@ -15,7 +15,7 @@ use Rattle.lists.proofs.Both.{both}
 use Rattle.lists.proofs.Places.{getD-inside, store, from-seam}
 use Rattle.answers.specs.Judged.{Command, setOf, judge, takes, stored, heldThen, panelAfter}
 use Rattle.answers.specs.Played.{turned}
-use Rattle.answers.specs.Private.Orders.{isStored}
+use Rattle.answers.specs.Turn.{isStored}
 use Rattle.answers.proofs.Orders.{taken-many, judge-set, judge-not}
 
 -- a panel that would be turned into itself stays, turned or not

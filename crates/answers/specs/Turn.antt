@@ -17,6 +17,7 @@ use Rattle.packet.specs.Packet.{monitorId, groupId}
 use Rattle.packet.specs.Answered.{isHeard}
 use Rattle.panels.specs.declared.Panel.{Panel}
 use Rattle.panels.specs.Wall.{Wall, blank, mostPanels}
+use Rattle.panels.specs.Addressed.{reaches}
 use Rattle.answers.specs.declared.Change.{Change}
 use Rattle.answers.specs.declared.Entry.{Entry}
 use Rattle.answers.specs.declared.Names.{Names}
@@ -24,7 +25,7 @@ use Rattle.answers.specs.declared.Reply.{Reply}
 use Rattle.answers.specs.declared.Span.{Span}
 use Rattle.answers.specs.declared.Turn.{Turn}
 use Rattle.answers.specs.Reply.{silence, wordFrom}
-use Rattle.answers.specs.Judged.{Command, getOf, setOf, unavailable, command, judge, replyBy}
+use Rattle.answers.specs.Judged.{Command, getOf, setOf, unavailable, command, takes, judge, replyBy}
 use Rattle.answers.specs.Played.{turned}
 
 -- For each profile, by its number, whether its ranges allow the values of a set.
@@ -73,6 +74,10 @@ unfoldable pub turnBy : Entry → Verdict → List ℕ → Addressee → Turn
 turnBy e Verdict.Empty d seems = record { reply = silence; change = noChange }
 turnBy e (Verdict.Damaged damage) d seems = record { reply = nackTo e seems; change = noChange }
 turnBy e (Verdict.Intact i g n) d seems = record { reply = replyTo e i g (command d); change = changeOf e i g (command d) }
+
+-- whether a set is stored in a panel
+unfoldable pub isStored : MonitorId → GroupId → ℕ → List ℕ → Panel → Bool
+isStored i g row values p = reaches i g p && takes row values p
 
 -- a set, as it turns each panel
 abbrev pub turnedBy : Change → List ℕ → Panel → Panel

@@ -5,6 +5,8 @@ mod playing;
 mod turning;
 
 pub use answering::write_answer;
+pub use judging::is_stored;
+pub use judging::with_values;
 use packet::Control;
 use packet::Damage;
 use packet::GroupId;

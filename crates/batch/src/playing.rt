@@ -58,11 +58,16 @@ pub(crate) fn play_all(edition: Edition, mut t: Table, list: &[u8], out: &mut [u
             panel: t.panels[place % MOST_PANELS],
         };
         let turn = answers::turn_of(entry, verdict, d, seems);
-        let reply = turn.reply;
+        written = put_answer(edition, turn.reply, out, written);
         let change = turn.change;
-        written = put_answer(edition, reply, out, written);
-        if change.first != change.end {
-            t = answers::stored(t, change, d);
+        let allowed = change.allowed;
+        let mut k = change.first;
+        while k < change.end {
+            if answers::is_stored(t.panels[k], change.id, change.group, change.row, allowed, d) {
+                let p = answers::with_values(t.panels[k], change.row, d);
+                t.panels[k] = p;
+            }
+            k += 1;
         }
         at = end;
     }

@@ -8,13 +8,18 @@ use crate::GroupId;
 use crate::Numbered;
 use refusals::UNKNOWN_EDITION;
 
+// The numbers of the editions: their names without the point.
+const SICP_185: u32 = 185;
+
+pub const SICP_201: u32 = 201;
+
 // An edition's number.
 pub fn edition_number(edition: Edition) -> u32
     ensures { λ r. ⌜ r ≡ editionNumber edition ⌝ }
 {
     match edition {
-        Edition::Sicp185 => 185,
-        Edition::Sicp201 => 201,
+        Edition::Sicp185 => SICP_185,
+        Edition::Sicp201 => SICP_201,
     }
 }
 
@@ -22,10 +27,10 @@ pub fn edition_number(edition: Edition) -> u32
 pub fn edition_with(number: u32) -> Numbered
     ensures { λ r. ⌜ r ≡ editionWith number ⌝ }
 {
-    if number == 185 {
+    if number == SICP_185 {
         return Numbered::Known(Edition::Sicp185);
     }
-    if number == 201 {
+    if number == SICP_201 {
         return Numbered::Known(Edition::Sicp201);
     }
     Numbered::Unknown

@@ -6,6 +6,7 @@ ghost use Rattle.packet.specs.Control.{controlByte};
 ghost use Rattle.packet.specs.Answered.{isHeard};
 ghost use Rattle.packet.specs.Packet.{damageOf, damageNumber, verdictOf, damageIn, dataOf, writtenOf, outputOf};
 ghost use Rattle.packet.specs.Reading.{seemsFor};
+pub use editions::SICP_201;
 pub use editions::carries;
 pub use editions::edition_number;
 pub use editions::edition_with;

@@ -4,11 +4,13 @@ use mathlib.Core.Bool.{Bool, true, false, cond, _&&_}
 use mathlib.Core.List.{List}
 use Prim.Native.Nat.{ℕ, _+_, _*_, _≤_}
 use native.Mathlib.Omega.{arith}
-use borrow.Author.Tests.{eq-eqb, ne-eqb, eqb-false, leb-true}
-use lib.Dec.{leb}
+use borrow.Author.Tests.{eq-eqb, ne-eqb, eqb-true, eqb-false, leb-true}
+use lib.Dec.{leb, eqb}
 use lib.ListN.{length}
 use Rattle.lists.proofs.Both.{both}
 use Rattle.packet.specs.declared.Edition.{Edition}
+use Rattle.packet.specs.declared.Numbered.{Numbered}
+use Rattle.packet.specs.Edition.{editionWith, ifKnown}
 use Rattle.packet.specs.Reading.{readingOf}
 use Rattle.panels.specs.declared.Table.{Table}
 use Rattle.panels.specs.Wall.{Wall, panelsOf}
@@ -22,10 +24,13 @@ use Rattle.image_forms.specs.declared.Form.{Form}
 use Rattle.refusals.specs.declared.Refusal.{Refusal}
 use Rattle.image_read.specs.declared.Read.{Read}
 use Rattle.image_write.specs.Written.{setupOf, sizeOf, losesNothing, panelSize}
-use Rattle.refusals.specs.Refusals.{isSound, refusalNumber, noRoom, wouldLose}
+use Rattle.image_write.proofs.Losing.{two-holds}
+use Rattle.refusals.specs.Refusals.{isSound, refusalNumber, noRoom, unknownEdition, wouldLose}
 use Rattle.image_read.specs.Read.{readOf, inTable}
 use Rattle.image_read.proofs.Sound.{read-formed}
-use Rattle.undivarro.specs.Calls.{After, refused, given, refusalFor, afterBurst, afterSetup}
+use Rattle.undivarro.specs.Calls.{After, refused, given, refusalFor, afterBurst, afterSetup, afterOn}
+use Rattle.undivarro.specs.declared.Opened.{Opened}
+use Rattle.undivarro.specs.Private.{openedAs}
 
 -- where nothing is refused nothing would be lost, and there is room
 pub all-there : (read : Refusal) (held room : Bool) → refusalFor read held room ≡ 0 → (held ≡ true) × (room ≡ true)
@@ -83,3 +88,50 @@ module _ (form : Form) (least : ℕ) (image : List ℕ) (then : Wall → After) 
   pub setup-taken : n ≡ 0 → then (readOf image .wall) ≡ afterSetup form least image then answer out
   unfolding afterSetup
   setup-taken z = sym (rw (sym is, eq-eqb n 0 z))
+
+-- And of a call on a line, by what was opened.
+module _ (image : List ℕ) (read : Read) (is-read : read ≡ inTable (readOf image)) (number least : ℕ) (then : Edition → Wall → After) (answer out : List ℕ) {room : Bool}
+    (is-room : room ≡ (leb least (length answer) && leb (sizeOf Form.Two (panelsOf (read .table))) (length out))) {o : Opened} (is : o ≡ openedAs number (read .refusal) room) where
+  abbrev setup : ℕ
+  setup = refusalFor (read .refusal) true room
+
+  is-setup : setup ≡ refusalFor (readOf image .refusal) (losesNothing Form.Two (readOf image .wall)) (leb least (length answer) && leb (sizeOf Form.Two (readOf image .wall)) (length out))
+  is-setup = refusal-is image read is-read Form.Two least (length answer) (length out) true room (sym (two-holds _)) is-room setup refl
+
+  abbrev after : Numbered → Wall → After
+  after known w = ifKnown known (λ (e : Edition). then e w) (refused unknownEdition answer out)
+
+  -- what the number comes to, once the setup is taken
+  by-number : (known : Numbered) → let n : ℕ = ifKnown known (λ (e : Edition). 0) unknownEdition in
+      ((n ≡ 0 → ⊥) → refused n answer out ≡ after known (readOf image .wall))
+      × (n ≡ 0 → then (ifKnown known (λ (e : Edition). e) Edition.Sicp201) (readOf image .wall) ≡ after known (readOf image .wall))
+  by-number (Numbered.Known e) = ((λ h. absurd (h refl)), (λ h. refl))
+  by-number Numbered.Unknown = ((λ h. refl), (λ h. absurd (omega arith)))
+
+  line-is : ((o .refusal ≡ 0 → ⊥) → refused (o .refusal) answer out ≡ afterOn number least image then answer out)
+      × (o .refusal ≡ 0 → (setup ≡ 0) × (then (o .edition) (readOf image .wall) ≡ afterOn number least image then answer out))
+  unfolding afterOn
+  line-is = subst (λ (o : Opened). ((o .refusal ≡ 0 → ⊥) → refused (o .refusal) answer out ≡ afterOn number least image then answer out) × (o .refusal ≡ 0 → (setup ≡ 0) × (then (o .edition) (readOf image .wall) ≡ afterOn number least image then answer out))) (sym is) (go (eqb setup 0) refl)
+    where
+      go : (t : Bool) → eqb setup 0 ≡ t → let n = cond t (ifKnown (editionWith number) (λ (e : Edition). 0) unknownEdition) setup in
+          ((n ≡ 0 → ⊥) → refused n answer out ≡ afterSetup Form.Two least image (after (editionWith number)) answer out)
+          × (n ≡ 0 → (setup ≡ 0) × (then (ifKnown (editionWith number) (λ (e : Edition). e) Edition.Sicp201) (readOf image .wall) ≡ afterSetup Form.Two least image (after (editionWith number)) answer out))
+      go true s =
+          let zero = eqb-true setup 0 s in
+          let taken = setup-taken Form.Two least image (after (editionWith number)) answer out setup is-setup zero in
+          let (not, then-so) = by-number (editionWith number) in
+          ((λ h. not h ∙ taken), (λ h. (zero, then-so h ∙ taken)))
+      go false s =
+          let some = eqb-false setup 0 s in
+          (setup-refused Form.Two least image (after (editionWith number)) answer out setup is-setup, (λ h. absurd (some h)))
+
+  pub line-refused : (o .refusal ≡ 0 → ⊥) → refused (o .refusal) answer out ≡ afterOn number least image then answer out
+  line-refused = line-is .0
+
+  pub line-taken : o .refusal ≡ 0 → then (o .edition) (panelsOf (read .table)) ≡ afterOn number least image then answer out
+  line-taken h = ap (then (o .edition)) (wall-read image read is-read) ∙ line-is .1 h .1
+
+  pub line-room : o .refusal ≡ 0 → (least ≤ length answer) × (sizeOf Form.Two (panelsOf (read .table)) ≤ length out)
+  line-room h =
+      let (a, b) = enough image read is-read Form.Two least (length answer) (length out) true room (sym (two-holds _)) is-room setup refl (line-is .1 h .0) .1 in
+      (a, rw (wall-read image read is-read) b)

@@ -23,7 +23,6 @@ use Rattle.refusals.specs.Refusals.{isSound, refusalNumber, noRoom, unknownEdit
 use Rattle.image_read.specs.Read.{readOf}
 use Rattle.image_frame.specs.Frame.{frameRefusal}
 use Rattle.image_salvage.specs.Salvaged.{salvageOf, textOf, linesCap}
-use Rattle.undivarro.specs.declared.Heard.{Heard}
 use Rattle.undivarro.specs.declared.Outcome.{Outcome}
 
 pub record After : Type 0 where
@@ -67,43 +66,30 @@ afterSetup form least image then answer out =
 unfoldable pub afterMove : Form → List ℕ → List ℕ → After
 afterMove form image out = afterSetup form 0 image (λ w. given [] (setupOf form w) Damage.Nothing [] out) [] out
 
--- one burst, or a list of them (02, A9), played on a line of an edition; the wall is then written in form 2
+-- a list of bursts is played (02, A9), and the wall then written in form 2
 abbrev pub afterList : Edition → Wall → List ℕ → List ℕ → List ℕ → After
 afterList edition w list answers out =
     let s = sceneOf edition w list (length answers) in
     let n = listNumber (s .refusal) in
     cond (eqb n 0) (given (s .answers) (setupOf Form.Two (s .wall)) Damage.Nothing answers out) (refused n answers out)
 
-abbrev pub afterHeard : Heard → Edition → Wall → List ℕ → List ℕ → List ℕ → After
-afterHeard Heard.Burst = afterBurst
-afterHeard Heard.List = afterList
+-- on a line opened with this number; 23 comes after what is wrong with the setup and the room
+unfoldable pub afterOn : ℕ → ℕ → List ℕ → (Edition → Wall → After) → List ℕ → List ℕ → After
+afterOn number least image then answer out =
+    afterSetup Form.Two least image (λ w. ifKnown (editionWith number) (λ edition. then edition w) (refused unknownEdition answer out)) answer out
 
--- an answer needs room for any packet; what a list needs is part of what is wrong with it
-abbrev pub leastAnswer : Heard → ℕ
-leastAnswer Heard.Burst = longest
-leastAnswer Heard.List = 0
-
--- on a line opened with this number; 23 comes after what is wrong with the setup and its room
-unfoldable pub afterLine : Heard → ℕ → List ℕ → List ℕ → List ℕ → List ℕ → After
-afterLine heard number image bytes answer out =
-    afterSetup Form.Two (leastAnswer heard) image
-    (λ w. ifKnown (editionWith number) (λ edition. afterHeard heard edition w bytes answer out) (refused unknownEdition answer out))
-    answer out
-
-abbrev pub usual : ℕ
-usual = editionNumber Edition.Sicp201
-
+-- a burst's answer needs room for any packet; what a list's need is part of what is wrong with it
 abbrev pub afterPlayOn : ℕ → List ℕ → List ℕ → List ℕ → List ℕ → After
-afterPlayOn = afterLine Heard.Burst
-
-abbrev pub afterPlay : List ℕ → List ℕ → List ℕ → List ℕ → After
-afterPlay = afterPlayOn usual
+afterPlayOn number image burst answer out = afterOn number longest image (λ edition w. afterBurst edition w burst answer out) answer out
 
 abbrev pub afterBatchOn : ℕ → List ℕ → List ℕ → List ℕ → List ℕ → After
-afterBatchOn = afterLine Heard.List
+afterBatchOn number image list answers out = afterOn number 0 image (λ edition w. afterList edition w list answers out) answers out
+
+abbrev pub afterPlay : List ℕ → List ℕ → List ℕ → List ℕ → After
+afterPlay = afterPlayOn (editionNumber Edition.Sicp201)
 
 abbrev pub afterBatch : List ℕ → List ℕ → List ℕ → List ℕ → After
-afterBatch = afterBatchOn usual
+afterBatch = afterBatchOn (editionNumber Edition.Sicp201)
 
 abbrev pub afterRead : List ℕ → List ℕ → After
 afterRead = afterMove Form.Two

@@ -1,2 +1,3 @@
--- What the exported functions leave.
+-- `Calls` is what the exported functions leave.
 pub mod Calls
+pub mod Private

@@ -1,7 +1,6 @@
 // The exported functions, for C: a setup image read, a burst or a list of them played on it, and the setup written out again; or
 // what can be kept of an image that the reader refuses.
 mod batching;
-mod lines;
 mod parts;
 mod playing;
 
@@ -9,6 +8,9 @@ ghost use mathlib.Core.Path.{_≡_};
 ghost use Rattle.undivarro.specs.Calls.{afterMove, afterPlayOn, afterPlay, afterBatchOn, afterBatch, afterRead, afterBack, afterSalvage};
 use image_forms::Form;
 use image_salvage::LINES_CAP;
+use packet::Edition;
+use packet::LONGEST;
+use packet::SICP_201;
 
 // What comes back: 0 or the refusal's number, the number of what was wrong with the burst, and how many bytes the answer and the
 // image written have.
@@ -20,10 +22,10 @@ pub struct Outcome {
     pub written: usize,
 }
 
-// What is played in a call: a burst, or a list of them.
-enum Heard {
-    Burst,
-    List,
+// A line that is opened for a call, or what the call is refused by.
+struct Opened {
+    refusal: u32,
+    edition: Edition,
 }
 
 // A setup image of either form read, and its table written in a form.
@@ -62,7 +64,17 @@ pub extern "C" fn undivarro_play_on(
     ensures { λ _. ⌜ now (answer .exit) ≡ afterPlayOn edition (now (image .entry)) (now (burst .entry)) (now (answer .entry)) (now (out .entry)) .answer ⌝ }
     ensures { λ _. ⌜ now (out .exit) ≡ afterPlayOn edition (now (image .entry)) (now (burst .entry)) (now (answer .entry)) (now (out .entry)) .out ⌝ }
 {
-    lines::on_line(Heard::Burst, edition, image, burst, answer, out)
+    let read = image_read::read_image(image);
+    let table = read.table;
+    let why = read.refusal;
+    let room = parts::has_room(Form::Two, table, LONGEST, answer.len(), out.len());
+    let opened = parts::opened(edition, why, room);
+    let refusal = opened.refusal;
+    if refusal != 0 {
+        return parts::refused(refusal);
+    }
+    let known = opened.edition;
+    playing::played(known, table, burst, answer, out)
 }
 
 // The same on a 2.01 line.
@@ -77,7 +89,7 @@ pub extern "C" fn undivarro_play(
     ensures { λ _. ⌜ now (answer .exit) ≡ afterPlay (now (image .entry)) (now (burst .entry)) (now (answer .entry)) (now (out .entry)) .answer ⌝ }
     ensures { λ _. ⌜ now (out .exit) ≡ afterPlay (now (image .entry)) (now (burst .entry)) (now (answer .entry)) (now (out .entry)) .out ⌝ }
 {
-    lines::on_2_01(Heard::Burst, image, burst, answer, out)
+    undivarro_play_on(SICP_201, image, burst, answer, out)
 }
 
 // A list of bursts played one after the other on a setup image of either form, on a line opened with an edition's number: for each
@@ -94,7 +106,17 @@ pub extern "C" fn undivarro_batch_on(
     ensures { λ _. ⌜ now (answers .exit) ≡ afterBatchOn edition (now (image .entry)) (now (list .entry)) (now (answers .entry)) (now (out .entry)) .answer ⌝ }
     ensures { λ _. ⌜ now (out .exit) ≡ afterBatchOn edition (now (image .entry)) (now (list .entry)) (now (answers .entry)) (now (out .entry)) .out ⌝ }
 {
-    lines::on_line(Heard::List, edition, image, list, answers, out)
+    let read = image_read::read_image(image);
+    let table = read.table;
+    let why = read.refusal;
+    let room = parts::has_room(Form::Two, table, 0, answers.len(), out.len());
+    let opened = parts::opened(edition, why, room);
+    let refusal = opened.refusal;
+    if refusal != 0 {
+        return parts::refused(refusal);
+    }
+    let known = opened.edition;
+    batching::played(known, table, list, answers, out)
 }
 
 // The same on a 2.01 line.
@@ -109,7 +131,7 @@ pub extern "C" fn undivarro_batch(
     ensures { λ _. ⌜ now (answers .exit) ≡ afterBatch (now (image .entry)) (now (list .entry)) (now (answers .entry)) (now (out .entry)) .answer ⌝ }
     ensures { λ _. ⌜ now (out .exit) ≡ afterBatch (now (image .entry)) (now (list .entry)) (now (answers .entry)) (now (out .entry)) .out ⌝ }
 {
-    lines::on_2_01(Heard::List, image, list, answers, out)
+    undivarro_batch_on(SICP_201, image, list, answers, out)
 }
 
 // A setup image of either form, written in form 2.

@@ -12,15 +12,19 @@ ghost use Rattle.panels.specs.WellFormed.{WellFormed};
 ghost use Rattle.answers.specs.Reply.{sentBytes};
 ghost use Rattle.image_write.specs.Written.{sizeOf, setupOf, losesNothing};
 ghost use Rattle.undivarro.specs.Calls.{refused, refusalFor};
+ghost use Rattle.undivarro.specs.Private.{openedAs};
+use crate::Opened;
 use crate::Outcome;
 use answers::Reply;
 use answers::Sent;
 use image_forms::Form;
 use image_write::Written;
 use packet::Edition;
+use packet::Numbered;
 use panels::Table;
 use refusals::NO_ROOM;
 use refusals::Refusal;
+use refusals::UNKNOWN_EDITION;
 use refusals::WOULD_LOSE;
 
 // Room for any answer or for any lines, which is at least so much, and for a table's image.
@@ -46,6 +50,25 @@ pub(crate) fn refusal_for(read: Refusal, held: bool, room: bool) -> u32
         return WOULD_LOSE as u32;
     }
     if room { 0 } else { NO_ROOM as u32 }
+}
+
+// A line opened with an edition's number: refused for what was read and for the room, and then for the number.
+pub(crate) fn opened(number: u32, read: Refusal, room: bool) -> Opened
+    ensures { λ r. ⌜ r ≡ openedAs number read room ⌝ }
+{
+    let refusal = refusal_for(read, true, room);
+    let numbered = packet::edition_with(number);
+    let Numbered::Known(edition) = numbered else {
+        return Opened {
+            refusal: if refusal == 0 {
+                UNKNOWN_EDITION as u32
+            } else {
+                refusal
+            },
+            edition: Edition::Sicp201,
+        };
+    };
+    Opened { refusal, edition }
 }
 
 // A refusal: both lengths are 0, and no damage is told.

@@ -1,17 +1,14 @@
 -- How the code judges one panel after the other.
 use Prim.Native.Nat.{ℕ}
-use mathlib.Core.Bool.{Bool, false, _&&_}
+use mathlib.Core.Bool.{Bool, false}
 use mathlib.Core.List.{List, [], _∷_}
 use lib.ListN.{getD}
 use Rattle.settings.specs.Settings.{tilingRow}
 use Rattle.tiling.specs.Kinds.{inWall}
-use Rattle.packet.specs.declared.GroupId.{GroupId}
-use Rattle.packet.specs.declared.MonitorId.{MonitorId}
 use Rattle.panels.specs.declared.Panel.{Panel}
 use Rattle.panels.specs.Wall.{modelOf}
-use Rattle.panels.specs.Addressed.{reaches}
 use Rattle.answers.specs.declared.Order.{Order}
-use Rattle.answers.specs.Judged.{Command, getOf, setOf, unavailable, heldThen, takes}
+use Rattle.answers.specs.Judged.{Command, getOf, setOf, unavailable, heldThen}
 use Rattle.answers.specs.Turn.{allowedBy}
 
 -- what a command asks of every panel: a report of a row, values to be stored in a row, or nothing
@@ -29,7 +26,3 @@ allowedIn Order.NotAvailable values = false ∷ false ∷ []
 -- whether the wall that a panel would then stand in is one of its kind's, and has the position
 abbrev pub standsThen : List ℕ → Panel → Bool
 standsThen values p = let held = heldThen tilingRow values p in inWall (modelOf p .kind) (getD held 2 0) (getD held 3 0)
-
--- whether a set is stored in a panel
-unfoldable pub isStored : MonitorId → GroupId → ℕ → List ℕ → Panel → Bool
-isStored i g row values p = reaches i g p && takes row values p

@@ -1,6 +1,6 @@
 -- Both tests decide. Assumes nothing.
 use mathlib.Core.Path.{sym, _∙_}
-use Rattle.answers.specs.Private.Orders.{isStored}
+use Rattle.answers.specs.Turn.{isStored}
 use borrow.Author.Needs.{needs}
 use Rattle.answers.proofs.judging.is_stored.Statement.{statement}
 use Rattle.answers.proofs.judging.is_stored.Tie as tie

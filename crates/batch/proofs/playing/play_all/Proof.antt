@@ -1,10 +1,13 @@
 -- The invariant: what is written, and what the bursts that are left come to, is what the list comes to. Assumes nothing.
-use mathlib.Core.Bool.{false}
+use mathlib.Core.Bool.{Bool, true, false}
+use mathlib.Core.Logic.{⊎-elim}
 use mathlib.Core.Path.{_≡_, refl, sym, ap, ap₂, subst, _∙_}
 use mathlib.Core.List.{List, map}
 use Prim.Native.Nat.{ℕ, _+_, _-_, _*_, _≤_, _<_}
 use native.Mathlib.Omega.{arith}
 use borrow.Author.Needs.{needs}
+use borrow.Author.Tests.{eqb-true, eqb-false}
+use lib.Dec.{eqb}
 use lib.ListN.{length, take, drop}
 use Rattle.lists.proofs.Laid.{length-laid}
 use Rattle.bursts.specs.Bursts.{Bursts, burstsIn}
@@ -21,11 +24,14 @@ use Rattle.panels.specs.Wall.{Wall, panelsOf, tableOf, placeOf, placeNumber, mo
 use Rattle.panels.specs.WellFormed.{WellFormed}
 use Rattle.panels.proofs.Laws.{place-there}
 use Rattle.panels.proofs.Index.{place-found, members-few, members-found}
+use Rattle.answers.specs.declared.Change.{Change}
 use Rattle.answers.specs.declared.Entry.{Entry}
 use Rattle.answers.specs.declared.Played.{Played}
 use Rattle.answers.specs.Played.{answeredOn}
-use Rattle.answers.specs.Turn.{namesIn, turnBy, turnedBy}
+use Rattle.answers.specs.Turn.{namesIn, turnBy, turnedBy, Fits}
 use Rattle.answers.proofs.Formed.{formed-played, wall-played}
+use Rattle.answers.proofs.Passes.{turned-to, few, pass-first, pass-last, pass-stored, pass-stays}
+use Rattle.answers.proofs.Turned.{stored-many}
 use Rattle.answers.proofs.Turns.{entryOf}
 use Rattle.answers.proofs.Entries.{entry-is, reading, nothing-left, fits, something-left}
 use Rattle.batch.specs.declared.Batch.{Batch}
@@ -44,6 +50,14 @@ place-few i w few = go (placeOf i w) refl
     go (Place.At k) e = omega (arith, place-there i w k e .0)
     go Place.Nowhere e = omega arith
 
+-- a change goes over the places, if it goes anywhere
+abbrev Inv-loop2 : tie.InvT-loop2
+Inv-loop2 edition list out t₀ written at end d place change allowed k₀ t k =
+    (k₀ ≤ k) × ((k₀ ≡ change .end → ⊥) → (k ≤ change .end) × (t ≡ turned-to (turnedBy change d) k t₀)) × (k₀ ≡ change .end → t ≡ t₀)
+
+abbrev μ-loop2 : tie.MeasureT-loop2
+μ-loop2 edition list out t₀ written at end d place change allowed k₀ t k = change .end - k
+
 abbrev Inv-loop : tie.InvT-loop
 Inv-loop edition list out₀ t₀ written₀ at₀ out t written at =
     let rest = burstsIn (drop at list) in
@@ -53,132 +67,132 @@ Inv-loop edition list out₀ t₀ written₀ at₀ out t written at =
 abbrev μ-loop : tie.MeasureT-loop
 μ-loop edition list out₀ t₀ written₀ at₀ out t written at = length list - at
 
-loop-holds : tie.Need-loop-holds Inv-loop μ-loop
+loop-holds : tie.Need-loop-holds Inv-loop2 μ-loop2 Inv-loop μ-loop
 loop-holds c =
     let s = c .before .before in
     (s .pre .0, omega arith, s .pre .1, refl, omega (arith, s .pre .2), playing-first (s .args .edition) (panelsOf (s .args .t2)) _ (s .args .out .now))
 
-add-end : tie.Need-add-end Inv-loop μ-loop
+add-end : tie.Need-add-end Inv-loop2 μ-loop2 Inv-loop μ-loop
 add-end c = search needs
 
-shared-slice-read-count-of : tie.Need-shared-slice-read-count-of Inv-loop μ-loop
+shared-slice-read-count-of : tie.Need-shared-slice-read-count-of Inv-loop2 μ-loop2 Inv-loop μ-loop
 shared-slice-read-count-of c = search needs
 
-count-of-requires : tie.Need-count-of-requires Inv-loop μ-loop
+count-of-requires : tie.Need-count-of-requires Inv-loop2 μ-loop2 Inv-loop μ-loop
 count-of-requires c κs = search needs
 
 -- the list, the place in it, and the burst there, which is whole
-abbrev args-of : tie.After-count-of Inv-loop μ-loop → tie.Start Inv-loop μ-loop
+abbrev args-of : tie.After-count-of Inv-loop2 μ-loop2 Inv-loop μ-loop → tie.Start Inv-loop2 μ-loop2 Inv-loop μ-loop
 args-of c = c .before .before .before .before .before .before
 
-inside : (c : tie.After-count-of Inv-loop μ-loop) → c .before .before .before .loop .at < length (args-of c .args .list .now)
+inside : (c : tie.After-count-of Inv-loop2 μ-loop2 Inv-loop μ-loop) → c .before .before .before .loop .at < length (args-of c .args .list .now)
 inside c = omega arith
 
-there : (c : tie.After-count-of Inv-loop μ-loop) → c .before .before .before .loop .at + 1 + c .count-of .result ≤ length (args-of c .args .list .now)
+there : (c : tie.After-count-of Inv-loop2 μ-loop2 Inv-loop μ-loop) → c .before .before .before .loop .at + 1 + c .count-of .result ≤ length (args-of c .args .list .now)
 there c =
     let loop = c .before .before .before in
     whole-there (args-of c .args .list .now) (loop .loop .at) _ _ (c .count-of .ensures) (inside c) (loop .loop .inv .2)
 
-abbrev burst : tie.After-count-of Inv-loop μ-loop → List ℕ
+abbrev burst : tie.After-count-of Inv-loop2 μ-loop2 Inv-loop μ-loop → List ℕ
 burst c = take (c .count-of .result) (drop (c .before .before .before .loop .at + 1) (args-of c .args .list .now))
 
-abbrev left : tie.After-count-of Inv-loop μ-loop → Bursts
+abbrev left : tie.After-count-of Inv-loop2 μ-loop2 Inv-loop μ-loop → Bursts
 left c = burstsIn (drop (c .before .before .before .loop .at + 1 + c .count-of .result) (args-of c .args .list .now))
 
-here : (c : tie.After-count-of Inv-loop μ-loop) → burstsIn (drop (c .before .before .before .loop .at) (args-of c .args .list .now)) ≡ first-of (burst c) (left c)
+here : (c : tie.After-count-of Inv-loop2 μ-loop2 Inv-loop μ-loop) → burstsIn (drop (c .before .before .before .loop .at) (args-of c .args .list .now)) ≡ first-of (burst c) (left c)
 here c =
     let loop = c .before .before .before in
     burst-at (args-of c .args .list .now) (loop .loop .at) _ _ (c .count-of .ensures) (inside c) (there c)
 
-add-end-2 : tie.Need-add-end-2 Inv-loop μ-loop
+add-end-2 : tie.Need-add-end-2 Inv-loop2 μ-loop2 Inv-loop μ-loop
 add-end-2 c = record { fits = omega (arith, there c) }
 
-add-burst : tie.Need-add-burst Inv-loop μ-loop
+add-burst : tie.Need-add-burst Inv-loop2 μ-loop2 Inv-loop μ-loop
 add-burst c = search needs
 
-sub-burst : tie.Need-sub-burst Inv-loop μ-loop
+sub-burst : tie.Need-sub-burst Inv-loop2 μ-loop2 Inv-loop μ-loop
 sub-burst c = search needs
 
-part-burst-start : tie.Need-part-burst-start Inv-loop μ-loop
+part-burst-start : tie.Need-part-burst-start Inv-loop2 μ-loop2 Inv-loop μ-loop
 part-burst-start c = search needs
 
-part-burst-end : tie.Need-part-burst-end Inv-loop μ-loop
+part-burst-end : tie.Need-part-burst-end Inv-loop2 μ-loop2 Inv-loop μ-loop
 part-burst-end c = there c
 
-verdict-of-requires : tie.Need-verdict-of-requires Inv-loop μ-loop
+verdict-of-requires : tie.Need-verdict-of-requires Inv-loop2 μ-loop2 Inv-loop μ-loop
 verdict-of-requires c κs = search needs
 
-data-of-requires : tie.Need-data-of-requires Inv-loop μ-loop
+data-of-requires : tie.Need-data-of-requires Inv-loop2 μ-loop2 Inv-loop μ-loop
 data-of-requires c κs = search needs
 
-seems-for-requires : tie.Need-seems-for-requires Inv-loop μ-loop
+seems-for-requires : tie.Need-seems-for-requires Inv-loop2 μ-loop2 Inv-loop μ-loop
 seems-for-requires c κs = search needs
 
-names-in-requires : tie.Need-names-in-requires Inv-loop μ-loop
+names-in-requires : tie.Need-names-in-requires Inv-loop2 μ-loop2 Inv-loop μ-loop
 names-in-requires c κs = search needs
 
-cast-place : tie.Need-cast-place Inv-loop μ-loop
+cast-place : tie.Need-cast-place Inv-loop2 μ-loop2 Inv-loop μ-loop
 cast-place c = search needs
 
-element-copy-out-place : tie.Need-element-copy-out-place Inv-loop μ-loop
+element-copy-out-place : tie.Need-element-copy-out-place Inv-loop2 μ-loop2 Inv-loop μ-loop
 element-copy-out-place c = search needs
 
-cast-place-2 : tie.Need-cast-place-2 Inv-loop μ-loop
+cast-place-2 : tie.Need-cast-place-2 Inv-loop2 μ-loop2 Inv-loop μ-loop
 cast-place-2 c =
     let loop = c .before .before .before .before .before .before .before .before .before .before in
     let i = c .before .before .names-in .result .id in
     let f = loop .loop .inv .0 in
     record { fits = omega (arith, place-found f i (element-copy-out-place (c .before)) 0, place-few i (panelsOf (loop .loop .t)) (f .few)) }
 
-count-of-requires-2 : tie.Need-count-of-requires-2 Inv-loop μ-loop
+count-of-requires-2 : tie.Need-count-of-requires-2 Inv-loop2 μ-loop2 Inv-loop μ-loop
 count-of-requires-2 c κs = search needs
 
-cast-t19 : tie.Need-cast-t19 Inv-loop μ-loop
-cast-t19 c = search needs
+cast-t21 : tie.Need-cast-t21 Inv-loop2 μ-loop2 Inv-loop μ-loop
+cast-t21 c = search needs
 
-element-copy-out-t23 : tie.Need-element-copy-out-t23 Inv-loop μ-loop
-element-copy-out-t23 c = search needs
+element-copy-out-t25 : tie.Need-element-copy-out-t25 Inv-loop2 μ-loop2 Inv-loop μ-loop
+element-copy-out-t25 c = search needs
 
-cast-t31 : tie.Need-cast-t31 Inv-loop μ-loop
-cast-t31 c =
+cast-t33 : tie.Need-cast-t33 Inv-loop2 μ-loop2 Inv-loop μ-loop
+cast-t33 c =
     let loop = c .before .before .before .before .before .before .before .before .before .before .before .before .before in
     let g = c .before .before .before .before .before .names-in .result .group in
     let f = loop .loop .inv .0 in
-    record { fits = omega (arith, members-found f g (element-copy-out-t23 (c .before)) 0, members-few g (panelsOf (loop .loop .t)), f .few) }
+    record { fits = omega (arith, members-found f g (element-copy-out-t25 (c .before)) 0, members-few g (panelsOf (loop .loop .t)), f .few) }
 
-mul-t33 : tie.Need-mul-t33 Inv-loop μ-loop
-mul-t33 c = search needs
+mul-t35 : tie.Need-mul-t35 Inv-loop2 μ-loop2 Inv-loop μ-loop
+mul-t35 c = search needs
 
-element-copy-out-t36 : tie.Need-element-copy-out-t36 Inv-loop μ-loop
-element-copy-out-t36 c = search needs
+element-copy-out-t38 : tie.Need-element-copy-out-t38 Inv-loop2 μ-loop2 Inv-loop μ-loop
+element-copy-out-t38 c = search needs
 
-abbrev count-at : tie.After-turn-of Inv-loop μ-loop → tie.After-count-of Inv-loop μ-loop
+abbrev count-at : tie.After-turn-of Inv-loop2 μ-loop2 Inv-loop μ-loop → tie.After-count-of Inv-loop2 μ-loop2 Inv-loop μ-loop
 count-at c = c .before .before .before .before .before .before .before .before .before .before .before .before
 
-abbrev loop-at : tie.After-turn-of Inv-loop μ-loop → tie.At-loop Inv-loop μ-loop
+abbrev loop-at : tie.After-turn-of Inv-loop2 μ-loop2 Inv-loop μ-loop → tie.At-loop Inv-loop2 μ-loop2 Inv-loop μ-loop
 loop-at c = c .before .before .before .before .before .before .before .before .before .before .before .before .before .before .before
 
-abbrev verdict : tie.After-turn-of Inv-loop μ-loop → Verdict
+abbrev verdict : tie.After-turn-of Inv-loop2 μ-loop2 Inv-loop μ-loop → Verdict
 verdict c = c .before .before .before .before .before .before .before .before .before .before .verdict-of .result
 
-abbrev part : tie.After-turn-of Inv-loop μ-loop → List ℕ
+abbrev part : tie.After-turn-of Inv-loop2 μ-loop2 Inv-loop μ-loop → List ℕ
 part c = c .before .before .before .before .before .before .before .before .before .data-of .result .now
 
-abbrev seems : tie.After-turn-of Inv-loop μ-loop → Addressee
+abbrev seems : tie.After-turn-of Inv-loop2 μ-loop2 Inv-loop μ-loop → Addressee
 seems c = c .before .before .before .before .before .before .before .before .seems-for .result
 
-turn-is : (c : tie.After-turn-of Inv-loop μ-loop)
+turn-is : (c : tie.After-turn-of Inv-loop2 μ-loop2 Inv-loop μ-loop)
     → c .turn-of .result ≡ turnBy (entryOf (panelsOf (loop-at c .loop .t)) (namesIn (verdict c) (seems c))) (verdict c) (part c) (seems c)
 turn-is c =
     let known = c .before .before .before in
     let count = known .before in
     let names = count .before .before .before in
     let t = loop-at c .loop .t in
-    let there = entry-is (loop-at c .loop .inv .0) (names .names-in .result) (element-copy-out-place (count .before .before)) (element-copy-out-t23 known) _ (count .count-of2 .ensures) _ in
+    let there = entry-is (loop-at c .loop .inv .0) (names .names-in .result) (element-copy-out-place (count .before .before)) (element-copy-out-t25 known) _ (count .count-of2 .ensures) _ in
     c .turn-of .ensures ∙ ap (λ (e : Entry). turnBy e (verdict c) (part c) (seems c)) (there ∙ ap (entryOf (panelsOf t)) (names .names-in .ensures))
 
 -- what was read is the burst's reading
-is-read : (c : tie.After-turn-of Inv-loop μ-loop) → reading (verdict c) (part c) (seems c) ≡ readingOf (args-of (count-at c) .args .edition) (burst (count-at c))
+is-read : (c : tie.After-turn-of Inv-loop2 μ-loop2 Inv-loop μ-loop) → reading (verdict c) (part c) (seems c) ≡ readingOf (args-of (count-at c) .args .edition) (burst (count-at c))
 is-read c =
     let read = c .before .before .before .before .before .before .before .before .before in
     let count = count-at c in
@@ -189,41 +203,35 @@ is-read c =
     ∙ ap (λ (k : ℕ). readingOf (args-of count .args .edition) (take k (drop (loop .loop .at + 1) (args-of count .args .list .now)))) size
 
 -- with the table that a turn leaves
-abbrev leaving : tie.After-turn-of Inv-loop μ-loop → Table → Played
+abbrev leaving : tie.After-turn-of Inv-loop2 μ-loop2 Inv-loop μ-loop → Table → Played
 leaving c u = record { table = u; reply = c .turn-of .result .reply; damage = damageIn (verdict c) }
 
-abbrev Left : tie.After-turn-of Inv-loop μ-loop → Table → Type 0
+abbrev Left : tie.After-turn-of Inv-loop2 μ-loop2 Inv-loop μ-loop → Table → Type 0
 Left c u = leaving c u ≡ answeredOn (loop-at c .loop .t) (readingOf (args-of (count-at c) .args .edition) (burst (count-at c)))
 
-kept : (c : tie.After-turn-of Inv-loop μ-loop) → c .turn-of .result .change .first ≡ c .turn-of .result .change .end → Left c (loop-at c .loop .t)
+kept : (c : tie.After-turn-of Inv-loop2 μ-loop2 Inv-loop μ-loop) → c .turn-of .result .change .first ≡ c .turn-of .result .change .end → Left c (loop-at c .loop .t)
 kept c e = nothing-left (loop-at c .loop .inv .0) (verdict c) (part c) (seems c) (turn-is c) e ∙ ap (answeredOn (loop-at c .loop .t)) (is-read c)
 
-changed : (c : tie.After-turn-of Inv-loop μ-loop) {u : Table} → (c .turn-of .result .change .first ≡ c .turn-of .result .change .end → ⊥)
+changed : (c : tie.After-turn-of Inv-loop2 μ-loop2 Inv-loop μ-loop) {u : Table} → (c .turn-of .result .change .first ≡ c .turn-of .result .change .end → ⊥)
     → u ≡ tableOf (map (turnedBy (c .turn-of .result .change) (part c)) (panelsOf (loop-at c .loop .t))) → Left c u
 changed c some e = something-left (loop-at c .loop .inv .0) (verdict c) (part c) (seems c) (turn-is c) some e ∙ ap (answeredOn (loop-at c .loop .t)) (is-read c)
 
-turn-of-requires : tie.Need-turn-of-requires Inv-loop μ-loop
+turn-of-requires : tie.Need-turn-of-requires Inv-loop2 μ-loop2 Inv-loop μ-loop
 turn-of-requires c κs = search needs
 
-put-answer-requires : tie.Need-put-answer-requires Inv-loop μ-loop
+put-answer-requires : tie.Need-put-answer-requires Inv-loop2 μ-loop2 Inv-loop μ-loop
 put-answer-requires c κs =
-    let read = c .before .before .before .before .before .before .before .before .before .before .before .before .before .before .before in
+    let read = c .before .before .before .before .before .before .before .before .before .before .before .before .before in
     let loop = read .before .before .before in
     omega (arith, loop .loop .inv .3, loop .loop .inv .4, ap (λ (b : Bursts). length (b .whole)) (here read))
 
-stored-requires : tie.Need-stored-requires Inv-loop μ-loop
-stored-requires c κs =
-    let turn = c .before .before .before .before .before .before .before .before in
-    let f = loop-at turn .loop .inv .0 in
-    (f, fits f (verdict turn) (part turn) (seems turn) (turn-is turn) (c .if1 .taken))
-
 -- the invariant behind the burst, with the table that it leaves
-next : (c : tie.After-put-answer Inv-loop μ-loop) {u : Table} → Left (c .before .before .before .before) u → let turn = c .before .before .before .before in
+next : (c : tie.After-put-answer Inv-loop2 μ-loop2 Inv-loop μ-loop) {u : Table} → Left (c .before .before) u → let turn = c .before .before in
     let count = count-at turn in
     let a = args-of count .args in
     Inv-loop (a .edition) (a .list .now) (a .out .now) (a .t2) 0 0 (c .put-answer .last .1 .1 .0) u (c .put-answer .result) (loop-at turn .loop .at + 1 + count .count-of .result)
 next c is =
-    let turn = c .before .before .before .before in
+    let turn = c .before .before in
     let count = count-at turn in
     let loop = loop-at turn in
     let a = args-of count .args in
@@ -241,22 +249,112 @@ next c is =
           (wall-played (inv .0) r is) (ap (λ (p : Played). p .reply) is) end (c .put-answer .ensures .1) (omega (arith, inv .4)),
     )
 
-loop-less : tie.Need-loop-less Inv-loop μ-loop
-loop-less c = let turn = c .before .before .before .before .before .before .before .before .before in omega (arith, inside (count-at turn), there (count-at turn))
+-- the turn whose change goes over the places, and what holds of it inside the loop
+abbrev turn-at : tie.At-loop2 Inv-loop2 μ-loop2 Inv-loop μ-loop → tie.After-turn-of Inv-loop2 μ-loop2 Inv-loop μ-loop
+turn-at c = c .before .before .before .before .before .before .before
 
-loop-again : tie.Need-loop-again Inv-loop μ-loop
-loop-again c = next (c .before .before .before .before .before) (changed (c .before .before .before .before .before .before .before .before .before) (c .before .if1 .taken) (c .stored .ensures))
+goes : (c : tie.Then1 Inv-loop2 μ-loop2 Inv-loop μ-loop) → let change = turn-at (c .before .before) .turn-of .result .change in change .first ≡ change .end → ⊥
+goes c e = omega (arith, c .before .before .loop2 .inv .0, e)
 
-loop-less-2 : tie.Need-loop-less-2 Inv-loop μ-loop
-loop-less-2 c = let turn = c .before .before .before .before .before .before .before .before in omega (arith, inside (count-at turn), there (count-at turn))
+fits-at : (c : tie.Then1 Inv-loop2 μ-loop2 Inv-loop μ-loop) → let turn = turn-at (c .before .before) in Fits (turn .turn-of .result .change) (part turn) (panelsOf (loop-at turn .loop .t))
+fits-at c = let turn = turn-at (c .before .before) in fits (loop-at turn .loop .inv .0) (verdict turn) (part turn) (seems turn) (turn-is turn) (goes c)
 
-loop-again-2 : tie.Need-loop-again-2 Inv-loop μ-loop
-loop-again-2 c = next (c .before .before .before .before) (kept (c .before .before .before .before .before .before .before .before) (c .if1 .left))
+small : (c : tie.Then1 Inv-loop2 μ-loop2 Inv-loop μ-loop) → c .before .before .loop2 .k < mostPanels
+small c = let turn = turn-at (c .before .before) in omega (arith, few (loop-at turn .loop .inv .0) (turn .turn-of .result .change) (part turn) (fits-at c))
 
-same-length : tie.Need-same-length Inv-loop μ-loop
+loop2-holds : tie.Need-loop2-holds Inv-loop2 μ-loop2 Inv-loop μ-loop
+loop2-holds c =
+    let turn = c .before .before .before .before .before .before in
+    let f = loop-at turn .loop .inv .0 in
+    let change = turn .turn-of .result .change in
+    let there : (change .first ≡ change .end → ⊥) → Fits change (part turn) (panelsOf (loop-at turn .loop .t)) = fits f (verdict turn) (part turn) (seems turn) (turn-is turn) in
+    (omega arith, (λ ne. (there ne .ordered, pass-first f change (part turn) (there ne))), (λ e. refl))
+
+mul-is-stored : tie.Need-mul-is-stored Inv-loop2 μ-loop2 Inv-loop μ-loop
+mul-is-stored c = omega (arith, small c)
+
+element-copy-out-is-stored : tie.Need-element-copy-out-is-stored Inv-loop2 μ-loop2 Inv-loop μ-loop
+element-copy-out-is-stored c = small c
+
+is-stored-requires : tie.Need-is-stored-requires Inv-loop2 μ-loop2 Inv-loop μ-loop
+is-stored-requires c κs = fits-at (c .before) .judged
+
+mul-with-values : tie.Need-mul-with-values Inv-loop2 μ-loop2 Inv-loop μ-loop
+mul-with-values c = omega (arith, small (c .before .before .before))
+
+element-copy-out-with-values : tie.Need-element-copy-out-with-values Inv-loop2 μ-loop2 Inv-loop μ-loop
+element-copy-out-with-values c = small (c .before .before .before)
+
+with-values-requires : tie.Need-with-values-requires Inv-loop2 μ-loop2 Inv-loop μ-loop
+with-values-requires c κs =
+    let call = c .before .before in
+    let there = fits-at (call .before .before) in
+    (there .isRow, stored-many _ _ _ (part (turn-at (call .before .before .before .before))) _ (there .hasCode) (sym (call .is-stored .ensures) ∙ c .before .if2 .taken))
+
+mul-p : tie.Need-mul-p Inv-loop2 μ-loop2 Inv-loop μ-loop
+mul-p c = omega (arith, small (c .before .before .before .before .before))
+
+element-set-from-p : tie.Need-element-set-from-p Inv-loop2 μ-loop2 Inv-loop μ-loop
+element-set-from-p c = small (c .before .before .before .before .before)
+
+add-k : tie.Need-add-k Inv-loop2 μ-loop2 Inv-loop μ-loop
+add-k c = omega (arith, small (c .before .before .before))
+
+loop2-less : tie.Need-loop2-less Inv-loop2 μ-loop2 Inv-loop μ-loop
+loop2-less c = omega arith
+
+loop2-again : tie.Need-loop2-again Inv-loop2 μ-loop2 Inv-loop μ-loop
+loop2-again c =
+    let call = c .before in
+    let body = call .before .before in
+    let loop = body .before .before in
+    let turn = turn-at loop in
+    let f = loop-at turn .loop .inv .0 in
+    let change = turn .turn-of .result .change in
+    let d = part turn in
+    let is = loop .loop2 .inv .1 (goes body) .1 in (
+      omega arith,
+      (λ _. (
+        omega arith,
+        ⊎-elim
+            (λ w. w .3 ∙ pass-stored f change d (fits-at body) is (body .if1 .taken) _ (sym (call .is-stored .ensures) ∙ w .0 .taken) (w .2 .ensures))
+            (λ w. w .1 ∙ pass-stays f change d (fits-at body) is (body .if1 .taken) _ (sym (call .is-stored .ensures) ∙ w .0 .left))
+            (c .if2 .came),
+      )),
+      (λ e. absurd (goes body e)),
+    )
+
+-- the loop leaves what the burst leaves
+abbrev change-of : tie.Else1 Inv-loop2 μ-loop2 Inv-loop μ-loop → Change
+change-of c = turn-at (c .before .before) .turn-of .result .change
+
+left-by : (c : tie.Else1 Inv-loop2 μ-loop2 Inv-loop μ-loop) → Left (turn-at (c .before .before)) (c .before .before .loop2 .t)
+left-by c = go (eqb (change-of c .first) (change-of c .end)) refl
+  where
+    go : (t : Bool) → eqb (change-of c .first) (change-of c .end) ≡ t → Left (turn-at (c .before .before)) (c .before .before .loop2 .t)
+    go true s = let e = eqb-true _ _ s in let loop = c .before .before in subst (Left (turn-at loop)) (sym (loop .loop2 .inv .2 e)) (kept (turn-at loop) e)
+    go false s =
+        let loop = c .before .before in
+        let turn = turn-at loop in
+        let change = change-of c in
+        let ne = eqb-false _ _ s in
+        let f = loop-at turn .loop .inv .0 in
+        let (most, is) = loop .loop2 .inv .1 ne in
+        let all : loop .loop2 .k ≡ change .end = omega arith in
+        changed turn ne
+        (is ∙ ap (λ (k : ℕ). turned-to (turnedBy change (part turn)) k (loop-at turn .loop .t)) all
+        ∙ pass-last f change (part turn) (fits f (verdict turn) (part turn) (seems turn) (turn-is turn) ne))
+
+loop-less : tie.Need-loop-less Inv-loop2 μ-loop2 Inv-loop μ-loop
+loop-less c = let count = count-at (turn-at (c .before .before)) in omega (arith, inside count, there count)
+
+loop-again : tie.Need-loop-again Inv-loop2 μ-loop2 Inv-loop μ-loop
+loop-again c = next (c .before .before .before .before .before .before .before) (left-by c)
+
+same-length : tie.Need-same-length Inv-loop2 μ-loop2 Inv-loop μ-loop
 same-length c = search needs
 
-returns : tie.Need-returns Inv-loop μ-loop
+returns : tie.Need-returns Inv-loop2 μ-loop2 Inv-loop μ-loop
 returns c =
     let loop = c .before in
     let a = loop .before .before .before .args in
@@ -271,6 +369,8 @@ pub play-all-spec : {M : Type 1} → statement M
 play-all-spec =
     tie.close
     (tie.spec
+    Inv-loop2
+    μ-loop2
     Inv-loop
     μ-loop
     loop-holds
@@ -290,17 +390,26 @@ play-all-spec =
     element-copy-out-place
     cast-place-2
     count-of-requires-2
-    cast-t19
-    element-copy-out-t23
-    cast-t31
-    mul-t33
-    element-copy-out-t36
+    cast-t21
+    element-copy-out-t25
+    cast-t33
+    mul-t35
+    element-copy-out-t38
     turn-of-requires
     put-answer-requires
-    stored-requires
+    loop2-holds
+    mul-is-stored
+    element-copy-out-is-stored
+    is-stored-requires
+    mul-with-values
+    element-copy-out-with-values
+    with-values-requires
+    mul-p
+    element-set-from-p
+    add-k
+    loop2-less
+    loop2-again
     loop-less
     loop-again
-    loop-less-2
-    loop-again-2
     same-length
     returns)
