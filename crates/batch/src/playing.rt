@@ -60,11 +60,15 @@ pub(crate) fn play_all(edition: Edition, mut t: Table, list: &[u8], out: &mut [u
         let turn = answers::turn_of(entry, verdict, d, seems);
         written = put_answer(edition, turn.reply, out, written);
         let change = turn.change;
+        let id = change.id;
+        let group = change.group;
+        let row = change.row;
         let allowed = change.allowed;
+        let last = change.end;
         let mut k = change.first;
-        while k < change.end {
-            if answers::is_stored(t.panels[k], change.id, change.group, change.row, allowed, d) {
-                let p = answers::with_values(t.panels[k], change.row, d);
+        while k < last {
+            if answers::is_stored(t.panels[k], id, group, row, allowed, d) {
+                let p = answers::with_values(t.panels[k], row, d);
                 t.panels[k] = p;
             }
             k += 1;

@@ -27,7 +27,8 @@ use Rattle.panels.proofs.Index.{place-found, members-few, members-found}
 use Rattle.answers.specs.declared.Change.{Change}
 use Rattle.answers.specs.declared.Entry.{Entry}
 use Rattle.answers.specs.declared.Played.{Played}
-use Rattle.answers.specs.Played.{answeredOn}
+use Rattle.answers.specs.Judged.{setOf}
+use Rattle.answers.specs.Played.{turned, answeredOn}
 use Rattle.answers.specs.Turn.{namesIn, turnBy, turnedBy, Fits}
 use Rattle.answers.proofs.Formed.{formed-played, wall-played}
 use Rattle.answers.proofs.Passes.{turned-to, few, pass-first, pass-last, pass-stored, pass-stays}
@@ -52,11 +53,11 @@ place-few i w few = go (placeOf i w) refl
 
 -- a change goes over the places, if it goes anywhere
 abbrev Inv-loop2 : tie.InvT-loop2
-Inv-loop2 edition list out t₀ written at end d place change allowed k₀ t k =
-    (k₀ ≤ k) × ((k₀ ≡ change .end → ⊥) → (k ≤ change .end) × (t ≡ turned-to (turnedBy change d) k t₀)) × (k₀ ≡ change .end → t ≡ t₀)
+Inv-loop2 edition list out t₀ written at end d place id group row allowed last k₀ t k =
+    (k₀ ≤ k) × ((k₀ ≡ last → ⊥) → (k ≤ last) × (t ≡ turned-to (turned id group (setOf row (drop 1 d))) k t₀)) × (k₀ ≡ last → t ≡ t₀)
 
 abbrev μ-loop2 : tie.MeasureT-loop2
-μ-loop2 edition list out t₀ written at end d place change allowed k₀ t k = change .end - k
+μ-loop2 edition list out t₀ written at end d place id group row allowed last k₀ t k = last - k
 
 abbrev Inv-loop : tie.InvT-loop
 Inv-loop edition list out₀ t₀ written₀ at₀ out t written at =
@@ -147,24 +148,24 @@ cast-place-2 c =
 count-of-requires-2 : tie.Need-count-of-requires-2 Inv-loop2 μ-loop2 Inv-loop μ-loop
 count-of-requires-2 c κs = search needs
 
-cast-t21 : tie.Need-cast-t21 Inv-loop2 μ-loop2 Inv-loop μ-loop
-cast-t21 c = search needs
+cast-t25 : tie.Need-cast-t25 Inv-loop2 μ-loop2 Inv-loop μ-loop
+cast-t25 c = search needs
 
-element-copy-out-t25 : tie.Need-element-copy-out-t25 Inv-loop2 μ-loop2 Inv-loop μ-loop
-element-copy-out-t25 c = search needs
+element-copy-out-t29 : tie.Need-element-copy-out-t29 Inv-loop2 μ-loop2 Inv-loop μ-loop
+element-copy-out-t29 c = search needs
 
-cast-t33 : tie.Need-cast-t33 Inv-loop2 μ-loop2 Inv-loop μ-loop
-cast-t33 c =
+cast-t37 : tie.Need-cast-t37 Inv-loop2 μ-loop2 Inv-loop μ-loop
+cast-t37 c =
     let loop = c .before .before .before .before .before .before .before .before .before .before .before .before .before in
     let g = c .before .before .before .before .before .names-in .result .group in
     let f = loop .loop .inv .0 in
-    record { fits = omega (arith, members-found f g (element-copy-out-t25 (c .before)) 0, members-few g (panelsOf (loop .loop .t)), f .few) }
+    record { fits = omega (arith, members-found f g (element-copy-out-t29 (c .before)) 0, members-few g (panelsOf (loop .loop .t)), f .few) }
 
-mul-t35 : tie.Need-mul-t35 Inv-loop2 μ-loop2 Inv-loop μ-loop
-mul-t35 c = search needs
+mul-t39 : tie.Need-mul-t39 Inv-loop2 μ-loop2 Inv-loop μ-loop
+mul-t39 c = search needs
 
-element-copy-out-t38 : tie.Need-element-copy-out-t38 Inv-loop2 μ-loop2 Inv-loop μ-loop
-element-copy-out-t38 c = search needs
+element-copy-out-t42 : tie.Need-element-copy-out-t42 Inv-loop2 μ-loop2 Inv-loop μ-loop
+element-copy-out-t42 c = search needs
 
 abbrev count-at : tie.After-turn-of Inv-loop2 μ-loop2 Inv-loop μ-loop → tie.After-count-of Inv-loop2 μ-loop2 Inv-loop μ-loop
 count-at c = c .before .before .before .before .before .before .before .before .before .before .before .before
@@ -188,7 +189,7 @@ turn-is c =
     let count = known .before in
     let names = count .before .before .before in
     let t = loop-at c .loop .t in
-    let there = entry-is (loop-at c .loop .inv .0) (names .names-in .result) (element-copy-out-place (count .before .before)) (element-copy-out-t25 known) _ (count .count-of2 .ensures) _ in
+    let there = entry-is (loop-at c .loop .inv .0) (names .names-in .result) (element-copy-out-place (count .before .before)) (element-copy-out-t29 known) _ (count .count-of2 .ensures) _ in
     c .turn-of .ensures ∙ ap (λ (e : Entry). turnBy e (verdict c) (part c) (seems c)) (there ∙ ap (entryOf (panelsOf t)) (names .names-in .ensures))
 
 -- what was read is the burst's reading
@@ -251,20 +252,20 @@ next c is =
 
 -- the turn whose change goes over the places, and what holds of it inside the loop
 abbrev turn-at : tie.At-loop2 Inv-loop2 μ-loop2 Inv-loop μ-loop → tie.After-turn-of Inv-loop2 μ-loop2 Inv-loop μ-loop
-turn-at c = c .before .before .before .before .before .before .before
+turn-at c = c .before .before .before .before .before .before .before .before .before
 
-goes : (c : tie.Then1 Inv-loop2 μ-loop2 Inv-loop μ-loop) → let change = turn-at (c .before .before) .turn-of .result .change in change .first ≡ change .end → ⊥
-goes c e = omega (arith, c .before .before .loop2 .inv .0, e)
+goes : (c : tie.In-loop2 Inv-loop2 μ-loop2 Inv-loop μ-loop) → let change = turn-at (c .before) .turn-of .result .change in change .first ≡ change .end → ⊥
+goes c e = omega (arith, c .before .loop2 .inv .0, e)
 
-fits-at : (c : tie.Then1 Inv-loop2 μ-loop2 Inv-loop μ-loop) → let turn = turn-at (c .before .before) in Fits (turn .turn-of .result .change) (part turn) (panelsOf (loop-at turn .loop .t))
-fits-at c = let turn = turn-at (c .before .before) in fits (loop-at turn .loop .inv .0) (verdict turn) (part turn) (seems turn) (turn-is turn) (goes c)
+fits-at : (c : tie.In-loop2 Inv-loop2 μ-loop2 Inv-loop μ-loop) → let turn = turn-at (c .before) in Fits (turn .turn-of .result .change) (part turn) (panelsOf (loop-at turn .loop .t))
+fits-at c = let turn = turn-at (c .before) in fits (loop-at turn .loop .inv .0) (verdict turn) (part turn) (seems turn) (turn-is turn) (goes c)
 
-small : (c : tie.Then1 Inv-loop2 μ-loop2 Inv-loop μ-loop) → c .before .before .loop2 .k < mostPanels
-small c = let turn = turn-at (c .before .before) in omega (arith, few (loop-at turn .loop .inv .0) (turn .turn-of .result .change) (part turn) (fits-at c))
+small : (c : tie.In-loop2 Inv-loop2 μ-loop2 Inv-loop μ-loop) → c .before .loop2 .k < mostPanels
+small c = let turn = turn-at (c .before) in omega (arith, few (loop-at turn .loop .inv .0) (turn .turn-of .result .change) (part turn) (fits-at c))
 
 loop2-holds : tie.Need-loop2-holds Inv-loop2 μ-loop2 Inv-loop μ-loop
 loop2-holds c =
-    let turn = c .before .before .before .before .before .before in
+    let turn = c .before .before .before .before .before .before .before .before in
     let f = loop-at turn .loop .inv .0 in
     let change = turn .turn-of .result .change in
     let there : (change .first ≡ change .end → ⊥) → Fits change (part turn) (panelsOf (loop-at turn .loop .t)) = fits f (verdict turn) (part turn) (seems turn) (turn-is turn) in
@@ -289,7 +290,7 @@ with-values-requires : tie.Need-with-values-requires Inv-loop2 μ-loop2 Inv-loop
 with-values-requires c κs =
     let call = c .before .before in
     let there = fits-at (call .before .before) in
-    (there .isRow, stored-many _ _ _ (part (turn-at (call .before .before .before .before))) _ (there .hasCode) (sym (call .is-stored .ensures) ∙ c .before .if2 .taken))
+    (there .isRow, stored-many _ _ _ (part (turn-at (call .before .before .before))) _ (there .hasCode) (sym (call .is-stored .ensures) ∙ c .before .if1 .taken))
 
 mul-p : tie.Need-mul-p Inv-loop2 μ-loop2 Inv-loop μ-loop
 mul-p c = omega (arith, small (c .before .before .before .before .before))
@@ -307,34 +308,35 @@ loop2-again : tie.Need-loop2-again Inv-loop2 μ-loop2 Inv-loop μ-loop
 loop2-again c =
     let call = c .before in
     let body = call .before .before in
-    let loop = body .before .before in
+    let loop = body .before in
     let turn = turn-at loop in
     let f = loop-at turn .loop .inv .0 in
     let change = turn .turn-of .result .change in
     let d = part turn in
+    let inside : loop .loop2 .k < change .end = omega arith in
     let is = loop .loop2 .inv .1 (goes body) .1 in (
       omega arith,
       (λ _. (
         omega arith,
         ⊎-elim
-            (λ w. w .3 ∙ pass-stored f change d (fits-at body) is (body .if1 .taken) _ (sym (call .is-stored .ensures) ∙ w .0 .taken) (w .2 .ensures))
-            (λ w. w .1 ∙ pass-stays f change d (fits-at body) is (body .if1 .taken) _ (sym (call .is-stored .ensures) ∙ w .0 .left))
-            (c .if2 .came),
+            (λ w. w .3 ∙ pass-stored f change d (fits-at body) is inside _ (sym (call .is-stored .ensures) ∙ w .0 .taken) (w .2 .ensures))
+            (λ w. w .1 ∙ pass-stays f change d (fits-at body) is inside _ (sym (call .is-stored .ensures) ∙ w .0 .left))
+            (c .if1 .came),
       )),
       (λ e. absurd (goes body e)),
     )
 
 -- the loop leaves what the burst leaves
-abbrev change-of : tie.Else1 Inv-loop2 μ-loop2 Inv-loop μ-loop → Change
-change-of c = turn-at (c .before .before) .turn-of .result .change
+abbrev change-of : tie.After-loop2 Inv-loop2 μ-loop2 Inv-loop μ-loop → Change
+change-of c = turn-at (c .before) .turn-of .result .change
 
-left-by : (c : tie.Else1 Inv-loop2 μ-loop2 Inv-loop μ-loop) → Left (turn-at (c .before .before)) (c .before .before .loop2 .t)
+left-by : (c : tie.After-loop2 Inv-loop2 μ-loop2 Inv-loop μ-loop) → Left (turn-at (c .before)) (c .before .loop2 .t)
 left-by c = go (eqb (change-of c .first) (change-of c .end)) refl
   where
-    go : (t : Bool) → eqb (change-of c .first) (change-of c .end) ≡ t → Left (turn-at (c .before .before)) (c .before .before .loop2 .t)
-    go true s = let e = eqb-true _ _ s in let loop = c .before .before in subst (Left (turn-at loop)) (sym (loop .loop2 .inv .2 e)) (kept (turn-at loop) e)
+    go : (t : Bool) → eqb (change-of c .first) (change-of c .end) ≡ t → Left (turn-at (c .before)) (c .before .loop2 .t)
+    go true s = let e = eqb-true _ _ s in let loop = c .before in subst (Left (turn-at loop)) (sym (loop .loop2 .inv .2 e)) (kept (turn-at loop) e)
     go false s =
-        let loop = c .before .before in
+        let loop = c .before in
         let turn = turn-at loop in
         let change = change-of c in
         let ne = eqb-false _ _ s in
@@ -346,10 +348,10 @@ left-by c = go (eqb (change-of c .first) (change-of c .end)) refl
         ∙ pass-last f change (part turn) (fits f (verdict turn) (part turn) (seems turn) (turn-is turn) ne))
 
 loop-less : tie.Need-loop-less Inv-loop2 μ-loop2 Inv-loop μ-loop
-loop-less c = let count = count-at (turn-at (c .before .before)) in omega (arith, inside count, there count)
+loop-less c = let count = count-at (turn-at (c .before)) in omega (arith, inside count, there count)
 
 loop-again : tie.Need-loop-again Inv-loop2 μ-loop2 Inv-loop μ-loop
-loop-again c = next (c .before .before .before .before .before .before .before) (left-by c)
+loop-again c = next (c .before .before .before .before .before .before .before .before) (left-by c)
 
 same-length : tie.Need-same-length Inv-loop2 μ-loop2 Inv-loop μ-loop
 same-length c = search needs
@@ -390,11 +392,11 @@ play-all-spec =
     element-copy-out-place
     cast-place-2
     count-of-requires-2
-    cast-t21
-    element-copy-out-t25
-    cast-t33
-    mul-t35
-    element-copy-out-t38
+    cast-t25
+    element-copy-out-t29
+    cast-t37
+    mul-t39
+    element-copy-out-t42
     turn-of-requires
     put-answer-requires
     loop2-holds
