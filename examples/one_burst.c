@@ -10,8 +10,8 @@ int main(void)
     uint8_t answer[UNDIVARRO_ANSWER_CAP], after[UNDIVARRO_IMAGE_CAP];
     struct undivarro_result r = undivarro_play(setup, sizeof setup, burst, sizeof burst, answer, sizeof answer, after,
                                                sizeof after);
-    for (uint32_t i = 0; i < r.answer_len; i++)
+    for (size_t i = 0; i < r.answer_len; i++)
         printf("%02X ", answer[i]);
-    printf("refusal %u, setup of %u bytes\n", r.refusal, r.image_len);
+    printf("refusal %u, setup of %zu bytes\n", r.refusal, r.image_len);
     return r.refusal != 0;
 }

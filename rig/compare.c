@@ -32,9 +32,9 @@ static void print_hex(const char *what, const uint8_t *bytes, size_t len)
 
 static void print_trial(const struct box *box, const struct test_case *c, const struct trial *t)
 {
-    printf("%s: refusal %" PRIu32 ", answer length %" PRIu32 ", image length %" PRIu32 ", damage %" PRIu32 " (%s)%s%s\n",
-           box->name, t->result.refusal, t->result.answer_len, t->result.image_len, t->result.damage,
-           damage_name(t->result.damage), t->fault ? ": " : "", t->fault ? t->fault : "");
+    printf("%s: refusal %" PRIu32 ", damage %" PRIu32 " (%s), answer length %zu, image length %zu%s%s\n", box->name,
+           t->result.refusal, t->result.damage, damage_name(t->result.damage), t->result.answer_len, t->result.image_len,
+           t->fault ? ": " : "", t->fault ? t->fault : "");
     print_hex("answer or lines buffer with guards", t->answer, GUARD + c->answer_cap + GUARD);
     print_hex("output buffer with guards", t->out, GUARD + c->out_cap + GUARD);
 }

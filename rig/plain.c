@@ -155,7 +155,7 @@ static struct undivarro_result written(const struct wall *wall, uint8_t form, ui
     if (out_cap < len)
         return refused(19);
     write_image(wall, form, out);
-    return (struct undivarro_result){.image_len = (uint32_t)len};
+    return (struct undivarro_result){.image_len = len};
 }
 
 struct undivarro_result plain_play_on(uint32_t edition,
@@ -178,9 +178,9 @@ struct undivarro_result plain_play_on(uint32_t edition,
     size_t answer_len = answer_burst(&wall, head, burst, burst_len, damage, answer);
     write_image(&wall, FORM_2, out);
     return (struct undivarro_result){
-        .answer_len = (uint32_t)answer_len,
-        .image_len = (uint32_t)image_len_of(&wall, FORM_2),
         .damage = damage,
+        .answer_len = answer_len,
+        .image_len = image_len_of(&wall, FORM_2),
     };
 }
 
@@ -227,7 +227,7 @@ struct undivarro_result plain_salvage(const uint8_t *image, size_t image_len,
     struct undivarro_result result = written(&wall, FORM_2, out, out_cap);
     if (!result.refusal) {
         memcpy(lines, told.text, told.len);
-        result.answer_len = (uint32_t)told.len;
+        result.answer_len = told.len;
     }
     return result;
 }

@@ -136,7 +136,8 @@ static uint64_t mix_bytes(uint64_t sum, const uint8_t *bytes, size_t len)
 uint64_t add_outcome(uint64_t sum, const struct trial *t)
 {
     sum = mix(sum, (uint64_t)t->result.refusal << 32 | t->result.damage);
-    sum = mix(sum, (uint64_t)t->result.answer_len << 32 | t->result.image_len);
+    sum = mix(sum, t->result.answer_len);
+    sum = mix(sum, t->result.image_len);
     sum = mix_bytes(sum, t->answer + GUARD, t->result.answer_len);
     return mix_bytes(sum, t->out + GUARD, t->result.image_len);
 }
