@@ -192,6 +192,66 @@ struct undivarro_result plain_play(const uint8_t *image, size_t image_len,
     return plain_play_on(UNDIVARRO_SICP_2_01, image, image_len, burst, burst_len, answer, answer_cap, out, out_cap);
 }
 
+/* A list has a byte that counts a burst's bytes, and then these, again and again (02's A9). How many bursts it has; false
+ * where it stops inside one. */
+static bool count_bursts(const uint8_t *list, size_t len, size_t *count)
+{
+    *count = 0;
+    for (size_t at = 0; at < len; at += 1u + list[at]) {
+        if (len - at - 1 < list[at])
+            return false;
+        ++*count;
+    }
+    return true;
+}
+
+/* All of the list on one wall; the length of the answers, each with its own in front. */
+static size_t answer_list(struct wall *wall, size_t head, const uint8_t *list, size_t len, uint8_t *answers)
+{
+    uint8_t *to = answers;
+    for (const uint8_t *at = list; at < list + len; at += 1u + *at) {
+        size_t answer_len = answer_burst(wall, head, at + 1, *at, damage_of(at + 1, *at, head), to + 1);
+        *to = (uint8_t)answer_len;
+        to += 1 + answer_len;
+    }
+    return (size_t)(to - answers);
+}
+
+struct undivarro_result plain_batch_on(uint32_t edition,
+                                       const uint8_t *image, size_t image_len,
+                                       const uint8_t *list, size_t list_len,
+                                       uint8_t *answers, size_t answers_cap,
+                                       uint8_t *out, size_t out_cap)
+{
+    struct wall wall;
+    size_t count;
+    uint32_t refusal = read_image(image, image_len, &wall);
+    if (refusal)
+        return refused(refusal);
+    if (out_cap < image_len_of(&wall, FORM_2))
+        return refused(19);
+    size_t head = head_of(edition);
+    if (head == 0)
+        return refused(23);
+    if (!count_bursts(list, list_len, &count))
+        return refused(32);
+    if (answers_cap / UNDIVARRO_BATCH_CAP < count)
+        return refused(33);
+
+    size_t answers_len = answer_list(&wall, head, list, list_len, answers);
+    struct undivarro_result result = written(&wall, FORM_2, out, out_cap);
+    result.answer_len = answers_len;
+    return result;
+}
+
+struct undivarro_result plain_batch(const uint8_t *image, size_t image_len,
+                                    const uint8_t *list, size_t list_len,
+                                    uint8_t *answers, size_t answers_cap,
+                                    uint8_t *out, size_t out_cap)
+{
+    return plain_batch_on(UNDIVARRO_SICP_2_01, image, image_len, list, list_len, answers, answers_cap, out, out_cap);
+}
+
 struct undivarro_result plain_read(const uint8_t *image, size_t image_len,
                                    uint8_t *out, size_t out_cap)
 {

@@ -15,6 +15,17 @@ struct undivarro_result plain_play_on(uint32_t edition,
                                       uint8_t *answer, size_t answer_cap,
                                       uint8_t *out, size_t out_cap);
 
+struct undivarro_result plain_batch(const uint8_t *image, size_t image_len,
+                                    const uint8_t *list, size_t list_len,
+                                    uint8_t *answers, size_t answers_cap,
+                                    uint8_t *out, size_t out_cap);
+
+struct undivarro_result plain_batch_on(uint32_t edition,
+                                       const uint8_t *image, size_t image_len,
+                                       const uint8_t *list, size_t list_len,
+                                       uint8_t *answers, size_t answers_cap,
+                                       uint8_t *out, size_t out_cap);
+
 struct undivarro_result plain_read(const uint8_t *image, size_t image_len,
                                    uint8_t *out, size_t out_cap);
 
