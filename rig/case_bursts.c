@@ -172,7 +172,7 @@ static enum burst_kind choose_data(struct source *s, enum burst_kind kind)
     return kind >= BURST_CHANGED && one_in(s, 2) ? BURST_GET : kind;
 }
 
-void make_burst(struct source *s, struct test_case *c, const struct draft *d)
+enum burst_kind choose_burst(struct source *s)
 {
     static const enum burst_kind often[] = {
         BURST_SET_ONE_PROFILE, BURST_SET_ONE_PROFILE, BURST_SET_ONE_PROFILE, BURST_SET_POWER, BURST_SET_POWER,
@@ -181,17 +181,18 @@ void make_burst(struct source *s, struct test_case *c, const struct draft *d)
         BURST_GET, BURST_LIMIT, BURST_LIMIT, BURST_LIMIT, BURST_SHORT, BURST_LONG,
     };
     enum burst_kind kind = one_in(s, 2) ? often[below(s, sizeof often / sizeof often[0])] : below(s, BURST_KINDS);
-    if (kind == BURST_VERY_LONG && !one_in(s, 3))
-        kind = BURST_GET;
-    c->burst_kind = kind;
+    return kind == BURST_VERY_LONG && !one_in(s, 3) ? BURST_GET : kind;
+}
 
+size_t make_burst(struct source *s, enum burst_kind kind, const struct edition *line, const struct draft *d, uint8_t *burst)
+{
     const struct record *panel = choose_panel(s, kind, d);
-    const struct edition *form = choose_form(s, kind, c->line);
-    uint8_t *burst = c->burst, data[64] = {0};
+    const struct edition *form = choose_form(s, kind, line);
+    uint8_t data[64] = {0};
     address(s, kind, panel, &burst[1], &burst[2]);
     size_t around = shortest_packet(form);
     size_t data_len = make_data(s, choose_data(s, kind), panel, MAX_PACKET - (unsigned)around, data);
     memcpy(burst + form->head, data, data_len);
     close_packet(burst, data_len + around);
-    c->burst_len = spoil_burst(s, kind, form, burst, data_len + around);
+    return spoil_burst(s, kind, form, burst, data_len + around);
 }

@@ -2,9 +2,12 @@
 
 #include "case_bursts.h"
 #include "case_images.h"
+#include "case_lists.h"
 #include "plain.h"
 
-const char *const call_names[CALLS] = {"play", "play on a line of an edition", "read", "back", "salvage"};
+const char *const call_names[CALLS] = {
+    "play", "play on a line of an edition", "batch", "batch on a line of an edition", "read", "back", "salvage",
+};
 const char *const room_kind_names[ROOM_KINDS] = {"exact", "ample", "at the limits", "for the other form", "any"};
 
 const uint32_t unknown_editions[UNKNOWN_EDITIONS] = {
@@ -17,9 +20,14 @@ bool is_play(const struct test_case *c)
     return c->call == CALL_PLAY || c->call == CALL_PLAY_ON;
 }
 
+bool is_batch(const struct test_case *c)
+{
+    return c->call == CALL_BATCH || c->call == CALL_BATCH_ON;
+}
+
 static void choose_edition(struct source *s, struct test_case *c)
 {
-    unsigned which = c->call == CALL_PLAY_ON ? below(s, 20) : 20;
+    unsigned which = c->call == CALL_PLAY_ON || c->call == CALL_BATCH_ON ? below(s, 20) : 20;
     if (which < 10)
         c->edition = UNDIVARRO_SICP_1_85;
     else if (which < 13)
@@ -33,7 +41,7 @@ static size_t edge(struct source *s, size_t needed)
 {
     switch (below(s, 6)) {
     case 0:
-        return needed - 1;
+        return needed > 0 ? needed - 1 : 0;
     case 1:
         return needed + 1;
     case 2:
@@ -56,11 +64,19 @@ static size_t kept_of(const struct test_case *c, size_t n)
     return r.refusal ? n : out[r.image_len - 2];
 }
 
+/* What answer, answers or lines need. */
+static size_t answer_room(const struct test_case *c)
+{
+    if (is_batch(c))
+        return UNDIVARRO_BATCH_CAP * c->bursts;
+    return c->call == CALL_SALVAGE ? UNDIVARRO_LINES_CAP : UNDIVARRO_ANSWER_CAP;
+}
+
 /* How much is lent, for an image of n panels. */
 static void make_room(struct source *s, struct test_case *c, size_t n)
 {
     unsigned form = c->call == CALL_BACK ? 1 : 2;
-    size_t answer = c->call == CALL_SALVAGE ? UNDIVARRO_LINES_CAP : UNDIVARRO_ANSWER_CAP;
+    size_t answer = answer_room(c);
     if (c->call == CALL_SALVAGE)
         n = kept_of(c, n);
     size_t out = image_size(form, n);
@@ -72,11 +88,11 @@ static void make_room(struct source *s, struct test_case *c, size_t n)
     c->out_cap = out;
     switch (c->room_kind) {
     case ROOM_AMPLE:
-        c->answer_cap = answer + below(s, 60);
+        c->answer_cap = answer + below(s, one_in(s, 8) ? 3000 : 60);
         c->out_cap = out + below(s, 60);
         break;
     case ROOM_EDGE:
-        c->answer_cap = edge(s, answer);
+        c->answer_cap = is_batch(c) && one_in(s, 4) ? UNDIVARRO_ANSWER_CAP * c->bursts : edge(s, answer);
         c->out_cap = edge(s, out);
         break;
     case ROOM_OTHER_FORM:
@@ -94,8 +110,8 @@ static void make_room(struct source *s, struct test_case *c, size_t n)
 void make_case(uint64_t seed, uint64_t number, struct test_case *c)
 {
     static const enum call calls[] = {
-        CALL_PLAY, CALL_PLAY, CALL_PLAY_ON, CALL_PLAY_ON, CALL_PLAY_ON, CALL_PLAY_ON, CALL_PLAY_ON, CALL_READ, CALL_BACK,
-        CALL_BACK, CALL_SALVAGE, CALL_SALVAGE,
+        CALL_PLAY, CALL_PLAY, CALL_PLAY_ON, CALL_PLAY_ON, CALL_PLAY_ON, CALL_PLAY_ON, CALL_PLAY_ON, CALL_BATCH,
+        CALL_BATCH_ON, CALL_BATCH_ON, CALL_BATCH_ON, CALL_READ, CALL_BACK, CALL_BACK, CALL_SALVAGE, CALL_SALVAGE,
     };
     struct source s = {seed};
     s.state = next(&s) ^ number * 0xD1342543DE82EF95u;
@@ -104,6 +120,11 @@ void make_case(uint64_t seed, uint64_t number, struct test_case *c)
     c->fill = next(&s);
     choose_edition(&s, c);
     make_image(&s, c, &draft);
-    make_burst(&s, c, &draft);
+    if (is_batch(c)) {
+        make_list(&s, c, &draft);
+    } else {
+        c->burst_kind = choose_burst(&s);
+        c->burst_len = make_burst(&s, c->burst_kind, c->line, &draft, c->burst);
+    }
     make_room(&s, c, draft.count);
 }

@@ -1,5 +1,5 @@
-/* Random cases for the comparison: a call, the edition of its line, a setup image, a burst, and how much room is lent for
- * answer or lines and for output. A case is made from the seed and its number alone, and is the same on every machine. */
+/* Random cases for the comparison: a call, the edition of its line, a setup image, a burst or a list of bursts, and how much
+ * room is lent for answer, answers or lines and for output. A case is made from the seed and its number alone, and is the same on every machine. */
 #ifndef CASES_H
 #define CASES_H
 
@@ -9,9 +9,9 @@
 
 #include "edition.h"
 
-enum { MAX_IMAGE_BYTES = 70000, MAX_BURST_BYTES = 70000, MAX_ROOM = 3300 };
+enum { MAX_IMAGE_BYTES = 70000, MAX_BURST_BYTES = 70000, MAX_ROOM = 69000 };
 
-enum call { CALL_PLAY, CALL_PLAY_ON, CALL_READ, CALL_BACK, CALL_SALVAGE, CALLS };
+enum call { CALL_PLAY, CALL_PLAY_ON, CALL_BATCH, CALL_BATCH_ON, CALL_READ, CALL_BACK, CALL_SALVAGE, CALLS };
 
 /* What was done to the image last; a case may have up to three spoilings, and one spoiling may hide another. A wreck has
  * them in many of its records. */
@@ -34,6 +34,15 @@ enum burst_kind {
     BURST_KINDS
 };
 
+enum list_kind {
+    LIST_NO_BYTES, LIST_ONE, LIST_FEW, LIST_TO_ONE_PANEL, LIST_MANY, LIST_EMPTY_BURSTS, LIST_LONGEST,
+    /* which may stop inside a burst */
+    LIST_CUT, LIST_COUNT_ALONE, LIST_BYTE_LOST, LIST_COUNT_HIGH, LIST_ANY_BYTES,
+    /* which are seldom made, as each costs as much as hundreds of others */
+    LIST_OVER_65535, LIST_OVER_255, LIST_OVER_1598,
+    LIST_KINDS, LIST_SELDOM = LIST_OVER_65535
+};
+
 enum room_kind { ROOM_EXACT, ROOM_AMPLE, ROOM_EDGE, ROOM_OTHER_FORM, ROOM_ANY, ROOM_KINDS };
 
 /* Which fields of kind and tiling a record has, and where. */
@@ -50,6 +59,7 @@ struct spoiled {
 extern const char *const call_names[CALLS];
 extern const char *const image_kind_names[IMAGE_KINDS];
 extern const char *const burst_kind_names[BURST_KINDS];
+extern const char *const list_kind_names[LIST_KINDS];
 extern const char *const room_kind_names[ROOM_KINDS];
 
 /* Numbers of no edition: those beside one, those that are one in 8 bits or in 16, and others that one might be taken for. */
@@ -58,7 +68,7 @@ extern const uint32_t unknown_editions[UNKNOWN_EDITIONS];
 
 struct test_case {
     enum call call;
-    uint32_t edition;                   /* the number that play_on is given; of the other calls 201 */
+    uint32_t edition;                   /* the number that play_on or batch_on is given; of the other calls 201 */
     const struct edition *line;         /* which that is, or NULL */
     enum image_kind image_kind;
     unsigned spoilings;                 /* of the image */
@@ -67,8 +77,11 @@ struct test_case {
     bool no_video[2];                   /* by profile: a panel of the draft has its video left out */
     bool places[PLACE_KINDS];           /* a panel of the draft has its kind and tiling so */
     enum burst_kind burst_kind;
+    enum list_kind list_kind;           /* of a batch, whose list stands in the burst's place */
+    size_t bursts;                      /* that begin in it */
+    bool cut;                           /* it stops inside the last of them */
     enum room_kind room_kind;
-    size_t image_len, burst_len, answer_cap, out_cap;   /* of a salvage answer_cap is lines_cap */
+    size_t image_len, burst_len, answer_cap, out_cap;   /* answer_cap is that of answer, answers or lines */
     uint64_t fill;                      /* what answer, out and their guards hold before */
     uint8_t image[MAX_IMAGE_BYTES];
     uint8_t burst[MAX_BURST_BYTES];
@@ -76,6 +89,9 @@ struct test_case {
 
 /* It plays its burst. */
 bool is_play(const struct test_case *c);
+
+/* It plays a list of bursts. */
+bool is_batch(const struct test_case *c);
 
 void make_case(uint64_t seed, uint64_t number, struct test_case *c);
 

@@ -13,12 +13,13 @@
 #include "tally.h"
 #include "trial.h"
 
-static const struct box plain = {"plain", plain_play, plain_play_on, plain_read, plain_back, plain_salvage};
+static const struct box plain = {"plain", plain_play, plain_play_on, plain_batch, plain_batch_on, plain_read, plain_back,
+                                 plain_salvage};
 #ifdef PLAIN_ALONE
 static const struct box *const proved = NULL;
 #else
-static const struct box proved_box = {"proved", undivarro_play, undivarro_play_on, undivarro_read, undivarro_back,
-                                      undivarro_salvage};
+static const struct box proved_box = {"proved", undivarro_play, undivarro_play_on, undivarro_batch, undivarro_batch_on,
+                                      undivarro_read, undivarro_back, undivarro_salvage};
 static const struct box *const proved = &proved_box;
 #endif
 
@@ -35,7 +36,7 @@ static void print_trial(const struct box *box, const struct test_case *c, const 
     printf("%s: refusal %" PRIu32 ", damage %" PRIu32 " (%s), answer length %zu, image length %zu%s%s\n", box->name,
            t->result.refusal, t->result.damage, damage_name(t->result.damage), t->result.answer_len, t->result.image_len,
            t->fault ? ": " : "", t->fault ? t->fault : "");
-    print_hex("answer or lines buffer with guards", t->answer, GUARD + c->answer_cap + GUARD);
+    print_hex("answer, answers or lines buffer with guards", t->answer, GUARD + c->answer_cap + GUARD);
     print_hex("output buffer with guards", t->out, GUARD + c->out_cap + GUARD);
 }
 
@@ -43,10 +44,11 @@ static void print_case(uint64_t seed, uint64_t number, const struct test_case *c
 {
     printf("case %" PRIu64 " of seed %" PRIu64 " (again: compare 1 %" PRIu64 " %" PRIu64 "): %s\n", number, seed, seed, number,
            call_names[c->call]);
-    printf("  edition: %" PRIu32 "; image: %s; burst: %s; room: %s\n", c->edition, image_kind_names[c->image_kind],
-           burst_kind_names[c->burst_kind], room_kind_names[c->room_kind]);
+    const char *what = is_batch(c) ? "list" : "burst";
+    printf("  edition: %" PRIu32 "; image: %s; %s: %s; room: %s\n", c->edition, image_kind_names[c->image_kind], what,
+           is_batch(c) ? list_kind_names[c->list_kind] : burst_kind_names[c->burst_kind], room_kind_names[c->room_kind]);
     print_hex("image", c->image, c->image_len);
-    print_hex("burst", c->burst, c->burst_len);
+    print_hex(what, c->burst, c->burst_len);
     print_hex("fill", (const uint8_t *)&c->fill, sizeof c->fill);
 }
 

@@ -20,10 +20,10 @@ rig_files := $(wildcard rig/*.h) include/undivarro.h rig/rig.mk
 rig_sources := $(addprefix rig/,rig.c serve.c serving.c device.c pseudo.c receiver.c burst_queue.c sender.c play.c playing.c \
     options.c box.c new.c show.c diff.c back.c salvage.c setup.c setup_file.c beside.c hold.c same_file.c write_all.c log.c \
     words.c value_text.c errors.c clock.c checksum.c status.c names.c edition.c tiling.c record.c told.c)
-case_sources := $(addprefix rig/,cases.c case_images.c case_bursts.c case_data.c case_records.c case_fields.c \
+case_sources := $(addprefix rig/,cases.c case_images.c case_bursts.c case_lists.c case_data.c case_records.c case_fields.c \
     case_spoilings.c case_wrecks.c case_values.c case_tilings.c random.c checksum.c edition.c)
-compare_sources := $(addprefix rig/,compare.c trial.c tally.c meetings.c damages.c editions.c powers.c tilings.c tiling_sets.c \
-    kinds.c salvages.c salvage_fields.c told.c walls.c names.c tiling.c record.c plain.c) $(case_sources)
+compare_sources := $(addprefix rig/,compare.c trial.c one_by_one.c tally.c meetings.c damages.c editions.c powers.c tilings.c \
+    tiling_sets.c batches.c kinds.c salvages.c salvage_fields.c told.c walls.c names.c tiling.c record.c plain.c) $(case_sources)
 
 # These install what is missing; the files below are built with what is there.
 .PHONY: rig rig-test bench

@@ -42,6 +42,8 @@ void count_outcome(struct tally *tally, const struct test_case *c, const struct 
         count_salvage(&tally->salvages, c, by_plain);
     if (is_play(c))
         count_play(tally, c, by_plain);
+    if (is_batch(c))
+        count_batch(&tally->batches, c, by_plain);
 }
 
 /* A line of the tally: what was met, and how often; a line whose what is NULL begins the section that is named. */
@@ -68,8 +70,12 @@ static void each_of_call(take_line *take, void *to, const struct tally *tally, e
         snprintf(what, sizeof what, "refusal %d", i);
         take(to, section, what, refusal[i]);
     }
-    if (call == CALL_PLAY_ON)
+    if (call == CALL_PLAY_ON || call == CALL_BATCH_ON)
         take(to, section, "refusal 23", refusal[23]);
+    if (call == CALL_BATCH || call == CALL_BATCH_ON) {
+        take(to, section, "refusal 32", refusal[32]);
+        take(to, section, "refusal 33", refusal[33]);
+    }
     if (call == CALL_BACK)
         take(to, section, "refusal 31", refusal[31]);
     for (int i = 0; i < WALL_KINDS; i++)
@@ -178,6 +184,22 @@ static void each_salvage(take_line *take, void *to, const struct salvages *s)
     }
 }
 
+static void each_batch(take_line *take, void *to, const struct batches *b)
+{
+    char section[64], what[64];
+    each_name(take, to, "list", list_kind_names, b->list, LIST_KINDS);
+    for (unsigned i = 0; i < EDITIONS; i++)
+        each_name(take, to, section_of(section, "batch", &editions[i]), batch_case_names, b->met[i], BATCH_CASES);
+    each_name(take, to, "batch, large lists", large_case_names, b->large, LARGE_CASES);
+    take(to, "batch, refusals beside each other", NULL, 0);
+    for (unsigned i = 0; i < EARLIERS; i++)
+        for (enum later later = 0; later < LATERS; later++)
+            if (comes_later(i, later)) {
+                snprintf(what, sizeof what, "%lu though %s", (unsigned long)earlier_refusal(i), later_name(later));
+                take(to, "batch, refusals beside each other", what, b->beside[i][later]);
+            }
+}
+
 static void each_line(take_line *take, void *to, const struct tally *tally)
 {
     each_name(take, to, "image, by its last spoiling", image_kind_names, tally->image, IMAGE_KINDS);
@@ -194,6 +216,7 @@ static void each_line(take_line *take, void *to, const struct tally *tally)
     each_name(take, to, "kind and tiling in a form 2 record", place_kind_names, tally->kinds.place, PLACE_KINDS);
     each_name(take, to, "kind and tiling in images", kind_case_names, tally->kinds.met, KIND_CASES);
     each_salvage(take, to, &tally->salvages);
+    each_batch(take, to, &tally->batches);
     each_name(take, to, "case and outcome", meeting_names, tally->meetings.met, MEETINGS);
 }
 

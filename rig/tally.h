@@ -2,6 +2,7 @@
 #ifndef TALLY_H
 #define TALLY_H
 
+#include "batches.h"
 #include "damages.h"
 #include "editions.h"
 #include "kinds.h"
@@ -27,6 +28,7 @@ struct tally {
     struct kinds kinds;
     struct meetings meetings;
     struct salvages salvages;
+    struct batches batches;
 };
 
 /* by_plain is the outcome of the plain box. */
@@ -34,8 +36,8 @@ void count_outcome(struct tally *tally, const struct test_case *c, const struct 
 void print_tally(const struct tally *tally);
 
 /* Every kind of image and room, every refusal and every kind of wall for each call, for each edition every kind of burst and
- * of answer and every damage in all its ways and at all limits, every case of the editions, of power, of tiling, of kinds and
- * of salvage, and every meeting; if not, says which was not met. */
+ * of answer and every damage in all its ways and at all limits, every case of the editions, of power, of tiling, of kinds, of
+ * salvage and of batches, and every meeting; if not, says which was not met. */
 bool met_everything(const struct tally *tally);
 
 #endif

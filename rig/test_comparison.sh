@@ -3,7 +3,7 @@
 
 cases=${CASES:-1000000}
 seed=${SEED:-$(od -An -N6 -tu8 /dev/urandom | tr -d ' ')}
-short_cases=100000
+short_cases=140000
 
 # half CASES FIRST: what it met stays in comparison-FIRST.txt beside the programs
 half() { ${RUN:-} "$programs/bin/compare" "$1" "$seed" "$2" >"$programs/comparison-$2.txt" 2>&1; }

@@ -2,6 +2,8 @@
 
 #include <string.h>
 
+#include "one_by_one.h"
+
 /* In the sanitized run a read or write of a guard byte is a fault at once. */
 #ifdef __SANITIZE_ADDRESS__
 #include <sanitizer/asan_interface.h>
@@ -39,19 +41,19 @@ static bool as_before(const uint8_t *area, size_t from, size_t to)
     return memcmp(area + from, filled + from, to - from) == 0;
 }
 
-static const char *fault_of(const struct test_case *c, const struct trial *t)
+static const char *fault_of(const struct box *box, const struct test_case *c, const struct trial *t)
 {
     struct undivarro_result r = t->result;
     if (memcmp(image_area + GUARD, c->image, c->image_len) != 0)
         return "the lent image was written to";
     if (memcmp(burst_area + GUARD, c->burst, c->burst_len) != 0)
-        return "the lent burst was written to";
+        return "the lent burst or list was written to";
     if (r.refusal && (r.answer_len || r.image_len))
         return "a refusal with a length that is not 0";
     if (!c->line && !r.refusal)
         return "a number of no edition is taken for one";
     if (r.damage && (r.refusal || !is_play(c)))
-        return "damage from a refusal, or from a call without a burst";
+        return "damage from a refusal, or from a call that plays no single burst";
     if (r.damage > UNDIVARRO_CHECKSUM_WRONG)
         return "a damage that the header does not name";
     if (r.answer_len > c->answer_cap || r.image_len > c->out_cap)
@@ -59,10 +61,33 @@ static const char *fault_of(const struct test_case *c, const struct trial *t)
     if (!as_before(t->answer, 0, GUARD) || !as_before(t->out, 0, GUARD))
         return "a byte before a buffer was touched";
     if (!as_before(t->answer, GUARD + r.answer_len, GUARD + c->answer_cap + GUARD))
-        return "a byte past the answer or the lines was touched";
+        return "a byte past the answer, the answers or the lines was touched";
     if (!as_before(t->out, GUARD + r.image_len, GUARD + c->out_cap + GUARD))
         return "a byte past the image was touched";
-    return NULL;
+    return is_batch(c) && !r.refusal ? differs_one_by_one(box, c, t) : NULL;
+}
+
+struct lent {
+    const uint8_t *image, *burst;
+    uint8_t *answer, *out;
+};
+
+static struct undivarro_result call_box(const struct box *box, const struct test_case *c, struct lent l)
+{
+    switch (c->call) {
+    case CALL_PLAY:
+    case CALL_BATCH:
+        return (c->call == CALL_PLAY ? box->play : box->batch)(l.image, c->image_len, l.burst, c->burst_len, l.answer,
+                                                               c->answer_cap, l.out, c->out_cap);
+    case CALL_PLAY_ON:
+    case CALL_BATCH_ON:
+        return (c->call == CALL_PLAY_ON ? box->play_on : box->batch_on)(c->edition, l.image, c->image_len, l.burst, c->burst_len,
+                                                                        l.answer, c->answer_cap, l.out, c->out_cap);
+    case CALL_SALVAGE:
+        return box->salvage(l.image, c->image_len, l.answer, c->answer_cap, l.out, c->out_cap);
+    default:
+        return (c->call == CALL_READ ? box->read : box->back)(l.image, c->image_len, l.out, c->out_cap);
+    }
 }
 
 void run_trial(const struct box *box, const struct test_case *c, struct trial *t)
@@ -78,23 +103,16 @@ void run_trial(const struct box *box, const struct test_case *c, struct trial *t
 
     /* Where nothing is lent the pointer may be NULL. */
     bool null = c->fill & 1;
-    const uint8_t *image = null && c->image_len == 0 ? NULL : image_area + GUARD;
-    const uint8_t *burst = null && c->burst_len == 0 ? NULL : burst_area + GUARD;
-    uint8_t *answer = null && c->answer_cap == 0 ? NULL : t->answer + GUARD;
-    uint8_t *out = null && c->out_cap == 0 ? NULL : t->out + GUARD;
-
+    struct lent lent = {
+        .image = null && c->image_len == 0 ? NULL : image_area + GUARD,
+        .burst = null && c->burst_len == 0 ? NULL : burst_area + GUARD,
+        .answer = null && c->answer_cap == 0 ? NULL : t->answer + GUARD,
+        .out = null && c->out_cap == 0 ? NULL : t->out + GUARD,
+    };
     close_all(c, t, true);
-    if (c->call == CALL_PLAY)
-        t->result = box->play(image, c->image_len, burst, c->burst_len, answer, c->answer_cap, out, c->out_cap);
-    else if (c->call == CALL_PLAY_ON)
-        t->result = box->play_on(c->edition, image, c->image_len, burst, c->burst_len, answer, c->answer_cap, out,
-                                 c->out_cap);
-    else if (c->call == CALL_SALVAGE)
-        t->result = box->salvage(image, c->image_len, answer, c->answer_cap, out, c->out_cap);
-    else
-        t->result = (c->call == CALL_READ ? box->read : box->back)(image, c->image_len, out, c->out_cap);
+    t->result = call_box(box, c, lent);
     close_all(c, t, false);
-    t->fault = fault_of(c, t);
+    t->fault = fault_of(box, c, t);
 }
 
 bool same_outcome(const struct test_case *c, const struct trial *a, const struct trial *b)

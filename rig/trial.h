@@ -13,6 +13,9 @@ struct box {
     struct undivarro_result (*play)(const uint8_t *, size_t, const uint8_t *, size_t, uint8_t *, size_t, uint8_t *, size_t);
     struct undivarro_result (*play_on)(uint32_t, const uint8_t *, size_t, const uint8_t *, size_t, uint8_t *, size_t, uint8_t *,
                                        size_t);
+    struct undivarro_result (*batch)(const uint8_t *, size_t, const uint8_t *, size_t, uint8_t *, size_t, uint8_t *, size_t);
+    struct undivarro_result (*batch_on)(uint32_t, const uint8_t *, size_t, const uint8_t *, size_t, uint8_t *, size_t, uint8_t *,
+                                        size_t);
     struct undivarro_result (*read)(const uint8_t *, size_t, uint8_t *, size_t);
     struct undivarro_result (*back)(const uint8_t *, size_t, uint8_t *, size_t);
     struct undivarro_result (*salvage)(const uint8_t *, size_t, uint8_t *, size_t, uint8_t *, size_t);
@@ -21,7 +24,7 @@ struct box {
 struct trial {
     struct undivarro_result result;
     const char *fault;                  /* what was touched or answered against the header, or NULL */
-    _Alignas(8) uint8_t answer[AREA];   /* or the lines: a guard, the lent bytes, a guard */
+    _Alignas(8) uint8_t answer[AREA];   /* or answers or lines: a guard, the lent bytes, a guard */
     _Alignas(8) uint8_t out[AREA];
 };
 
