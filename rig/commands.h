@@ -7,15 +7,18 @@
 
 #include "edition.h"
 
-/* What `rig play` is given. */
+/* What `rig play` and `rig scene` are given. */
 struct playing {
     const char *image;
+    const char *scene;                  /* of `rig scene`: the file, or - */
     const struct edition *edition;
     const char *log;                    /* or NULL */
 };
-/* From its arguments; the status may be MISFIT. */
+/* From their arguments; the status may be MISFIT. */
 int read_playing(int count, char **given, struct playing *playing);
+int read_scene(int count, char **given, struct playing *playing);
 int play(const struct playing *playing);
+int play_scene(const struct playing *playing);
 
 /* What `rig serve` is given. */
 struct serving {

@@ -43,7 +43,7 @@ struct remark {
     const char *about, *outcome;
 };
 
-/* For a program that goes on without a log: these say nothing and wait for nothing. Lines open the log where it is not open,
+/* For a program that goes on without a log, or has words of its own: these say nothing and wait for nothing. Lines open the log where it is not open,
  * and close it where it fails; what is open stays so where it cannot be opened anew. False with errno. */
 bool try_open_log(struct log *log);
 bool try_log(struct log *log, const struct played *played);

@@ -98,6 +98,10 @@ const char *refusal_words(uint32_t refusal)
         return "edition: neither 1.85 nor 2.01";
     case 31:
         return "writing form 1 while a panel is Phoenix or 15x10, or has a tiling that is not fresh";
+    case 32:
+        return "list: stops inside a burst";
+    case 33:
+        return "lent output too short: answers under 41 bytes for each burst";
     default:
         return "not a number of the table";
     }

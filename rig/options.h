@@ -1,4 +1,4 @@
-/* The options that rig play and rig serve share. */
+/* The options that rig play, rig scene and rig serve share. */
 #ifndef OPTIONS_H
 #define OPTIONS_H
 

@@ -17,9 +17,9 @@ endif
 rig_out := target/rig
 rig_programs := $(addprefix $(rig_out)/bin/,rig rig-stopped compare bench)
 rig_files := $(wildcard rig/*.h) include/undivarro.h rig/rig.mk
-rig_sources := $(addprefix rig/,rig.c serve.c serving.c device.c pseudo.c receiver.c burst_queue.c sender.c play.c playing.c \
-    options.c box.c new.c show.c diff.c back.c salvage.c setup.c setup_file.c beside.c hold.c same_file.c write_all.c log.c \
-    words.c value_text.c errors.c clock.c checksum.c status.c names.c edition.c tiling.c record.c told.c)
+rig_sources := $(addprefix rig/,rig.c serve.c serving.c device.c pseudo.c receiver.c burst_queue.c sender.c play.c scene.c \
+    playing.c session.c hex.c options.c box.c new.c show.c diff.c back.c salvage.c setup.c setup_file.c beside.c hold.c \
+    same_file.c read_up_to.c write_all.c log.c words.c value_text.c errors.c clock.c checksum.c status.c names.c edition.c tiling.c record.c told.c)
 case_sources := $(addprefix rig/,cases.c case_images.c case_bursts.c case_lists.c case_data.c case_records.c case_fields.c \
     case_spoilings.c case_wrecks.c case_values.c case_tilings.c random.c checksum.c edition.c)
 compare_sources := $(addprefix rig/,compare.c trial.c one_by_one.c tally.c meetings.c damages.c editions.c powers.c tilings.c \
@@ -52,7 +52,7 @@ target/staticlib/libundivarro.a: $(wildcard crates/*/src/*.rt crates/*/src/*/*.r
 
 $(rig_out)/bin/rig: $(rig_sources)
 $(rig_out)/bin/rig-stopped: $(rig_sources) rig/stops.c
-$(rig_out)/bin/rig-stopped: RIG_LINK := -Wl,--wrap=write,--wrap=fsync,--wrap=renameat,--wrap=renameat2,--wrap=flock,--wrap=pthread_create,--wrap=poll,--wrap=is_pseudo_terminal
+$(rig_out)/bin/rig-stopped: RIG_LINK := -Wl,--wrap=read,--wrap=write,--wrap=fsync,--wrap=renameat,--wrap=renameat2,--wrap=flock,--wrap=pthread_create,--wrap=poll,--wrap=is_pseudo_terminal
 $(rig_out)/bin/compare: $(compare_sources)
 $(rig_out)/bin/bench: $(addprefix rig/,bench.c bench_images.c edition.c plain.c)
 $(rig_programs): $(UNDIVARRO_LIB) $(rig_files)

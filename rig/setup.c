@@ -8,6 +8,7 @@
 #include <string.h>
 #include <unistd.h>
 
+#include "read_up_to.h"
 #include "status.h"
 
 /* errno says why. */
@@ -39,7 +40,7 @@ int load_image(const char *path, int held, uint8_t image[SETUP_FILE_LIMIT + 1], 
     int fd = held >= 0 ? held : open(path, O_RDONLY | O_NOCTTY | O_CLOEXEC);
     if (fd < 0)
         return not_opened("read", path);
-    bool good = read_setup(fd, image, len);
+    bool good = read_up_to(fd, image, SETUP_FILE_LIMIT + 1, len);
     int error = errno;
     if (held < 0)
         close(fd);

@@ -18,19 +18,6 @@
 #include "same_file.h"
 #include "write_all.h"
 
-bool read_setup(int fd, uint8_t bytes[SETUP_FILE_LIMIT + 1], size_t *len)
-{
-    ssize_t got = 1;
-    for (*len = 0; got > 0 && *len <= SETUP_FILE_LIMIT;) {
-        got = read(fd, bytes + *len, SETUP_FILE_LIMIT + 1 - *len);
-        if (got > 0)
-            *len += (size_t)got;
-        else if (got < 0 && errno == EINTR)
-            got = 1;
-    }
-    return got >= 0;
-}
-
 /* A file by its folder and its name there. */
 struct place {
     int folder;

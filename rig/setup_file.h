@@ -9,9 +9,6 @@
 
 enum { SETUP_FILE_LIMIT = 65536 };      /* a file over this is no setup image */
 
-/* The bytes of the open file, at most one over the limit: *len is over it exactly where the file is. False with errno. */
-bool read_setup(int fd, uint8_t bytes[SETUP_FILE_LIMIT + 1], size_t *len);
-
 /* Holds the file at path for one program alone, and takes away what programs that are gone left beside it: a descriptor to
  * read it by, at whose end, with the program's at the latest, it is free again. -1 with errno: EWOULDBLOCK where another
  * program holds it, *holder being its process or 0; EINVAL where it is no regular file. */

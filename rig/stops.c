@@ -17,7 +17,9 @@
 #include <unistd.h>
 
 #include "pseudo.h"
+#include "same_file.h"
 
+ssize_t __real_read(int fd, void *bytes, size_t len);
 ssize_t __real_write(int fd, const void *bytes, size_t len);
 int __real_fsync(int fd);
 int __real_renameat(int from_folder, const char *from, int to_folder, const char *to);
@@ -26,6 +28,7 @@ int __real_flock(int fd, int how);
 int __real_pthread_create(pthread_t *thread, const pthread_attr_t *with, void *(*run)(void *), void *of);
 int __real_poll(struct pollfd *fds, nfds_t count, int time);
 bool __real_is_pseudo_terminal(const struct stat *is);
+ssize_t __wrap_read(int fd, void *bytes, size_t len);
 ssize_t __wrap_write(int fd, const void *bytes, size_t len);
 int __wrap_fsync(int fd);
 int __wrap_renameat(int from_folder, const char *from, int to_folder, const char *to);
@@ -52,6 +55,19 @@ static bool is_file(int fd)
 {
     struct stat is;
     return fstat(fd, &is) == 0 && S_ISREG(is.st_mode);
+}
+
+/* Somebody writes a line more to the file that STOP_UNTIL names, once its first bytes are read. */
+ssize_t __wrap_read(int fd, void *bytes, size_t len)
+{
+    static bool written;
+    ssize_t got = __real_read(fd, bytes, len);
+    if (at("written-while-read") && !written && leads_to(getenv("STOP_UNTIL"), fd)) {
+        int to = open(getenv("STOP_UNTIL"), O_WRONLY | O_APPEND);
+        written = __real_write(to, "050100191D\n", 11) == 11;
+        close(to);
+    }
+    return got;
 }
 
 /* A line that takes half of the first answer, and nothing more as long as it is tried for. */
@@ -106,6 +122,8 @@ int __wrap_fsync(int fd)
         raise(SIGKILL);
     if (at("folder-sync-fails") && calls == 2)
         return fail(EIO);
+    if (at("killed-in-second-keep") && calls == 3)
+        raise(SIGKILL);
     return __real_fsync(fd);
 }
 

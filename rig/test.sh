@@ -162,7 +162,7 @@ refused_images() {
     while read -r number hex; do
         image w "$hex"
         words="rig: w: refusal $number: $(refusal_words "$number")"
-        commands=('show w' 'play w' 'back w n')
+        commands=('show w' 'play w' 'scene w -' 'back w n')
         # from 16 on a salvage keeps what it can
         [ "$number" -gt 15 ] || commands+=('salvage w n')
         for command in "${commands[@]}"; do
@@ -173,7 +173,7 @@ refused_images() {
     done
 }
 
-for part in comparison live program editions forms power tiling salvage salvage_command keeping words log diff install; do
+for part in comparison live program editions forms power tiling salvage salvage_command keeping scene words log diff install; do
     . "$parts/test_$part.sh" || exit 2
 done
 comparison_tests

@@ -79,7 +79,7 @@ man_page() {
     same 'what the formatter says' "$(groff -man -Tutf8 -ww -z "$page" 2>&1)" '' || return
     groff -man -Tascii -P-cbou "$page" >page || return
     mapfile -t words < <(rig --help | sed -nE 's/^(usage:|      ) (rig [a-z]+).*/\2/p'; rig --help | grep -oE -- '--[a-z]+' | sort -u)
-    same 'commands and options' "${#words[@]}" 11 || return
+    same 'commands and options' "${#words[@]}" 12 || return
     for word in "${words[@]}"; do grep -qF -- "$word" page || { echo "no $word in the man page"; return 1; }; done
     ! grep '@' "$page"
 }
