@@ -4,14 +4,15 @@
 
 #include <fcntl.h>
 #include <inttypes.h>
+#include <stdbool.h>
 #include <stdio.h>
 #include <stdlib.h>
 #include <string.h>
 #include <unistd.h>
 
+#include "bench_bursts.h"
 #include "bench_images.h"
 #include "count.h"
-#include "edition.h"
 #include "plain.h"
 
 typedef struct undivarro_result play_function(const uint8_t *, size_t, const uint8_t *, size_t, uint8_t *, size_t, uint8_t *,
@@ -97,27 +98,37 @@ __attribute__((noipa)) static uint64_t count_read(read_function *function, const
     return count_now() - before;
 }
 
+static void check(const char *what, bool good)
+{
+    if (good)
+        return;
+    fprintf(stderr, "bench: %s: the two differ, or refuse; run make rig-test\n", what);
+    exit(1);
+}
+
 static void check_same(const char *what, const struct outcome *proved, const struct outcome *plain)
 {
-    if (memcmp(proved, plain, sizeof *proved) != 0 || memcmp(proved_lines, plain_lines, sizeof plain_lines) != 0
-        || proved->result.refusal != 0) {
-        fprintf(stderr, "bench: %s: the two differ, or refuse; run make rig-test\n", what);
-        exit(1);
-    }
+    check(what, memcmp(proved, plain, sizeof *proved) == 0 && memcmp(proved_lines, plain_lines, sizeof plain_lines) == 0
+          && proved->result.refusal == 0);
 }
 
 struct cost {
     uint64_t proved, plain;
 };
 
-static void print_head(const char *what)
+static void print_head(const char *what, const char *one, const char *other)
 {
-    printf("| %s | proved | plain | proved / plain |\n|---|---|---|---|\n", what);
+    printf("| %s | %s | %s | %s / %s |\n|---|---|---|---|\n", what, one, other, one, other);
+}
+
+static void print_figures(const char *what, uint64_t one, uint64_t other)
+{
+    printf("| %s | %" PRIu64 " | %" PRIu64 " | %.2f |\n", what, one, other, (double)one / (double)other);
 }
 
 static void print_row(const char *what, struct cost cost)
 {
-    printf("| %s | %" PRIu64 " | %" PRIu64 " | %.2f |\n", what, cost.proved, cost.plain, (double)cost.proved / (double)cost.plain);
+    print_figures(what, cost.proved, cost.plain);
 }
 
 enum { EACH = -1, ALL = 0, ABSENT = PANELS + 1 };
@@ -154,21 +165,6 @@ static const struct trial trials[] = {
 };
 enum { TRIALS = sizeof trials / sizeof trials[0] };
 
-/* The trial's packet to this ID; its length. */
-static size_t make_burst(const struct trial *t, uint8_t id, uint8_t *burst)
-{
-    const struct edition *edition = &editions[t->edition];
-    size_t len = shortest_packet(edition) + t->len;
-    burst[0] = (uint8_t)len;
-    burst[1] = id;
-    burst[2] = t->group;                /* behind which the data is, or in whose place */
-    memcpy(burst + edition->head, t->data, t->len);
-    burst[len - 1] = t->spoil;
-    for (size_t i = 0; i < len - 1; i++)
-        burst[len - 1] ^= burst[i];
-    return len;
-}
-
 /* One implementation: of a 2.01 line the call that takes no edition. */
 struct box {
     play_function *play;
@@ -192,7 +188,8 @@ static struct cost cost_of_play(const struct trial *t)
     uint64_t proved_sum = 0, plain_sum = 0;
     for (unsigned k = 0; k < PANELS; k++) {
         uint8_t burst[UNDIVARRO_ANSWER_CAP];
-        size_t len = make_burst(t, (uint8_t)(t->id == EACH ? (int)k + 1 : t->id), burst);
+        size_t len = make_packet(&editions[t->edition], (uint8_t)(t->id == EACH ? (int)k + 1 : t->id), t->group, t->data, t->len,
+                                 t->spoil, burst);
         uint64_t around = count_burst(&nothing, t, burst, len, &none);
         proved_sum += count_burst(&proved_box, t, burst, len, &proved) - around;
         plain_sum += count_burst(&plain_box, t, burst, len, &plain) - around;
@@ -227,8 +224,69 @@ static struct cost cost_of_reading(const struct reading *r)
     return (struct cost){by_proved, by_plain};
 }
 
+/* A scene in one call, as a play whose answers are apart. */
+static uint8_t proved_answers[SCENE_BURSTS * UNDIVARRO_BATCH_CAP], plain_answers[SCENE_BURSTS * UNDIVARRO_BATCH_CAP];
+
+static struct undivarro_result proved_batch(const uint8_t *image, size_t image_len, const uint8_t *list, size_t list_len,
+                                            uint8_t *answer, size_t answer_cap, uint8_t *out, size_t out_cap)
+{
+    (void)answer, (void)answer_cap;
+    return undivarro_batch(image, image_len, list, list_len, proved_answers, sizeof proved_answers, out, out_cap);
+}
+
+static struct undivarro_result plain_batched(const uint8_t *image, size_t image_len, const uint8_t *list, size_t list_len,
+                                             uint8_t *answer, size_t answer_cap, uint8_t *out, size_t out_cap)
+{
+    (void)answer, (void)answer_cap;
+    return plain_batch(image, image_len, list, list_len, plain_answers, sizeof plain_answers, out, out_cap);
+}
+
+static const char in_one_call[] = "scene of 1,000 bursts, in one call, form 2";
+static const char in_calls[] = "the same bursts, in 1,000 calls, form 2";
+
+static struct cost cost_of_scene(const struct scene *scene, struct outcome *proved)
+{
+    static struct outcome plain, none;
+    uint64_t around = count_play(no_play, &four_groups, scene->list, scene->len, &none);
+    uint64_t by_proved = count_play(proved_batch, &four_groups, scene->list, scene->len, proved) - around;
+    uint64_t by_plain = count_play(plain_batched, &four_groups, scene->list, scene->len, &plain) - around;
+    check_same(in_one_call, proved, &plain);
+    check(in_one_call, memcmp(proved_answers, plain_answers, sizeof plain_answers) == 0);
+    return (struct cost){by_proved, by_plain};
+}
+
+/* Each burst on the image of the one before; answers and last image are those of the one call. */
+static struct cost cost_of_calls(const struct scene *scene, const struct outcome *batch)
+{
+    static struct outcome proved, plain, none;
+    static struct image image;
+    struct cost sum = {0, 0};
+    const uint8_t *answer = proved_answers;
+    image = four_groups;
+    for (const uint8_t *at = scene->list; at < scene->list + scene->len; at += 1u + *at) {
+        uint64_t around = count_play(no_play, &image, at + 1, *at, &none);
+        sum.proved += count_play(undivarro_play, &image, at + 1, *at, &proved) - around;
+        sum.plain += count_play(plain_play, &image, at + 1, *at, &plain) - around;
+        check_same(in_calls, &proved, &plain);
+        check(in_calls, answer[0] == proved.result.answer_len && memcmp(answer + 1, proved.answer, answer[0]) == 0);
+        answer += 1u + answer[0];
+        memcpy(image.bytes, proved.out, image.len);
+    }
+    check(in_calls, memcmp(batch->out, proved.out, sizeof proved.out) == 0);
+    return sum;
+}
+
+static void print_scene(struct cost one_call, struct cost calls)
+{
+    print_head("scene of 1,000 bursts", "one call", "1,000 calls");
+    print_figures("proved", one_call.proved, calls.proved);
+    print_figures("plain", one_call.plain, calls.plain);
+}
+
 int main(void)
 {
+    static struct scene scene;
+    static struct outcome batch;
     int ends[2];
     if (pipe2(ends, O_NONBLOCK) != 0) {
         perror("bench: no pipe");
@@ -237,20 +295,26 @@ int main(void)
     count_from = ends[0];
     count_to = ends[1];
     make_images();
+    make_scene(&scene);
     count_now();
 
     struct cost costs[TRIALS];
-    print_head("call");
+    print_head("call", "proved", "plain");
     for (int i = 0; i < TRIALS; i++)
         print_row(trials[i].what, costs[i] = cost_of_play(&trials[i]));
     struct cost image_cost = cost_of_reading(&readings[0]);
     print_row(readings[0].what, image_cost);
     for (int i = 1; i < READINGS; i++)
         print_row(readings[i].what, cost_of_reading(&readings[i]));
+    struct cost one_call = cost_of_scene(&scene, &batch), calls = cost_of_calls(&scene, &batch);
+    print_row(in_one_call, one_call);
+    print_row(in_calls, calls);
 
     putchar('\n');
-    print_head("the burst alone");
+    print_head("the burst alone", "proved", "plain");
     for (int i = 0; i < TRIALS; i++)
         print_row(trials[i].what, (struct cost){costs[i].proved - image_cost.proved, costs[i].plain - image_cost.plain});
+    putchar('\n');
+    print_scene(one_call, calls);
     return 0;
 }

@@ -5,7 +5,7 @@
 #include "plain.h"
 #include "record.h"
 
-struct image form_1, form_2, one_apart, wreck;
+struct image form_1, form_2, one_apart, four_groups, wreck;
 
 /* No value is allowed, and behind each record's fields stands a code alone. */
 static void make_wreck(void)
@@ -40,5 +40,8 @@ void make_images(void)
     form_2.len = plain_read(fresh, sizeof fresh, form_2.bytes, sizeof form_2.bytes).image_len;
     one_apart = form_2;
     one_apart.bytes[RECORD_LEN * 16 + GROUP_AT] = 8;
+    four_groups = form_2;
+    for (unsigned k = 0; k < PANELS; k++)
+        four_groups.bytes[RECORD_LEN * k + GROUP_AT] = (uint8_t)(1 + k / 8);
     make_wreck();
 }

@@ -54,7 +54,7 @@ $(rig_out)/bin/rig: $(rig_sources)
 $(rig_out)/bin/rig-stopped: $(rig_sources) rig/stops.c
 $(rig_out)/bin/rig-stopped: RIG_LINK := -Wl,--wrap=read,--wrap=write,--wrap=fsync,--wrap=renameat,--wrap=renameat2,--wrap=flock,--wrap=pthread_create,--wrap=poll,--wrap=is_pseudo_terminal
 $(rig_out)/bin/compare: $(compare_sources)
-$(rig_out)/bin/bench: $(addprefix rig/,bench.c bench_images.c edition.c plain.c)
+$(rig_out)/bin/bench: $(addprefix rig/,bench.c bench_images.c bench_bursts.c edition.c checksum.c plain.c)
 $(rig_programs): $(UNDIVARRO_LIB) $(rig_files)
 	@mkdir -p $(@D)
 	$(X86_CC) $(RIG_FLAGS) -static $(filter %.c,$^) $(UNDIVARRO_LIB) $(RIG_LINK) -o $@
