@@ -15,7 +15,7 @@
 static const char usage[] =
     "usage: rig serve DEVICE IMAGE [--sicp EDITION] [--baud N] [--quiet MS] [--log FILE]   answers on a serial line\n"
     "       rig play IMAGE [--sicp EDITION] [--log FILE]   plays bursts from standard input, one in hex on each line\n"
-    "       rig scene IMAGE FILE [--sicp EDITION] [--log LOG]   plays the bursts of FILE, or of - for standard input, as one\n"
+    "       rig scene IMAGE SCENE [--sicp EDITION] [--log FILE]   plays the bursts of the file SCENE as one; - is standard input\n"
     "       rig new IMAGE [PANEL ...]     a new setup of up to 32 fresh panels, in this order\n"
     "       rig show IMAGE                the panels of a setup\n"
     "       rig diff A B                  what differs between two setups\n"
@@ -30,13 +30,13 @@ static const char usage[] =
     "EDITION is the SICP that the hosts of the line speak: 1.85, whose packets have no group byte, or 2.01, which it is where\n"
     "nothing is said. It is never guessed.\n"
     "For play, a burst's bytes have two hex digits each, with or without spaces between bytes; an empty line is an empty\n"
-    "burst. The answer is printed in hex, or - for silence. For scene they are the same, of up to 255 bytes, in up to 1048576\n"
-    "bytes of FILE; empty lines are left out, and # begins a comment. All are played or, where a line is not a burst, none; IMAGE\n"
-    "is written once, and then all answers are printed.\n"
+    "burst. The answer is printed in hex, or - for silence. A scene has the same lines, but empty ones are left out, # begins\n"
+    "a comment, and a burst has up to 255 bytes. All of it is played, or nothing where a line is wrong; IMAGE is written once,\n"
+    "and then the answers are printed.\n"
     "IMAGE is written at each burst that changes a setting, before its answer goes out, and at no other time. With --log a\n"
-    "line for each burst is put at the end of FILE or LOG, before its answer goes out: the burst's number, which for play and\n"
-    "scene is that of its line, the burst in hex, what it asks for or what was wrong with it, and the answer in words; for serve\n"
-    "with the time in front. A PANEL is\n"
+    "line for each burst is put at the end of FILE, before its answer goes out: its number, which for play and scene is that\n"
+    "of its line, the burst in hex, what it asks for or what was wrong with it, and the answer in words; for serve with the\n"
+    "time in front. A PANEL is\n"
     "ID:GROUP[:phoenix][:15x10]: IDs are 1 to 255, groups 1 to 255, and group 255 is group off; a panel is general unless\n"
     ":phoenix is given, and of the 5 by 5 kind unless :15x10 is given, which is 15 wide and 10 high. Setups of form 1 and\n"
     "form 2 are read, and form 2 is written; form 1 has no Phoenix and no 15x10 panels, and no tiling. A setup that is\n"
@@ -99,7 +99,7 @@ static const struct command {
     {"serve", run_serve,
      "a DEVICE and an IMAGE, and then --sicp EDITION, --baud N, --quiet MS and --log FILE where they are wanted"},
     {"play", run_play, "one IMAGE, and then --sicp EDITION and --log FILE where they are wanted"},
-    {"scene", run_scene, "an IMAGE and a FILE, and then --sicp EDITION and --log LOG where they are wanted"},
+    {"scene", run_scene, "an IMAGE and a SCENE, and then --sicp EDITION and --log FILE where they are wanted"},
     {"new", run_new, "an IMAGE and then panels"},
     {"show", run_show, "one IMAGE"},
     {"diff", run_diff, "two setups"},
