@@ -1,7 +1,6 @@
 # What `make install` puts in place, as a C user meets it. Sourced by test.sh.
 
 root=$(dirname "$parts")
-example=$root/examples/one_burst.c
 installed='bin/rig include/undivarro.h lib/libundivarro.a lib/pkgconfig/undivarro.pc share/man/man1/rig.1'
 # make_alone GOAL ARGUMENT...: a make of its own, which takes over nothing of the one that runs the tests
 make_alone() {
@@ -10,12 +9,18 @@ make_alone() {
 install_to() { make_alone install "$@"; }
 # files_in FOLDER: sorted, but for the program that the emulator runs
 files_in() { (cd "$1" && find . -type f ! -path '*/undivarro/*' | sort); }
-# links: the example with the copy that pkg-config finds, and its answer; under the emulator without other libraries
-links() {
+# prints EXAMPLE WORDS: the example with the copy that pkg-config finds; under the emulator without other libraries
+prints() {
     local flags
     flags=$(pkg-config --cflags --libs undivarro) || return
-    ${X86_CC:-gcc} -Wall -Wextra -Werror "$example" $flags ${RUN:+-static} -o example || return
-    same 'the example' "$(${RUN:-} ./example)" '06 01 00 19 02 1C refusal 0, setup of 47 bytes'
+    ${X86_CC:-gcc} -Wall -Wextra -Werror "$root/examples/$1.c" $flags ${RUN:+-static} -o example || return
+    same "the example $1" "$(${RUN:-} ./example)" "$2"
+}
+links() {
+    prints one_burst '06 01 00 19 02 1C refusal 0, setup of 47 bytes' && prints scene '6 bytes: 06 01 00 00 06 01
+0 bytes:
+6 bytes: 06 01 00 62 02 67
+refusal 0, setup of 47 bytes'
 }
 
 in_place() {
@@ -85,7 +90,7 @@ man_page() {
 }
 
 test_that 'make install puts everything in place' in_place
-test_that 'an example links by pkg-config against the installed copy' linked_by_pkg_config
+test_that 'the examples link by pkg-config against the installed copy' linked_by_pkg_config
 test_that 'make install with DESTDIR' staged
 test_that 'the man page' man_page
 test_that 'make install in other folders, and make uninstall' in_other_folders
