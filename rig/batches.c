@@ -84,15 +84,12 @@ static void play_alone(const struct test_case *c, struct step *step)
                                     sizeof step->alone, out, sizeof out);
 }
 
-static bool is_answer(const struct edition *line, const uint8_t *answer, size_t len, uint8_t control)
-{
-    struct packet p = len > 0 ? read_packet(line, answer, len) : (struct packet){0};
-    return len > 0 && p.data[0] == 0 && p.data[1] == control;
-}
-
 static bool is_control(const struct test_case *c, const struct step *step, uint8_t control)
 {
-    return is_answer(c->line, step->answer, step->answer_len, control);
+    if (step->answer_len == 0)
+        return false;
+    const uint8_t *data = read_packet(c->line, step->answer, step->answer_len).data;
+    return data[0] == 0 && data[1] == control;
 }
 
 /* What an earlier burst of the list has brought about. */
