@@ -10,6 +10,7 @@ use Rattle.settings.specs.declared.Profile.{Profile}
 use Rattle.settings.specs.Settings.{inRanges, rowCount}
 use Rattle.packet.specs.declared.Addressee.{Addressee}
 use Rattle.packet.specs.declared.Control.{Control}
+use Rattle.packet.specs.declared.Edition.{Edition}
 use Rattle.packet.specs.declared.GroupId.{GroupId}
 use Rattle.packet.specs.declared.MonitorId.{MonitorId}
 use Rattle.packet.specs.declared.Verdict.{Verdict}
@@ -20,11 +21,12 @@ use Rattle.panels.specs.Wall.{Wall, blank, mostPanels}
 use Rattle.panels.specs.Addressed.{reaches}
 use Rattle.answers.specs.declared.Change.{Change}
 use Rattle.answers.specs.declared.Entry.{Entry}
+use Rattle.answers.specs.declared.Heard.{Heard}
 use Rattle.answers.specs.declared.Names.{Names}
 use Rattle.answers.specs.declared.Reply.{Reply}
 use Rattle.answers.specs.declared.Span.{Span}
 use Rattle.answers.specs.declared.Turn.{Turn}
-use Rattle.answers.specs.Reply.{silence, wordFrom}
+use Rattle.answers.specs.Reply.{silence, wordFrom, sentBytes}
 use Rattle.answers.specs.Judged.{Command, getOf, setOf, unavailable, command, takes, judge, replyBy}
 use Rattle.answers.specs.Played.{turned}
 
@@ -74,6 +76,10 @@ unfoldable pub turnBy : Entry → Verdict → List ℕ → Addressee → Turn
 turnBy e Verdict.Empty d seems = record { reply = silence; change = noChange }
 turnBy e (Verdict.Damaged damage) d seems = record { reply = nackTo e seems; change = noChange }
 turnBy e (Verdict.Intact i g n) d seems = record { reply = replyTo e i g (command d); change = changeOf e i g (command d) }
+
+-- with the answer sent out on a line of an edition
+abbrev pub heardAs : Edition → Turn → Heard
+heardAs edition turn = record { sent = length (sentBytes edition (turn .reply)); change = turn .change }
 
 -- whether a set is stored in a panel
 unfoldable pub isStored : MonitorId → GroupId → ℕ → List ℕ → Panel → Bool

@@ -4,7 +4,7 @@ ghost use Prim.Native.Nat.{_+_, _≤_};
 ghost use lib.ListN.{length};
 ghost use Rattle.packet.specs.Packet.{groupId, packetOf, shortest, longest, mostData};
 ghost use Rattle.lists.specs.Lists.{laidOver};
-ghost use Rattle.answers.specs.Reply.{silence, wordFrom, sentOf, outputOf};
+ghost use Rattle.answers.specs.Reply.{silence, wordFrom, sentBytes, sentOf, outputOf};
 use crate::Answer;
 use crate::MOST_REPORTED;
 use crate::Reply;
@@ -75,5 +75,18 @@ pub fn write_answer(edition: Edition, reply: Reply, out: &mut [u8]) -> Sent
             }
             send(edition, out, id, &bytes[..n])
         }
+    }
+}
+
+// The same into an output that has the room, and its length.
+pub(crate) fn put_answer(edition: Edition, reply: Reply, out: &mut [u8]) -> usize
+    requires { ⌜ longest ≤ length (now out) ⌝ }
+    ensures { λ r. ⌜ (r ≡ length (sentBytes edition reply)) × (r ≤ longest) ⌝ }
+    ensures { λ _. ⌜ now (out .exit) ≡ laidOver (sentBytes edition reply) (now (out .entry)) ⌝ }
+{
+    let sent = write_answer(edition, reply, out);
+    match sent {
+        Sent::Bytes(n) => n,
+        Sent::NoRoom => 0,
     }
 }

@@ -14,11 +14,11 @@ use packet::MonitorId;
 use panels::Panel;
 use panels::Table;
 pub use playing::answered_on;
+pub use playing::hear;
 pub use playing::play;
 pub use playing::stored;
 use settings::MOST_VALUES;
 pub use turning::names_in;
-pub use turning::turn_of;
 
 // A report's data at its longest: the get code, and the values of the largest row.
 pub const MOST_REPORTED: usize = MOST_VALUES + 1;
@@ -86,6 +86,12 @@ pub struct Change {
 // What a burst comes to.
 pub struct Turn {
     pub reply: Reply,
+    pub change: Change,
+}
+
+// How many bytes were sent in answer to a burst, and what it changes.
+pub struct Heard {
+    pub sent: usize,
     pub change: Change,
 }
 

@@ -4,11 +4,18 @@ ghost use mathlib.Core.List.{map};
 ghost use Rattle.packet.specs.Reading.{readingOf};
 ghost use Rattle.panels.specs.Wall.{tableOf, panelsOf};
 ghost use Rattle.panels.specs.WellFormed.{WellFormed};
-ghost use Rattle.answers.specs.Turn.{turnedBy, Fits};
+ghost use Prim.Native.Nat.{_≤_};
+ghost use lib.ListN.{length};
+ghost use Rattle.lists.specs.Lists.{laidOver};
+ghost use Rattle.packet.specs.Packet.{longest};
+ghost use Rattle.answers.specs.Reply.{sentBytes};
+ghost use Rattle.answers.specs.Turn.{turnBy, heardAs, turnedBy, Fits};
 ghost use Rattle.answers.specs.Played.{answeredOn};
 use crate::Change;
 use crate::Entry;
+use crate::Heard;
 use crate::Played;
+use crate::answering;
 use crate::judging;
 use crate::turning;
 use packet::Addressee;
@@ -37,6 +44,25 @@ pub fn stored(mut t: Table, change: Change, d: &[u8]) -> Table
         k += 1;
     }
     t
+}
+
+// What a burst comes to, by what the table has of its names, with its answer written out on a line of an edition.
+pub fn hear(
+    edition: Edition,
+    entry: Entry,
+    verdict: Verdict,
+    d: &[u8],
+    seems: Addressee,
+    out: &mut [u8],
+) -> Heard
+    requires { ⌜ longest ≤ length (now out) ⌝ }
+    ensures { λ r. ⌜ (r ≡ heardAs edition (turnBy entry verdict (now (d .entry)) seems)) × (r .sent ≤ longest) ⌝ }
+    ensures { λ _. ⌜ now (out .exit) ≡ laidOver (sentBytes edition (turnBy entry verdict (now (d .entry)) seems .reply)) (now (out .entry)) ⌝ }
+{
+    let turn = turning::turn_of(entry, verdict, d, seems);
+    let sent = answering::put_answer(edition, turn.reply, out);
+    let change = turn.change;
+    Heard { sent, change }
 }
 
 // The answer to what was read of a burst: its verdict, its data, and whom it seems to be for if it is damaged.

@@ -1,6 +1,6 @@
--- `Walks` has a list from a place on, `Scenes` a list that is taken or refused, and one that is played up to a burst, `Kept` what
--- bursts keep of a table, `Lengths` how long an answer is at most.
+-- `Walks` has a list from a place on, `Counted` an answer behind its count, `Scenes` a list that is taken or refused, and one that is
+-- played up to a burst, `Kept` what bursts keep of a table.
 pub mod Walks
+pub mod Counted
 pub mod Scenes
 pub mod Kept
-pub mod Lengths

@@ -1,38 +1,20 @@
 // The bursts of a list played one by one.
 ghost use mathlib.Core.Bool.{false};
 ghost use mathlib.Core.Path.{_≡_};
-ghost use Prim.Native.Nat.{_+_, _*_, _≤_};
+ghost use Prim.Native.Nat.{_*_, _≤_};
 ghost use lib.ListN.{length};
-ghost use Rattle.lists.specs.Lists.{laidAt, laidOver};
+ghost use Rattle.lists.specs.Lists.{laidOver};
 ghost use Rattle.bursts.specs.Bursts.{burstsIn};
 ghost use Rattle.panels.specs.Wall.{panelsOf};
 ghost use Rattle.panels.specs.WellFormed.{WellFormed};
-ghost use Rattle.batch.specs.Scene.{roomForOne, withCount, playedOut, batchOf};
+ghost use Rattle.batch.specs.Scene.{roomForOne, playedOut, batchOf};
 use crate::Batch;
 use crate::Refusal;
 use crate::listing;
 use answers::Entry;
-use answers::Reply;
-use answers::Sent;
 use packet::Edition;
 use panels::MOST_PANELS;
 use panels::Table;
-
-// The count byte of an answer and the answer, at a place of an output with room for any; the place behind them.
-fn put_answer(edition: Edition, reply: Reply, out: &mut [u8], at: usize) -> usize
-    requires { ⌜ at + roomForOne ≤ length (now out) ⌝ }
-    ensures { λ r. ⌜ (r ≡ at + length (withCount edition reply)) × (r ≤ at + roomForOne) ⌝ }
-    ensures { λ _. ⌜ now (out .exit) ≡ laidAt at (withCount edition reply) (now (out .entry)) ⌝ }
-{
-    let sent = answers::write_answer(edition, reply, &mut out[at + 1..]);
-    match sent {
-        Sent::Bytes(n) => {
-            out[at] = n as u8;
-            at + 1 + n
-        }
-        Sent::NoRoom => at,
-    }
-}
 
 // All bursts of a list that is not cut, with an output that has room for each. A burst does what answers::play does, but a table
 // that nothing changes stays where it lies.
@@ -57,17 +39,16 @@ pub(crate) fn play_all(edition: Edition, mut t: Table, list: &[u8], out: &mut [u
             at: place,
             panel: t.panels[place % MOST_PANELS],
         };
-        let turn = answers::turn_of(entry, verdict, d, seems);
-        written = put_answer(edition, turn.reply, out, written);
-        let change = turn.change;
-        let id = change.id;
-        let group = change.group;
+        let heard = answers::hear(edition, entry, verdict, d, seems, &mut out[written + 1..]);
+        out[written] = heard.sent as u8;
+        written = written + 1 + heard.sent;
+        let change = heard.change;
         let row = change.row;
         let allowed = change.allowed;
         let last = change.end;
         let mut k = change.first;
         while k < last {
-            if answers::is_stored(t.panels[k], id, group, row, allowed, d) {
+            if answers::is_stored(t.panels[k], change.id, change.group, row, allowed, d) {
                 let p = answers::with_values(t.panels[k], row, d);
                 t.panels[k] = p;
             }

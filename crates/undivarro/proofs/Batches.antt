@@ -1,7 +1,7 @@
 -- What the parts of a batch leave together. Assumes nothing.
 use Prim.Native.Nat.{ℕ}
 use mathlib.Core.List.{List}
-use mathlib.Core.Path.{_≡_, sym, ap, _∙_}
+use mathlib.Core.Path.{_≡_}
 use borrow.Author.Tests.{eq-eqb, ne-eqb}
 use lib.ListN.{length}
 use Rattle.lists.specs.Lists.{laidOver}
@@ -12,7 +12,7 @@ use Rattle.image_forms.specs.declared.Form.{Form}
 use Rattle.image_write.specs.Written.{setupOf}
 use Rattle.batch.specs.Scene.{Scene, sceneOf, refusalNumber}
 use Rattle.batch.proofs.Scenes.{refused-silent}
-use Rattle.undivarro.specs.Calls.{After, refused, given, afterList}
+use Rattle.undivarro.specs.Calls.{refused, given, afterList}
 
 module _ (edition : Edition) (w : Wall) (list answers out : List ℕ) where
   abbrev scene : Scene

@@ -5,18 +5,14 @@ ghost use Prim.Native.Nat.{_≤_};
 ghost use mathlib.Core.Bool.{true, _&&_};
 ghost use lib.Dec.{leb};
 ghost use lib.ListN.{length, take};
-ghost use Rattle.packet.specs.Packet.{longest};
 ghost use Rattle.lists.specs.Lists.{laidOver};
 ghost use Rattle.panels.specs.Wall.{panelsOf};
 ghost use Rattle.panels.specs.WellFormed.{WellFormed};
-ghost use Rattle.answers.specs.Reply.{sentBytes};
 ghost use Rattle.image_write.specs.Written.{sizeOf, setupOf, losesNothing};
 ghost use Rattle.undivarro.specs.Calls.{refused, refusalFor};
 ghost use Rattle.undivarro.specs.Private.{openedAs};
 use crate::Opened;
 use crate::Outcome;
-use answers::Reply;
-use answers::Sent;
 use image_forms::Form;
 use image_write::Written;
 use packet::Edition;
@@ -80,19 +76,6 @@ pub(crate) fn refused(refusal: u32) -> Outcome
         damage: 0,
         answered: 0,
         written: 0,
-    }
-}
-
-// The answer, on a line of an edition, at the front of an output with room for it, and its length.
-pub(crate) fn put_answer(edition: Edition, reply: Reply, out: &mut [u8]) -> usize
-    requires { ⌜ longest ≤ length (now out) ⌝ }
-    ensures { λ r. ⌜ r ≡ length (sentBytes edition reply) ⌝ }
-    ensures { λ _. ⌜ now (out .exit) ≡ laidOver (sentBytes edition reply) (now (out .entry)) ⌝ }
-{
-    let sent = answers::write_answer(edition, reply, out);
-    match sent {
-        Sent::Bytes(n) => n,
-        Sent::NoRoom => 0,
     }
 }
 

@@ -55,10 +55,9 @@ pub(crate) fn played(
         at,
         panel: t.panels[at % MOST_PANELS],
     };
-    let turn = answers::turn_of(entry, verdict, d, seems);
-    let reply = turn.reply;
-    let change = turn.change;
-    let answered = parts::put_answer(edition, reply, answer);
+    let heard = answers::hear(edition, entry, verdict, d, seems, answer);
+    let answered = heard.sent;
+    let change = heard.change;
     if change.first == change.end {
         let written = parts::put_setup(Form::Two, t, out);
         return given(answered, written, verdict);

@@ -1,5 +1,5 @@
 -- What was opened decides, on a refusal and otherwise. Assumes nothing.
-use mathlib.Core.Path.{_≡_, ap, _∙_}
+use mathlib.Core.Path.{ap, _∙_}
 use borrow.Author.Needs.{needs}
 use Rattle.packet.specs.declared.Edition.{Edition}
 use Rattle.panels.specs.Wall.{Wall}

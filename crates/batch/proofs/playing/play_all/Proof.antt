@@ -6,9 +6,11 @@ use mathlib.Core.List.{List, map}
 use Prim.Native.Nat.{ℕ, _+_, _-_, _*_, _≤_, _<_}
 use native.Mathlib.Omega.{arith}
 use borrow.Author.Needs.{needs}
+use borrow.Rule.Slice.PartMut.{putMid}
 use borrow.Author.Tests.{eqb-true, eqb-false}
 use lib.Dec.{eqb}
-use lib.ListN.{length, take, drop}
+use lib.ListN.{length, take, drop, set}
+use Rattle.lists.specs.Lists.{laidOver}
 use Rattle.lists.proofs.Laid.{length-laid}
 use Rattle.bursts.specs.Bursts.{Bursts, burstsIn}
 use Rattle.bursts.proofs.Bursts.{first-of}
@@ -26,10 +28,13 @@ use Rattle.panels.proofs.Laws.{place-there}
 use Rattle.panels.proofs.Index.{place-found, members-few, members-found}
 use Rattle.answers.specs.declared.Change.{Change}
 use Rattle.answers.specs.declared.Entry.{Entry}
+use Rattle.answers.specs.declared.Heard.{Heard}
 use Rattle.answers.specs.declared.Played.{Played}
+use Rattle.answers.specs.declared.Turn.{Turn}
+use Rattle.answers.specs.Reply.{sentBytes}
 use Rattle.answers.specs.Judged.{setOf}
 use Rattle.answers.specs.Played.{turned, answeredOn}
-use Rattle.answers.specs.Turn.{namesIn, turnBy, turnedBy, Fits}
+use Rattle.answers.specs.Turn.{namesIn, turnBy, heardAs, turnedBy, Fits}
 use Rattle.answers.proofs.Formed.{formed-played, wall-played}
 use Rattle.answers.proofs.Passes.{turned-to, few, pass-first, pass-last, pass-stored, pass-stays}
 use Rattle.answers.proofs.Turned.{stored-many}
@@ -38,6 +43,7 @@ use Rattle.answers.proofs.Entries.{entry-is, reading, nothing-left, fits, somet
 use Rattle.batch.specs.declared.Batch.{Batch}
 use Rattle.batch.specs.declared.Refusal.{Refusal}
 use Rattle.batch.specs.Scene.{roomForOne}
+use Rattle.batch.proofs.Counted.{behind, wide, put-there}
 use Rattle.batch.proofs.Walks.{bursts-end, burst-at, whole-there}
 use Rattle.batch.proofs.Scenes.{Playing, playing-first, playing-next, playing-last}
 use Rattle.batch.proofs.playing.play_all.Statement.{statement}
@@ -53,11 +59,11 @@ place-few i w few = go (placeOf i w) refl
 
 -- a change goes over the places, if it goes anywhere
 abbrev Inv-loop2 : tie.InvT-loop2
-Inv-loop2 edition list out t₀ written at end d place id group row allowed last k₀ t k =
-    (k₀ ≤ k) × ((k₀ ≡ last → ⊥) → (k ≤ last) × (t ≡ turned-to (turned id group (setOf row (drop 1 d))) k t₀)) × (k₀ ≡ last → t ≡ t₀)
+Inv-loop2 edition list out t₀ written at end d place change row allowed last k₀ t k =
+    (k₀ ≤ k) × ((k₀ ≡ last → ⊥) → (k ≤ last) × (t ≡ turned-to (turned (change .id) (change .group) (setOf row (drop 1 d))) k t₀)) × (k₀ ≡ last → t ≡ t₀)
 
 abbrev μ-loop2 : tie.MeasureT-loop2
-μ-loop2 edition list out t₀ written at end d place id group row allowed last k₀ t k = last - k
+μ-loop2 edition list out t₀ written at end d place change row allowed last k₀ t k = last - k
 
 abbrev Inv-loop : tie.InvT-loop
 Inv-loop edition list out₀ t₀ written₀ at₀ out t written at =
@@ -105,6 +111,11 @@ here c =
     let loop = c .before .before .before in
     burst-at (args-of c .args .list .now) (loop .loop .at) _ _ (c .count-of .ensures) (inside c) (there c)
 
+room-at : (c : tie.After-count-of Inv-loop2 μ-loop2 Inv-loop μ-loop) → let loop = c .before .before .before in loop .loop .written + roomForOne ≤ length (loop .loop .out)
+room-at c =
+    let loop = c .before .before .before in
+    omega (arith, loop .loop .inv .3, loop .loop .inv .4, ap (λ (b : Bursts). length (b .whole)) (here c))
+
 add-end-2 : tie.Need-add-end-2 Inv-loop2 μ-loop2 Inv-loop μ-loop
 add-end-2 c = record { fits = omega (arith, there c) }
 
@@ -148,126 +159,165 @@ cast-place-2 c =
 count-of-requires-2 : tie.Need-count-of-requires-2 Inv-loop2 μ-loop2 Inv-loop μ-loop
 count-of-requires-2 c κs = search needs
 
-cast-t25 : tie.Need-cast-t25 Inv-loop2 μ-loop2 Inv-loop μ-loop
-cast-t25 c = search needs
+cast-t23 : tie.Need-cast-t23 Inv-loop2 μ-loop2 Inv-loop μ-loop
+cast-t23 c = search needs
 
-element-copy-out-t29 : tie.Need-element-copy-out-t29 Inv-loop2 μ-loop2 Inv-loop μ-loop
-element-copy-out-t29 c = search needs
+element-copy-out-t27 : tie.Need-element-copy-out-t27 Inv-loop2 μ-loop2 Inv-loop μ-loop
+element-copy-out-t27 c = search needs
 
-cast-t37 : tie.Need-cast-t37 Inv-loop2 μ-loop2 Inv-loop μ-loop
-cast-t37 c =
+cast-t35 : tie.Need-cast-t35 Inv-loop2 μ-loop2 Inv-loop μ-loop
+cast-t35 c =
     let loop = c .before .before .before .before .before .before .before .before .before .before .before .before .before in
     let g = c .before .before .before .before .before .names-in .result .group in
     let f = loop .loop .inv .0 in
-    record { fits = omega (arith, members-found f g (element-copy-out-t29 (c .before)) 0, members-few g (panelsOf (loop .loop .t)), f .few) }
+    record { fits = omega (arith, members-found f g (element-copy-out-t27 (c .before)) 0, members-few g (panelsOf (loop .loop .t)), f .few) }
 
-mul-t39 : tie.Need-mul-t39 Inv-loop2 μ-loop2 Inv-loop μ-loop
-mul-t39 c = search needs
+mul-t37 : tie.Need-mul-t37 Inv-loop2 μ-loop2 Inv-loop μ-loop
+mul-t37 c = search needs
 
-element-copy-out-t42 : tie.Need-element-copy-out-t42 Inv-loop2 μ-loop2 Inv-loop μ-loop
-element-copy-out-t42 c = search needs
+element-copy-out-t40 : tie.Need-element-copy-out-t40 Inv-loop2 μ-loop2 Inv-loop μ-loop
+element-copy-out-t40 c = search needs
 
-abbrev count-at : tie.After-turn-of Inv-loop2 μ-loop2 Inv-loop μ-loop → tie.After-count-of Inv-loop2 μ-loop2 Inv-loop μ-loop
-count-at c = c .before .before .before .before .before .before .before .before .before .before .before .before
+abbrev count-at : tie.After-hear Inv-loop2 μ-loop2 Inv-loop μ-loop → tie.After-count-of Inv-loop2 μ-loop2 Inv-loop μ-loop
+count-at c = c .before .before .before .before .before .before .before .before .before .before .before .before .before
 
-abbrev loop-at : tie.After-turn-of Inv-loop2 μ-loop2 Inv-loop μ-loop → tie.At-loop Inv-loop2 μ-loop2 Inv-loop μ-loop
-loop-at c = c .before .before .before .before .before .before .before .before .before .before .before .before .before .before .before
+abbrev loop-at : tie.After-hear Inv-loop2 μ-loop2 Inv-loop μ-loop → tie.At-loop Inv-loop2 μ-loop2 Inv-loop μ-loop
+loop-at c = c .before .before .before .before .before .before .before .before .before .before .before .before .before .before .before .before
 
-abbrev verdict : tie.After-turn-of Inv-loop2 μ-loop2 Inv-loop μ-loop → Verdict
-verdict c = c .before .before .before .before .before .before .before .before .before .before .verdict-of .result
+abbrev verdict : tie.After-hear Inv-loop2 μ-loop2 Inv-loop μ-loop → Verdict
+verdict c = c .before .before .before .before .before .before .before .before .before .before .before .verdict-of .result
 
-abbrev part : tie.After-turn-of Inv-loop2 μ-loop2 Inv-loop μ-loop → List ℕ
-part c = c .before .before .before .before .before .before .before .before .before .data-of .result .now
+abbrev part : tie.After-hear Inv-loop2 μ-loop2 Inv-loop μ-loop → List ℕ
+part c = c .before .before .before .before .before .before .before .before .before .before .data-of .result .now
 
-abbrev seems : tie.After-turn-of Inv-loop2 μ-loop2 Inv-loop μ-loop → Addressee
-seems c = c .before .before .before .before .before .before .before .before .seems-for .result
+abbrev seems : tie.After-hear Inv-loop2 μ-loop2 Inv-loop μ-loop → Addressee
+seems c = c .before .before .before .before .before .before .before .before .before .seems-for .result
 
-turn-is : (c : tie.After-turn-of Inv-loop2 μ-loop2 Inv-loop μ-loop)
-    → c .turn-of .result ≡ turnBy (entryOf (panelsOf (loop-at c .loop .t)) (namesIn (verdict c) (seems c))) (verdict c) (part c) (seems c)
-turn-is c =
-    let known = c .before .before .before in
+-- the turn that the definition has, and what was heard of it
+abbrev found : tie.After-hear Inv-loop2 μ-loop2 Inv-loop μ-loop → Turn
+found c = turnBy (entryOf (panelsOf (loop-at c .loop .t)) (namesIn (verdict c) (seems c))) (verdict c) (part c) (seems c)
+
+heard : (c : tie.After-hear Inv-loop2 μ-loop2 Inv-loop μ-loop) → let edition = args-of (count-at c) .args .edition in
+    (c .hear .result ≡ heardAs edition (found c))
+    × (c .hear .last .1 .1 .1 .1 .1 .0 ≡ laidOver (sentBytes edition (found c .reply)) (behind (loop-at c .loop .written) (loop-at c .loop .out)))
+heard c =
+    let known = c .before .before .before .before in
     let count = known .before in
     let names = count .before .before .before in
     let t = loop-at c .loop .t in
-    let there = entry-is (loop-at c .loop .inv .0) (names .names-in .result) (element-copy-out-place (count .before .before)) (element-copy-out-t29 known) _ (count .count-of2 .ensures) _ in
-    c .turn-of .ensures ∙ ap (λ (e : Entry). turnBy e (verdict c) (part c) (seems c)) (there ∙ ap (entryOf (panelsOf t)) (names .names-in .ensures))
+    let edition = args-of (count-at c) .args .edition in
+    let there = entry-is (loop-at c .loop .inv .0) (names .names-in .result) (element-copy-out-place (count .before .before)) (element-copy-out-t27 known) _ (count .count-of2 .ensures) _ ∙ ap (entryOf (panelsOf t)) (names .names-in .ensures) in (
+      c .hear .ensures .0 .0 ∙ ap (λ (e : Entry). heardAs edition (turnBy e (verdict c) (part c) (seems c))) there,
+      c .hear .ensures .1 ∙ ap (λ (e : Entry). laidOver (sentBytes edition (turnBy e (verdict c) (part c) (seems c) .reply)) (behind (loop-at c .loop .written) (loop-at c .loop .out))) there,
+    )
+
+-- with the change that was given back
+abbrev turn-of : tie.After-hear Inv-loop2 μ-loop2 Inv-loop μ-loop → Turn
+turn-of c = record { reply = found c .reply; change = c .hear .result .change }
+
+turn-is : (c : tie.After-hear Inv-loop2 μ-loop2 Inv-loop μ-loop) → turn-of c ≡ found c
+turn-is c = ap (λ (h : Heard). record { reply = found c .reply; change = h .change }) (heard c .0)
 
 -- what was read is the burst's reading
-is-read : (c : tie.After-turn-of Inv-loop2 μ-loop2 Inv-loop μ-loop) → reading (verdict c) (part c) (seems c) ≡ readingOf (args-of (count-at c) .args .edition) (burst (count-at c))
+is-read : (c : tie.After-hear Inv-loop2 μ-loop2 Inv-loop μ-loop) → reading (verdict c) (part c) (seems c) ≡ readingOf (args-of (count-at c) .args .edition) (burst (count-at c))
 is-read c =
-    let read = c .before .before .before .before .before .before .before .before .before in
+    let read = c .before .before .before .before .before .before .before .before .before .before in
     let count = count-at c in
     let n = count .count-of .result in
     let loop = loop-at c in
     let size : loop .loop .at + 1 + n - (loop .loop .at + 1) ≡ n = omega arith in
-    same-reading (read .before .verdict-of .ensures) (read .data-of .ensures) (c .before .before .before .before .before .before .before .before .seems-for .ensures)
+    same-reading (read .before .verdict-of .ensures) (read .data-of .ensures) (c .before .before .before .before .before .before .before .before .before .seems-for .ensures)
     ∙ ap (λ (k : ℕ). readingOf (args-of count .args .edition) (take k (drop (loop .loop .at + 1) (args-of count .args .list .now)))) size
 
 -- with the table that a turn leaves
-abbrev leaving : tie.After-turn-of Inv-loop2 μ-loop2 Inv-loop μ-loop → Table → Played
-leaving c u = record { table = u; reply = c .turn-of .result .reply; damage = damageIn (verdict c) }
+abbrev leaving : tie.After-hear Inv-loop2 μ-loop2 Inv-loop μ-loop → Table → Played
+leaving c u = record { table = u; reply = found c .reply; damage = damageIn (verdict c) }
 
-abbrev Left : tie.After-turn-of Inv-loop2 μ-loop2 Inv-loop μ-loop → Table → Type 0
+abbrev Left : tie.After-hear Inv-loop2 μ-loop2 Inv-loop μ-loop → Table → Type 0
 Left c u = leaving c u ≡ answeredOn (loop-at c .loop .t) (readingOf (args-of (count-at c) .args .edition) (burst (count-at c)))
 
-kept : (c : tie.After-turn-of Inv-loop2 μ-loop2 Inv-loop μ-loop) → c .turn-of .result .change .first ≡ c .turn-of .result .change .end → Left c (loop-at c .loop .t)
+kept : (c : tie.After-hear Inv-loop2 μ-loop2 Inv-loop μ-loop) → c .hear .result .change .first ≡ c .hear .result .change .end → Left c (loop-at c .loop .t)
 kept c e = nothing-left (loop-at c .loop .inv .0) (verdict c) (part c) (seems c) (turn-is c) e ∙ ap (answeredOn (loop-at c .loop .t)) (is-read c)
 
-changed : (c : tie.After-turn-of Inv-loop2 μ-loop2 Inv-loop μ-loop) {u : Table} → (c .turn-of .result .change .first ≡ c .turn-of .result .change .end → ⊥)
-    → u ≡ tableOf (map (turnedBy (c .turn-of .result .change) (part c)) (panelsOf (loop-at c .loop .t))) → Left c u
+changed : (c : tie.After-hear Inv-loop2 μ-loop2 Inv-loop μ-loop) {u : Table} → (c .hear .result .change .first ≡ c .hear .result .change .end → ⊥)
+    → u ≡ tableOf (map (turnedBy (c .hear .result .change) (part c)) (panelsOf (loop-at c .loop .t))) → Left c u
 changed c some e = something-left (loop-at c .loop .inv .0) (verdict c) (part c) (seems c) (turn-is c) some e ∙ ap (answeredOn (loop-at c .loop .t)) (is-read c)
 
-turn-of-requires : tie.Need-turn-of-requires Inv-loop2 μ-loop2 Inv-loop μ-loop
-turn-of-requires c κs = search needs
+add-hear : tie.Need-add-hear Inv-loop2 μ-loop2 Inv-loop μ-loop
+add-hear c = record { fits = omega (arith, room-at (c .before .before .before .before .before .before .before .before .before .before .before)) }
 
-put-answer-requires : tie.Need-put-answer-requires Inv-loop2 μ-loop2 Inv-loop μ-loop
-put-answer-requires c κs =
-    let read = c .before .before .before .before .before .before .before .before .before .before .before .before .before in
-    let loop = read .before .before .before in
-    omega (arith, loop .loop .inv .3, loop .loop .inv .4, ap (λ (b : Bursts). length (b .whole)) (here read))
+sub-hear : tie.Need-sub-hear Inv-loop2 μ-loop2 Inv-loop μ-loop
+sub-hear c = omega (arith, room-at (c .before .before .before .before .before .before .before .before .before .before .before))
+
+part-hear-start : tie.Need-part-hear-start Inv-loop2 μ-loop2 Inv-loop μ-loop
+part-hear-start c = omega (arith, room-at (c .before .before .before .before .before .before .before .before .before .before .before))
+
+part-hear-end : tie.Need-part-hear-end Inv-loop2 μ-loop2 Inv-loop μ-loop
+part-hear-end c = search needs
+
+hear-requires : tie.Need-hear-requires Inv-loop2 μ-loop2 Inv-loop μ-loop
+hear-requires c κs = let count = c .before .before .before .before .before .before .before .before .before .before .before .before in let loop = count .before .before .before in wide (loop .loop .written) (loop .loop .out) (room-at count)
+
+cast-out : tie.Need-cast-out Inv-loop2 μ-loop2 Inv-loop μ-loop
+cast-out c = record { fits = omega (arith, c .before .before .before .hear .ensures .0 .1) }
+
+slice-write-out : tie.Need-slice-write-out Inv-loop2 μ-loop2 Inv-loop μ-loop
+slice-write-out c = omega (arith, room-at (c .before .before .before .before .before .before .before .before .before .before .before .before .before .before .before .before))
+
+add-written : tie.Need-add-written Inv-loop2 μ-loop2 Inv-loop μ-loop
+add-written c = let count = c .before .before .before .before .before .before .before .before .before .before .before .before .before .before .before .before in record { fits = omega (arith, room-at count, count .before .before .before .loop .inv .3) }
+
+add-written-2 : tie.Need-add-written-2 Inv-loop2 μ-loop2 Inv-loop μ-loop
+add-written-2 c = let count = c .before .before .before .before .before .before .before .before .before .before .before .before .before .before .before .before .before in record { fits = omega (arith, room-at count, count .before .before .before .loop .inv .3, c .before .before .before .before .hear .ensures .0 .1) }
 
 -- the invariant behind the burst, with the table that it leaves
-next : (c : tie.After-put-answer Inv-loop2 μ-loop2 Inv-loop μ-loop) {u : Table} → Left (c .before .before) u → let turn = c .before .before in
-    let count = count-at turn in
+next : (c : tie.After-hear Inv-loop2 μ-loop2 Inv-loop μ-loop) {u : Table} → Left c u → let count = count-at c in
+    let loop = loop-at c in
     let a = args-of count .args in
-    Inv-loop (a .edition) (a .list .now) (a .out .now) (a .t2) 0 0 (c .put-answer .last .1 .1 .0) u (c .put-answer .result) (loop-at turn .loop .at + 1 + count .count-of .result)
+    let w = loop .loop .written in
+    Inv-loop (a .edition) (a .list .now) (a .out .now) (a .t2) 0 0 (set (putMid (w + 1) (length (loop .loop .out) - (w + 1)) (loop .loop .out) (c .hear .last .1 .1 .1 .1 .1 .0)) w (c .hear .result .sent)) u
+    (w + 1 + c .hear .result .sent) (loop .loop .at + 1 + count .count-of .result)
 next c is =
-    let turn = c .before .before in
-    let count = count-at turn in
-    let loop = loop-at turn in
+    let count = count-at c in
+    let loop = loop-at c in
     let a = args-of count .args in
     let r = readingOf (a .edition) (burst count) in
     let inv = loop .loop .inv in
-    let (end, small) = c .put-answer .ensures .0 in
+    let w = loop .loop .written in
+    let s = sentBytes (a .edition) (found c .reply) in
+    let n : c .hear .result .sent ≡ length s = ap (λ (h : Heard). h .sent) (heard c .0) in
+    let few = c .hear .ensures .0 .1 in
+    let put = ap₂ (λ (m : List ℕ) (k : ℕ). set (putMid (w + 1) (length (loop .loop .out) - (w + 1)) (loop .loop .out) m) w k) (heard c .1) n
+    ∙ put-there w (loop .loop .out) (room-at count) s (omega (arith, n, few)) in
     let fewer = ap (λ (b : Bursts). length (b .whole)) (here count) in (
       formed-played (inv .0) r is,
       there count,
       sym (ap (λ (b : Bursts). b .cut) (here count)) ∙ inv .2,
-      ap length (c .put-answer .ensures .1) ∙ length-laid (loop .loop .written) _ (loop .loop .out) (omega (arith, inv .3, inv .4)) ∙ inv .3,
-      omega (arith, inv .4),
-      playing-next (subst (λ (bs : List (List ℕ)). Playing (a .edition) (panelsOf (a .t2)) (burstsIn (a .list .now) .whole) (a .out .now) (panelsOf (loop .loop .t)) bs (loop .loop .written) (loop .loop .out))
+      ap length put ∙ length-laid w _ (loop .loop .out) (omega (arith, room-at count, n, few)) ∙ inv .3,
+      omega (arith, inv .4, few),
+      playing-next (subst (λ (bs : List (List ℕ)). Playing (a .edition) (panelsOf (a .t2)) (burstsIn (a .list .now) .whole) (a .out .now) (panelsOf (loop .loop .t)) bs w (loop .loop .out))
           (ap (λ (b : Bursts). b .whole) (here count)) (inv .5))
-          (wall-played (inv .0) r is) (ap (λ (p : Played). p .reply) is) end (c .put-answer .ensures .1) (omega (arith, inv .4)),
+          (wall-played (inv .0) r is) (ap (λ (p : Played). p .reply) is) (omega (arith, n)) put (omega (arith, inv .4, few)),
     )
 
 -- the turn whose change goes over the places, and what holds of it inside the loop
-abbrev turn-at : tie.At-loop2 Inv-loop2 μ-loop2 Inv-loop μ-loop → tie.After-turn-of Inv-loop2 μ-loop2 Inv-loop μ-loop
-turn-at c = c .before .before .before .before .before .before .before .before .before
+abbrev turn-at : tie.At-loop2 Inv-loop2 μ-loop2 Inv-loop μ-loop → tie.After-hear Inv-loop2 μ-loop2 Inv-loop μ-loop
+turn-at c = c .before .before .before .before .before .before .before
 
-goes : (c : tie.In-loop2 Inv-loop2 μ-loop2 Inv-loop μ-loop) → let change = turn-at (c .before) .turn-of .result .change in change .first ≡ change .end → ⊥
+goes : (c : tie.In-loop2 Inv-loop2 μ-loop2 Inv-loop μ-loop) → let change = turn-at (c .before) .hear .result .change in change .first ≡ change .end → ⊥
 goes c e = omega (arith, c .before .loop2 .inv .0, e)
 
-fits-at : (c : tie.In-loop2 Inv-loop2 μ-loop2 Inv-loop μ-loop) → let turn = turn-at (c .before) in Fits (turn .turn-of .result .change) (part turn) (panelsOf (loop-at turn .loop .t))
+fits-at : (c : tie.In-loop2 Inv-loop2 μ-loop2 Inv-loop μ-loop) → let turn = turn-at (c .before) in Fits (turn .hear .result .change) (part turn) (panelsOf (loop-at turn .loop .t))
 fits-at c = let turn = turn-at (c .before) in fits (loop-at turn .loop .inv .0) (verdict turn) (part turn) (seems turn) (turn-is turn) (goes c)
 
 small : (c : tie.In-loop2 Inv-loop2 μ-loop2 Inv-loop μ-loop) → c .before .loop2 .k < mostPanels
-small c = let turn = turn-at (c .before) in omega (arith, few (loop-at turn .loop .inv .0) (turn .turn-of .result .change) (part turn) (fits-at c))
+small c = let turn = turn-at (c .before) in omega (arith, few (loop-at turn .loop .inv .0) (turn .hear .result .change) (part turn) (fits-at c))
 
 loop2-holds : tie.Need-loop2-holds Inv-loop2 μ-loop2 Inv-loop μ-loop
 loop2-holds c =
-    let turn = c .before .before .before .before .before .before .before .before in
+    let turn = c .before .before .before .before .before .before in
     let f = loop-at turn .loop .inv .0 in
-    let change = turn .turn-of .result .change in
+    let change = turn .hear .result .change in
     let there : (change .first ≡ change .end → ⊥) → Fits change (part turn) (panelsOf (loop-at turn .loop .t)) = fits f (verdict turn) (part turn) (seems turn) (turn-is turn) in
     (omega arith, (λ ne. (there ne .ordered, pass-first f change (part turn) (there ne))), (λ e. refl))
 
@@ -311,7 +361,7 @@ loop2-again c =
     let loop = body .before in
     let turn = turn-at loop in
     let f = loop-at turn .loop .inv .0 in
-    let change = turn .turn-of .result .change in
+    let change = turn .hear .result .change in
     let d = part turn in
     let inside : loop .loop2 .k < change .end = omega arith in
     let is = loop .loop2 .inv .1 (goes body) .1 in (
@@ -328,7 +378,7 @@ loop2-again c =
 
 -- the loop leaves what the burst leaves
 abbrev change-of : tie.After-loop2 Inv-loop2 μ-loop2 Inv-loop μ-loop → Change
-change-of c = turn-at (c .before) .turn-of .result .change
+change-of c = turn-at (c .before) .hear .result .change
 
 left-by : (c : tie.After-loop2 Inv-loop2 μ-loop2 Inv-loop μ-loop) → Left (turn-at (c .before)) (c .before .loop2 .t)
 left-by c = go (eqb (change-of c .first) (change-of c .end)) refl
@@ -351,7 +401,7 @@ loop-less : tie.Need-loop-less Inv-loop2 μ-loop2 Inv-loop μ-loop
 loop-less c = let count = count-at (turn-at (c .before)) in omega (arith, inside count, there count)
 
 loop-again : tie.Need-loop-again Inv-loop2 μ-loop2 Inv-loop μ-loop
-loop-again c = next (c .before .before .before .before .before .before .before .before) (left-by c)
+loop-again c = next (turn-at (c .before)) (left-by c)
 
 same-length : tie.Need-same-length Inv-loop2 μ-loop2 Inv-loop μ-loop
 same-length c = search needs
@@ -392,13 +442,20 @@ play-all-spec =
     element-copy-out-place
     cast-place-2
     count-of-requires-2
-    cast-t25
-    element-copy-out-t29
-    cast-t37
-    mul-t39
-    element-copy-out-t42
-    turn-of-requires
-    put-answer-requires
+    cast-t23
+    element-copy-out-t27
+    cast-t35
+    mul-t37
+    element-copy-out-t40
+    add-hear
+    sub-hear
+    part-hear-start
+    part-hear-end
+    hear-requires
+    cast-out
+    slice-write-out
+    add-written
+    add-written-2
     loop2-holds
     mul-is-stored
     element-copy-out-is-stored

@@ -9,7 +9,7 @@ use Rattle.panels.specs.Wall.{Wall, panelsOf}
 use Rattle.panels.specs.WellFormed.{WellFormed}
 use Rattle.panels.proofs.Laws.{panels-of-table}
 use Rattle.image_forms.specs.declared.Form.{Form}
-use Rattle.image_write.specs.Written.{setupOf, sizeOf, panelSize}
+use Rattle.image_write.specs.Written.{setupOf, panelSize}
 use Rattle.image_write.proofs.Losing.{two-holds}
 use Rattle.batch.specs.declared.Batch.{Batch}
 use Rattle.batch.specs.Scene.{Scene, refusalNumber, sceneOf}

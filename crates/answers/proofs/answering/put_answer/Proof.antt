@@ -2,18 +2,19 @@
 use mathlib.Core.Path.{_≡_, sym, ap, _∙_}
 use mathlib.Core.List.{List}
 use Prim.Native.Nat.{ℕ, _≤_}
+use native.Mathlib.Omega.{arith}
 use borrow.Author.Tests.{le-leb}
 use lib.ListN.{length}
 use Rattle.packet.specs.declared.Edition.{Edition}
 use Rattle.packet.specs.Packet.{longest}
 use Rattle.lists.specs.Lists.{laidOver}
 use Rattle.answers.specs.declared.Reply.{Reply}
 use Rattle.answers.specs.declared.Sent.{Sent}
 use Rattle.answers.specs.Reply.{sentBytes, sentOf, outputOf}
-use Rattle.answers.proofs.Lengths.{bytesSent}
+use Rattle.answers.proofs.Lengths.{bytesSent, sent-few}
 use borrow.Author.Needs.{needs}
-use Rattle.undivarro.proofs.parts.put_answer.Statement.{statement}
-use Rattle.undivarro.proofs.parts.put_answer.Tie as tie
+use Rattle.answers.proofs.answering.put_answer.Statement.{statement}
+use Rattle.answers.proofs.answering.put_answer.Tie as tie
 
 fits : (edition : Edition) (out : List ℕ) (r : Reply) → longest ≤ length out
     → (sentOf edition out r ≡ Sent.Bytes (length (sentBytes edition r))) × (outputOf edition out r ≡ laidOver (sentBytes edition r) out)
@@ -23,11 +24,12 @@ fits edition out r h = (simp (le-leb _ _ h), simp (le-leb _ _ h))
 -- what was sent, whatever the match told
 sent : (c : tie.After-write-answer) (s : Sent) → c .write-answer .result ≡ s
     → let a = c .before .before .before .args in
-    (bytesSent s ≡ length (sentBytes (a .edition) (a .reply))) × (c .write-answer .last .1 .1 .0 ≡ laidOver (sentBytes (a .edition) (a .reply)) (a .out .now))
+    ((bytesSent s ≡ length (sentBytes (a .edition) (a .reply))) × (bytesSent s ≤ longest)) × (c .write-answer .last .1 .1 .0 ≡ laidOver (sentBytes (a .edition) (a .reply)) (a .out .now))
 sent c s e =
     let start = c .before .before .before in
     let f = fits _ _ (start .args .reply) (start .pre) in
-    (ap bytesSent (sym e ∙ c .write-answer .ensures .0 ∙ f .0), c .write-answer .ensures .1 ∙ f .1)
+    let n = ap bytesSent (sym e ∙ c .write-answer .ensures .0 ∙ f .0) in
+    ((n, omega (arith, n, sent-few (start .args .edition) (start .args .reply) (search needs))), c .write-answer .ensures .1 ∙ f .1)
 
 write-answer-requires : tie.Need-write-answer-requires
 write-answer-requires c κs = search needs
