@@ -30,7 +30,7 @@ use Rattle.image_read.specs.Read.{readOf, inTable}
 use Rattle.image_read.proofs.Sound.{read-formed}
 use Rattle.undivarro.specs.Calls.{After, refused, given, refusalFor, afterBurst, afterSetup, afterOn}
 use Rattle.undivarro.specs.declared.Opened.{Opened}
-use Rattle.undivarro.specs.Private.{openedAs}
+use Rattle.undivarro.specs.Private.Opened.{openedAs}
 
 -- where nothing is refused nothing would be lost, and there is room
 pub all-there : (read : Refusal) (held room : Bool) → refusalFor read held room ≡ 0 → (held ≡ true) × (room ≡ true)

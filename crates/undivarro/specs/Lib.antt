@@ -1,3 +1,3 @@
--- `Calls` is what the exported functions leave.
+-- `Calls` is what the exported functions leave. `Private` has words of its own parts.
 pub mod Calls
 pub mod Private

@@ -10,7 +10,7 @@ ghost use Rattle.panels.specs.Wall.{panelsOf};
 ghost use Rattle.panels.specs.WellFormed.{WellFormed};
 ghost use Rattle.image_write.specs.Written.{sizeOf, setupOf, losesNothing};
 ghost use Rattle.undivarro.specs.Calls.{refused, refusalFor};
-ghost use Rattle.undivarro.specs.Private.{openedAs};
+ghost use Rattle.undivarro.specs.Private.Opened.{openedAs};
 use crate::Opened;
 use crate::Outcome;
 use image_forms::Form;

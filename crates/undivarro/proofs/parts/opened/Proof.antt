@@ -10,7 +10,7 @@ use Rattle.packet.specs.declared.Numbered.{Numbered}
 use Rattle.packet.specs.Edition.{ifKnown}
 use Rattle.refusals.specs.Refusals.{unknownEdition}
 use Rattle.undivarro.specs.declared.Opened.{Opened}
-use Rattle.undivarro.specs.Private.{openedAs}
+use Rattle.undivarro.specs.Private.Opened.{openedAs}
 use Rattle.undivarro.proofs.parts.opened.Statement.{statement}
 use Rattle.undivarro.proofs.parts.opened.Tie as tie
 
