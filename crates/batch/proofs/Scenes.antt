@@ -36,20 +36,26 @@ module _ (edition : Edition) (w : Wall) (bursts : List (List ℕ)) where
   scene-played Refusal.Cut e = absurd (omega arith)
   scene-played Refusal.NoRoom e = absurd (omega arith)
 
+  pub scene-refusal : (r : Refusal) → sceneBy r edition w bursts .refusal ≡ r
+  scene-refusal Refusal.Nothing = refl
+  scene-refusal Refusal.Cut = refl
+  scene-refusal Refusal.NoRoom = refl
+
   pub scene-refused : (r : Refusal) → (refusalNumber r ≡ 0 → ⊥) → record { wall = w; answers = []; refusal = r } ≡ sceneBy r edition w bursts
   scene-refused Refusal.Nothing e = absurd (e refl)
   scene-refused Refusal.Cut e = refl
   scene-refused Refusal.NoRoom e = refl
 
--- nothing is written of a list that is refused
-pub refused-silent : (edition : Edition) (w : Wall) (list : List ℕ) (room : ℕ) → (refusalNumber (sceneOf edition w list room .refusal) ≡ 0 → ⊥) → sceneOf edition w list room .answers ≡ []
-unfolding sceneOf
-refused-silent edition w list room = go (refusalOf list room) _
-  where
-    go : (r : Refusal) (bursts : List (List ℕ)) → (refusalNumber (sceneBy r edition w bursts .refusal) ≡ 0 → ⊥) → sceneBy r edition w bursts .answers ≡ []
-    go Refusal.Nothing bursts e = absurd (e refl)
-    go Refusal.Cut bursts e = refl
-    go Refusal.NoRoom bursts e = refl
+-- a list that is refused leaves the wall as it was, and nothing is written of it
+module _ (edition : Edition) (w : Wall) (list : List ℕ) (room : ℕ) (refused : refusalNumber (sceneOf edition w list room .refusal) ≡ 0 → ⊥) where
+  pub refused-leaves : sceneOf edition w list room ≡ record { wall = w; answers = []; refusal = refusalOf list room }
+  unfolding sceneOf
+  refused-leaves =
+      let r = refusalOf list room in
+      sym (scene-refused edition w (burstsIn list .whole) r (λ e. refused (ap refusalNumber (scene-refusal edition w (burstsIn list .whole) r) ∙ e)))
+
+  pub refused-silent : sceneOf edition w list room .answers ≡ []
+  refused-silent = ap (λ (s : Scene). s .answers) refused-leaves
 
 -- behind what was written
 abbrev behind : List ℕ → Scene → Scene
