@@ -19,3 +19,4 @@ pub mod Again
 pub mod HostAndBox
 pub mod Editions
 pub mod WrongBoxes
+pub mod Scenes

@@ -59,8 +59,11 @@ Bad (Verdict.Damaged damage) d p = Unit {0}
 Bad (Verdict.Intact i g n) d p = (reaches i g p ≡ false) ⊎ (judge (command d) p ≡ notAvailable)
 
 -- whatever was read of it
+abbrev pub BadForEach : Wall → Reading → Type 0
+BadForEach w r = (k : ℕ) → k < length w → Bad (r .verdict) (r .part) (getD w k blank)
+
 abbrev pub BadBurst : Type 0
-BadBurst = (w : Wall) (r : Reading) → ((k : ℕ) → k < length w → Bad (r .verdict) (r .part) (getD w k blank)) → answered w r .wall ≡ w
+BadBurst = (w : Wall) (r : Reading) → BadForEach w r → answered w r .wall ≡ w
 
 -- behind the bytes that were written, none on a refusal, the output is as before
 abbrev pub AnswerAlone : Type 0

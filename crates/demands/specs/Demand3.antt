@@ -37,7 +37,7 @@ abbrev pub SilenceOrNack : Reply → Type 0
 SilenceOrNack r = (r ≡ silence) ⊎ ((i : MonitorId) × (r ≡ wordFrom i Control.Nack))
 
 -- the replies to what arrived, item by item, are the replies to what was kept; a spoiled packet gets what it may
-abbrev pub Answered : {edition : Edition} → (Reply → Type 0) → List (Item edition) → List Reply → List Reply → Type 0
+abbrev pub Answered : {edition : Edition} {R : Type 0} → (R → Type 0) → List (Item edition) → List R → List R → Type 0
 Answered May [] [] [] = Unit {0}
 Answered May [] [] (k ∷ ks) = ⊥
 Answered May [] (r ∷ rs) ks = ⊥

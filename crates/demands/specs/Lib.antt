@@ -16,3 +16,4 @@ pub mod Again
 pub mod WrongBoxes
 pub mod HostAndBox
 pub mod Editions
+pub mod Scenes
