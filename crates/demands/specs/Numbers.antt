@@ -1,5 +1,6 @@
 -- The numbers that calls refuse by, 0 where nothing is refused. 01, "Table calls and numbers": each is given exactly when its
--- row says, lower numbers first. 11 to 18 go with the order of reading, in `image_read`; 21 and 22 with the machine, in `host`.
+-- row says, lower numbers first. 11 to 18 go with the order of reading, in `image_read`; 21 and 22 with the machine, in `host`;
+-- 32 and 33 with lists of bursts, in `Scenes`.
 use Prim.Native.Nat.{ℕ, _+_, _*_}
 use mathlib.Core.Bool.{Bool, true, cond, _&&_, _||_}
 use mathlib.Core.Path.{_≡_}

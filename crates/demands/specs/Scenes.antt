@@ -1,4 +1,4 @@
--- A night's changes in one call. 02, A9. The list, and the answers too, are written here by a definition of their own.
+-- A night's changes in one call. 02, A9. List and answers are written here by a definition of this file's own.
 use Prim.Native.Nat.{ℕ, _*_, _≤_, _<_}
 use mathlib.Core.Bool.{false, cond}
 use mathlib.Core.Logic.{_⊎_}
@@ -66,8 +66,7 @@ ListRefused =
     → let s = sceneOf edition w list (length out) in
     (refusalNumber (s .refusal) ≡ 0 → ⊥) → (s .wall ≡ w) × (laidOver (s .answers) out ≡ out)
 
--- Demand 1. The answers have at most 41 bytes for each burst, a length byte among them; they fit the output, and past them it is
--- untouched.
+-- Demand 1. Answers have at most 41 bytes for each burst, its length byte among them; they fit the output, untouched past them.
 abbrev pub AnswersAlone : Type 0
 AnswersAlone =
     (edition : Edition) (w : Wall) (bursts : List (List ℕ)) (out : List ℕ)
@@ -80,8 +79,7 @@ BadBursts =
     (edition : Edition) (w : Wall) (bursts : List (List ℕ)) (room : ℕ)
     → ((b : List ℕ) → List·Memᴰ b bursts → BadForEach w (readingOf edition b)) → sceneOf edition w (listOf bursts) room .wall ≡ w
 
--- Demand 3. A list with spoiled packets ends as the list without them, and answers all else as that does; each of them gets a length
--- byte 0, or NACK.
+-- Demand 3. Spoiled packets in a list are as if never sent, for table and all other answers; each gets a length byte 0, or NACK.
 abbrev pub NoneOrNack : Edition → List ℕ → Type 0
 NoneOrNack edition bytes = (bytes ≡ []) ⊎ ((i : MonitorId) × (bytes ≡ sentBytes edition (wordFrom i Control.Nack)))
 
