@@ -26,7 +26,7 @@ use Rattle.answers.specs.Session.{Ended, byBurst, session}
 use Rattle.batch.specs.declared.Refusal.{Refusal}
 use Rattle.batch.specs.Scene.{Scene, refusalNumber, withCount, answersOf, roomForOne, refusalOf, playedOut, sceneBy, sceneOf}
 use Rattle.batch.proofs.Scenes.{scene-refusal, refused-leaves}
-use Rattle.batch.proofs.Lengths.{sent-few}
+use Rattle.answers.proofs.Lengths.{sent-few}
 use Rattle.demands.specs.Demand1.{BadForEach}
 use Rattle.demands.specs.Demand2.{Answer·Is}
 use Rattle.demands.specs.Demand3.{Item, whole, spoilt, sent, kept, SilenceOrNack, Answered}
