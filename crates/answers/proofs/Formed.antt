@@ -127,11 +127,13 @@ pub answered-count : (w : Wall) (r : Reading) → length (answered w r .wall) �
 unfolding answered
 answered-count w r = by-verdict (r .verdict) w (r .part) (r .seems) .1
 
-pub answered-formed : {t : Table} → WellFormed t → (r : Reading) → WellFormed (tableOf (answered (panelsOf t) r .wall))
+-- and a good wall stays one
+pub answered-good : (w : Wall) → GoodWall w → (r : Reading) → GoodWall (answered w r .wall)
 unfolding answered
-answered-formed {t} f r =
-    let (good, n) = by-verdict (r .verdict) (panelsOf t) (r .part) (r .seems) in
-    formed _ (omega (arith, f .few)) (good (f .good))
+answered-good w good r = by-verdict (r .verdict) w (r .part) (r .seems) .0 good
+
+pub answered-formed : {t : Table} → WellFormed t → (r : Reading) → WellFormed (tableOf (answered (panelsOf t) r .wall))
+answered-formed {t} f r = formed _ (omega (arith, f .few, answered-count (panelsOf t) r)) (answered-good (panelsOf t) (f .good) r)
 
 -- what was answered on a table: its own, and its wall
 module _ {t : Table} (f : WellFormed t) (r : Reading) {p : Played} (is : p ≡ answeredOn t r) where

@@ -4,7 +4,7 @@ use mathlib.Core.Bool.{Bool, true, false, cond, _&&_}
 use mathlib.Core.List.{List, _++_, map}
 use Prim.Native.Nat.{ℕ, suc, _+_, _<_}
 use native.Mathlib.Omega.{arith}
-use lib.ListN.{length, getD, take, drop, set, length-map, List·getD-map}
+use lib.ListN.{length, getD, take, drop, set, length-map}
 use Rattle.settings.specs.Settings.{byteCount}
 use Rattle.packet.specs.declared.GroupId.{GroupId}
 use Rattle.packet.specs.declared.MonitorId.{MonitorId}
@@ -12,7 +12,8 @@ use Rattle.panels.specs.declared.Panel.{Panel}
 use Rattle.panels.specs.Wall.{Wall, blank}
 use Rattle.panels.specs.Addressed.{reaches}
 use Rattle.lists.proofs.Both.{both}
-use Rattle.lists.proofs.Places.{getD-inside, store, from-seam}
+use Rattle.lists.proofs.Mapped.{at-map}
+use Rattle.lists.proofs.Places.{store, from-seam}
 use Rattle.answers.specs.Judged.{Command, setOf, judge, takes, stored, heldThen, panelAfter}
 use Rattle.answers.specs.Played.{turned}
 use Rattle.answers.specs.Turn.{isStored}
@@ -50,6 +51,5 @@ pub turn-next : (f : Panel → Panel) (w : Wall) (k : ℕ) → k < length w
     → let l = take k (map f w) ++ drop k w in set l k (f (getD l k blank)) ≡ take (suc k) (map f w) ++ drop (suc k) w
 turn-next f w k h =
     let n = length-map w f in
-    let here = ap f (from-seam (map f w) w k k blank (omega arith) (omega arith) (omega arith)) ∙ sym (List·getD-map f w k blank)
-    ∙ getD-inside (map f w) k (f blank) blank (omega arith) in
+    let here = ap f (from-seam (map f w) w k k blank (omega arith) (omega arith) (omega arith)) ∙ sym (at-map f w k blank blank h) in
     rw here (store (map f w) w k blank (omega arith) h)

@@ -2,7 +2,7 @@
 use Prim.Native.Nat.{ℕ, _<_}
 use mathlib.Core.Bool.{Bool, true, false, _&&_}
 use mathlib.Core.Path.{_≡_, refl, sym, ap, _∙_}
-use mathlib.Core.List.{List, [], _∷_, map, map-map, map-id}
+use mathlib.Core.List.{List, _∷_, map}
 use lib.ListN.{length, getD}
 use Rattle.lists.proofs.Mapped.{map-alike}
 use Rattle.settings.specs.Settings.{valuesOf}
@@ -18,61 +18,14 @@ use Rattle.panels.specs.Wall.{Wall, blank, panelsOf}
 use Rattle.panels.specs.Addressed.{reaches}
 use Rattle.panels.specs.WellFormed.{GoodPanel}
 use Rattle.panels.proofs.Formed.{good-at}
-use Rattle.answers.specs.Judged.{Command, getOf, setOf, unavailable, command, heldThen, takes, judge, stored}
-use Rattle.answers.specs.Played.{turned, answeredBy, answered}
+use Rattle.answers.specs.Judged.{Command, getOf, setOf, unavailable, heldThen, takes, judge, stored}
+use Rattle.answers.specs.Played.{turned}
 use Rattle.answers.proofs.Orders.{taken-allowed}
-use Rattle.answers.proofs.Formed.{stored-own, stored-twice, turned-keeps}
+use Rattle.answers.proofs.Formed.{stored-own, stored-twice}
 use Rattle.answers.proofs.Turned.{stays}
-use Rattle.answers.specs.Session.{Ended, byBurst, session}
-use Rattle.demands.proofs.Demand2.{by-readings}
-use Rattle.demands.specs.Again.{addressedBy, Again, done, again, other, SentAgain}
-
--- what a burst with this verdict and data makes of a panel, and bursts one after the other
-abbrev changedBy : Verdict → List ℕ → Panel → Panel
-changedBy Verdict.Empty d p = p
-changedBy (Verdict.Damaged damage) d p = p
-changedBy (Verdict.Intact i g n) d p = turned i g (command d) p
-
-abbrev changed : Reading → Panel → Panel
-changed r = changedBy (r .verdict) (r .part)
-
-abbrev changedByAll : List Reading → Panel → Panel
-changedByAll [] p = p
-changedByAll (r ∷ rs) p = changedByAll rs (changed r p)
-
-answered-each : (w : Wall) (r : Reading) → answered w r .wall ≡ map (changed r) w
-unfolding answered
-answered-each w r = go (r .verdict)
-  where
-    go : (v : Verdict) → answeredBy v w (r .part) (r .seems) .wall ≡ map (changedBy v (r .part)) w
-    go Verdict.Empty = sym (map-id w)
-    go (Verdict.Damaged d) = sym (map-id w)
-    go (Verdict.Intact i g n) = refl
-
-all-each : (w : Wall) (rs : List Reading) → byBurst answered w rs .wall ≡ map (changedByAll rs) w
-unfolding byBurst
-all-each w [] = sym (map-id w)
-all-each w (r ∷ rs) = all-each (answered w r .wall) rs ∙ ap (map (changedByAll rs)) (answered-each w r) ∙ map-map (changedByAll rs) (changed r) w
-
-session-each : (edition : Edition) (w : Wall) (bs : List (List ℕ)) → session edition w bs .wall ≡ map (changedByAll (map (readingOf edition) bs)) w
-session-each edition w bs = ap (λ (e : Ended). e .wall) (by-readings edition w bs) ∙ all-each w (map (readingOf edition) bs)
-
--- a panel that is not addressed stays, and whom another burst addresses stays so too
-not-addressed : (v : Verdict) (d : List ℕ) (p : Panel) → addressedBy v p ≡ false → changedBy v d p ≡ p
-not-addressed Verdict.Empty d p e = refl
-not-addressed (Verdict.Damaged damage) d p e = refl
-not-addressed (Verdict.Intact i g n) d p e = stays i g _ p e
-
-same-reached : (i : MonitorId) (g : GroupId) (v : Verdict) (d : List ℕ) (p : Panel) → reaches i g (changedBy v d p) ≡ reaches i g p
-unfolding stored reaches
-same-reached i g Verdict.Empty d p = refl
-same-reached i g (Verdict.Damaged damage) d p = refl
-same-reached i g (Verdict.Intact j h n) d p = turned-keeps (reaches i g) p (λ row vs. refl) j h _
-
-same-addressed : (v : Verdict) (c : Reading) (p : Panel) → addressedBy v (changed c p) ≡ addressedBy v p
-same-addressed Verdict.Empty c p = refl
-same-addressed (Verdict.Damaged d) c p = refl
-same-addressed (Verdict.Intact i g n) c p = same-reached i g (c .verdict) (c .part) p
+use Rattle.demands.proofs.Each.{changedBy, changed, changedByAll, session-each, not-addressed, same-addressed}
+use Rattle.demands.specs.Apart.{addressedBy}
+use Rattle.demands.specs.Again.{Again, done, again, other, SentAgain}
 
 -- A panel that a packet turned is not turned further by it.
 module _ (i : MonitorId) (g : GroupId) (p : Panel) (good : GoodPanel p) where

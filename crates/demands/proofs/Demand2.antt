@@ -3,8 +3,8 @@ use Prim.Native.Nat.{ℕ, _<_}
 use mathlib.Core.Bool.{Bool, true, false, cond}
 use mathlib.Core.Logic.{_⊎_, inl, inr}
 use mathlib.Core.Path.{_≡_, refl, sym, ap, _∙_}
-use mathlib.Core.List.{[], _∷_, map}
-use lib.ListN.{length, getD, length-map, List·getD-map}
+use mathlib.Core.List.{[], _∷_}
+use lib.ListN.{length, getD}
 use Rattle.codes.proofs.Laws.{get-found}
 use Rattle.packet.specs.declared.MonitorId.{MonitorId}
 use Rattle.packet.specs.declared.GroupId.{GroupId}
@@ -20,7 +20,7 @@ use Rattle.packet.specs.Answered.{isHeard}
 use Rattle.panels.specs.Addressed.{reaches}
 use Rattle.panels.specs.WellFormed.{GoodPanel, GoodWall}
 use Rattle.panels.proofs.Laws.{place-there}
-use Rattle.lists.proofs.Places.{getD-inside}
+use Rattle.lists.proofs.Mapped.{at-map}
 use Rattle.panels.proofs.Formed.{empty-formed, good-at}
 use Rattle.table_calls.proofs.Formed.{added-formed, removed-formed}
 use Rattle.answers.specs.Reply.{silence, wordFrom}
@@ -103,8 +103,7 @@ by-verdict Verdict.Empty w read k e good h = inl refl
 by-verdict (Verdict.Damaged d) w read k e good h = inl refl
 by-verdict (Verdict.Intact i g n) w read k e good h =
     let f = turned i g (command (read .part)) in
-    let at = getD-inside (map f w) k blank (f blank) (rw (length-map w f) h) ∙ List·getD-map f w k blank in
-    rw at (turned-by read i g n e (getD w k blank) (good-at w good k h))
+    rw (at-map f w k blank blank h) (turned-by read i g n e (getD w k blank) (good-at w good k h))
 
 pub only-addressed : OnlyAddressed
 unfolding answered

@@ -15,8 +15,13 @@ pub mod SameFaults
 pub mod LinesTell
 pub mod SalvageCases
 pub mod Power
+pub mod Each
 pub mod Again
 pub mod HostAndBox
 pub mod Editions
 pub mod WrongBoxes
 pub mod Scenes
+pub mod EitherOrder
+pub mod Rooms
+pub mod Alone
+pub mod Excepted

@@ -1,18 +1,18 @@
 -- Walls of both profiles and both kinds, and the tint with its sign. Assumes nothing.
 use mathlib.Core.Path.{_≡_, refl, sym, ap₂, _∙_}
 use mathlib.Core.Bool.{Bool, true, false, cond, not, _&&_, and-true, or-false}
-use mathlib.Core.List.{List, [], _∷_, _++_, map}
+use mathlib.Core.List.{List, [], _∷_, _++_}
 use Prim.Native.Nat.{ℕ, _<_}
 use native.Mathlib.Omega.{arith}
 use borrow.Author.Tests.{le-leb}
 use lib.Dec.{leb}
 use lib.IntN.{ℤ, pos, negsuc}
-use lib.ListN.{length, getD, length-map, List·getD-map}
+use lib.ListN.{length, getD}
 use lib.Signed.{mag, leZ}
 use mir.Syntax.{w8}
 use mir.Val.{SFits}
 use Rattle.lists.proofs.Each.{alike}
-use Rattle.lists.proofs.Places.{getD-inside}
+use Rattle.lists.proofs.Mapped.{at-map}
 use Rattle.profiles.specs.declared.Video.{Video}
 use Rattle.settings.specs.Settings.{settings, _to_, within, allAllowed, byteCount, videoRow}
 use Rattle.models.specs.Models.{allowedFor}
@@ -52,8 +52,7 @@ unfolding turned judge
 own-model w r i g n row values intact named k h =
     let f = turned i g (setOf row values) in
     let p = getD w k blank in
-    let at = getD-inside (map f w) k blank (f blank) (rw (length-map w f) h) ∙ List·getD-map f w k blank in
-    rw (answered-intact w r i g n intact, named) (at ∙ one-set (reaches i g p) (takes row values p) (stored row (heldThen row values p) p) p ∙ as-allowed (reaches i g p) row values p)
+    rw (answered-intact w r i g n intact, named) (at-map f w k blank blank h ∙ one-set (reaches i g p) (takes row values p) (stored row (heldThen row values p) p) p ∙ as-allowed (reaches i g p) row values p)
 
 fits : (t : ℤ) → mag t < 128 → SFits w8 t
 fits t h = record { sfits = h }

@@ -92,7 +92,7 @@ one-by-one edition w bursts room h =
     ∙ rw (le-leb _ _ h)
     (ap {B = Scene} (λ (l : List ℕ). record { wall = session edition w bursts .wall; answers = l; refusal = Refusal.Nothing }) (answers-listed edition _))
 
-session-then : (edition : Edition) (w : Wall) (a b : List (List ℕ))
+pub session-then : (edition : Edition) (w : Wall) (a b : List (List ℕ))
     → let s = session edition w a in
     let t = session edition (s .wall) b in
     session edition w (a ++ b) ≡ record { wall = t .wall; replies = s .replies ++ t .replies }

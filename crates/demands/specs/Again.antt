@@ -1,30 +1,13 @@
 -- A burst sent again. 01, "Host side": the same packet again; 02, A5: a set sent one, two or three times leaves the same table.
-use Prim.Native.Nat.{ℕ, _<_}
-use mathlib.Core.Bool.{Bool, false, _&&_}
+use Prim.Native.Nat.{ℕ}
 use mathlib.Core.Path.{_≡_}
 use mathlib.Core.List.{List, [], _∷_}
-use lib.ListN.{length, getD}
 use Rattle.packet.specs.declared.Edition.{Edition}
-use Rattle.packet.specs.declared.Verdict.{Verdict}
-use Rattle.packet.specs.Reading.{readingOf}
-use Rattle.panels.specs.declared.Panel.{Panel}
 use Rattle.panels.specs.declared.Table.{Table}
-use Rattle.panels.specs.Wall.{Wall, blank, panelsOf}
-use Rattle.panels.specs.Addressed.{reaches}
+use Rattle.panels.specs.Wall.{Wall, panelsOf}
 use Rattle.panels.specs.WellFormed.{WellFormed}
 use Rattle.answers.specs.Session.{session}
-
--- the panels that a burst addresses: none, where it is not intact
-abbrev pub addressedBy : Verdict → Panel → Bool
-addressedBy Verdict.Empty p = false
-addressedBy (Verdict.Damaged damage) p = false
-addressedBy (Verdict.Intact i g n) p = reaches i g p
-
--- no panel of the wall is addressed by both bursts
-abbrev pub Apart : Edition → Wall → List ℕ → List ℕ → Type 0
-Apart edition w b c =
-    (k : ℕ) → k < length w
-    → let p = getD w k blank in (addressedBy (readingOf edition b .verdict) p && addressedBy (readingOf edition c .verdict) p) ≡ false
+use Rattle.demands.specs.Apart.{Apart}
 
 -- bursts among which b is sent again, the others to other panels; and these others alone
 pub data Again (edition : Edition) (w : Wall) (b : List ℕ) : List (List ℕ) → List (List ℕ) → Type 0 where

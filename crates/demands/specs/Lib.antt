@@ -12,7 +12,10 @@ pub mod Forms
 pub mod Salvage
 pub mod SalvageCases
 pub mod Power
+pub mod Apart
 pub mod Again
+pub mod Rooms
+pub mod Alone
 pub mod WrongBoxes
 pub mod HostAndBox
 pub mod Editions

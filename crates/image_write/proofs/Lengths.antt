@@ -4,7 +4,7 @@ use mathlib.Core.Bool.{Bool, true, false, cond}
 use mathlib.Core.List.{List, [], _++_, flatten}
 use Prim.Native.Nat.{ℕ, zero, suc, _+_, _*_, _≤_, _<_}
 use native.Mathlib.Omega.{arith}
-use lib.ListN.{length, getD, take, replicate, length-append, length-map, length-replicate, List·getD-map}
+use lib.ListN.{length, getD, take, replicate, length-append, length-map, length-replicate}
 use lib.Seq.{take-all}
 use Rattle.panels.proofs.Values.{length-values}
 use Rattle.settings.specs.Settings.{settings, byteCount, valueCount, rowCount, valuesOf}
@@ -16,7 +16,7 @@ use Rattle.lists.proofs.Each.{in-each, length-each, each-alike}
 use Rattle.panels.specs.declared.Panel.{Panel}
 use Rattle.panels.specs.Wall.{Wall, blank}
 use Rattle.panels.specs.WellFormed.{GoodWall}
-use Rattle.lists.proofs.Places.{getD-inside}
+use Rattle.lists.proofs.Mapped.{at-map}
 use Rattle.panels.proofs.Formed.{good-at}
 use Rattle.image_write.specs.declared.Written.{Written}
 use Rattle.image_write.specs.Written.{field, fieldIn, fieldsOf, recordOf, recordsOf, highLow, startsOf, imageOf, recordSize}
@@ -105,7 +105,7 @@ module _ (form : Form) where
 
   -- so that each record of a wall starts that much behind the one before it
   pub record-at : (w : Wall) (k : ℕ) → k < length w → getD (recordsOf form w) k [] ≡ recordOf form (getD w k blank)
-  record-at w k h = getD-inside (recordsOf form w) k [] (recordOf form blank) (rw (length-map w (recordOf form)) h) ∙ List·getD-map (recordOf form) w k blank
+  record-at w k h = at-map (recordOf form) w k blank [] h
 
   pub records-before : (w : Wall) → GoodWall w → (k : ℕ) → k ≤ length w → length (flatten (take k (recordsOf form w))) ≡ recordSize form * k
   records-before w good k h =

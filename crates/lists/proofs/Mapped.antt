@@ -1,10 +1,11 @@
 -- A rule applied to every element. Assumes nothing.
-use mathlib.Core.Path.{_≡_, refl, sym, ap, ap₂}
+use mathlib.Core.Path.{_≡_, refl, sym, ap, ap₂, _∙_}
 use mathlib.Core.List.{List, [], _∷_, _++_, map}
 use Prim.Native.Nat.{ℕ, zero, suc, _≤_, _<_}
 use native.Mathlib.Nat.{not-suc-le-zero, le-of-suc-le-suc}
 use native.Mathlib.Omega.{arith}
-use lib.ListN.{length, getD, take, drop}
+use lib.ListN.{length, getD, take, drop, length-map, List·getD-map}
+use Rattle.lists.proofs.Places.{getD-inside}
 
 module _ {A : Type 0} (f : A → A) (d : A) where
   -- it changes nothing
@@ -16,6 +17,10 @@ module _ {A : Type 0} (f : A → A) (d : A) where
 pub map-alike : {A B : Type 0} (f g : A → B) (d : A) (l : List A) → ((j : ℕ) → j < length l → f (getD l j d) ≡ g (getD l j d)) → map f l ≡ map g l
 map-alike f g d [] h = refl
 map-alike {B} f g d (x ∷ l) h = ap₂ (λ (y : B) (m : List B). y ∷ m) (h 0 (omega arith)) (map-alike f g d l (λ j s. h (suc j) (omega arith)))
+
+-- an element of the list that it makes
+pub at-map : {A B : Type 0} (f : A → B) (l : List A) (k : ℕ) (d : A) (e : B) → k < length l → getD (map f l) k e ≡ f (getD l k d)
+at-map f l k d e h = getD-inside (map f l) k e (f d) (rw (length-map l f) h) ∙ List·getD-map f l k d
 
 pub take-map : {A B : Type 0} (f : A → B) (n : ℕ) (l : List A) → take n (map f l) ≡ map f (take n l)
 take-map f zero l = refl

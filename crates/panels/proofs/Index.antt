@@ -143,7 +143,7 @@ with-panels t l = record { panels = l; places = t .places; members = t .members;
 
 -- panels that keep their IDs and their groups keep the index
 module _ (g : Panel → Panel) (keeps : (p : Panel) → (g p .id ≡ p .id) × (g p .group ≡ p .group)) where
-  same-place : (i : MonitorId) (k : ℕ) (w : Wall) → placeFrom i k (map g w) ≡ placeFrom i k w
+  pub same-place : (i : MonitorId) (k : ℕ) (w : Wall) → placeFrom i k (map g w) ≡ placeFrom i k w
   unfolding placeFrom
   same-place i k [] = refl
   same-place i k (p ∷ w) = rw (keeps p .0, same-place i (suc k) w)
