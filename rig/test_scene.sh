@@ -22,6 +22,31 @@ as_played_one_by_one() {
     all_bursts >bursts && one_by_one 2.01 && all_bursts_of_1_85 >bursts && one_by_one 1.85
 }
 
+# Two rooms on one line (02, A10): panel 1 of group 8, and panel 2 of group 9, whose bursts are in the files one and two.
+# mixed ORDER: their bursts, each room's in its own order, as ORDER has 1 and 2
+mixed() {
+    local room burst
+    exec 3<one 4<two
+    for room in $(echo "$1" | fold -w 1); do
+        read -r burst <&$((room + 2)) && echo "$burst"
+    done
+    exec 3<&- 4<&-
+}
+# those of the answers that are a room's
+answers_to() { paste -d ' ' <(echo "$1" | fold -w 1) answers | sed -n "s/^$2 //p"; }
+two_rooms() {
+    { packet 01 00 61 04; packet 00 08 A3 01; echo 05010019; packet 01 00 22 01 00 02 08; packet 01 00 62; } >one
+    { packet 02 00 18 01; packet 00 09 61 02; packet 02 00 18 01; packet 02 00 62; echo 0502; } >two
+    new_wall w 1:8 2:9 && cp w first && cp w second && rig scene first one >alone_1 && rig scene second two >alone_2 || return
+    rig scene first two >/dev/null && rig scene second one >/dev/null && cmp first second || return
+    local order
+    for order in 1111122222 2222211111 1212121212 2112212121 1221112221; do
+        mixed $order >bursts && cp w both && rig play both <bursts >answers && cmp first both || return
+        same "to the first room, $order" "$(answers_to $order 1)" "$(cat alone_1)" &&
+            same "to the second room, $order" "$(answers_to $order 2)" "$(cat alone_2)" || return
+    done
+}
+
 # What is left out, in every place; the numbers of the log are those of the file's lines.
 comments_and_empty_lines() {
     printf '%s\n' '# closing' '' '05 01 00 19 1d # power?' ' ' $'\t# 06 01 00 61 04 62' $'\t060100610462\r' '#' \
@@ -231,6 +256,7 @@ scene_arguments() {
 }
 
 test_that 'a scene is its bursts played one by one, on both editions' as_played_one_by_one
+test_that 'two rooms on one line, in five orders' two_rooms
 test_that 'comments and empty lines of a scene, and the numbers in its log' comments_and_empty_lines
 test_that 'the damages in the log of a scene' log_of_damages
 test_that 'a scene with a line that is not hex: nothing is played' a_bad_line

@@ -6,7 +6,6 @@ use mathlib.Core.List.{List, [], _∷_, map}
 use borrow.Author.Tests.{eqb-true}
 use lib.Dec.{eqb}
 use lib.ListN.{length, getD}
-use Rattle.lists.proofs.Both.{eqb-sym}
 use Rattle.lists.proofs.Mapped.{at-map}
 use Rattle.packet.specs.declared.Edition.{Edition}
 use Rattle.packet.specs.declared.MonitorId.{MonitorId}
@@ -60,15 +59,14 @@ module _ (w : Wall) (good : GoodWall w) (k : ℕ) (inside : k < length w) where
         go false = s .nowhere (p ∷ [])
 
     among-says : (q : Place) → placeOf i w ≡ q → ifFrom (p .id) (from w q) ≡ cond (eqb (p .id .0) (i .0)) (say p) silence
-    among-says Place.Nowhere e = rw (s .nowhere w) (silent (eqb _ (p .id .0)) ∙ go (eqb (p .id .0) (i .0)) refl)
+    among-says Place.Nowhere e = rw (s .nowhere w) (silent (eqb (p .id .0) _) ∙ go (eqb (p .id .0) (i .0)) refl)
       where
         go : (t : Bool) → eqb (p .id .0) (i .0) ≡ t → silence ≡ cond t (say p) silence
         go true h = absurd (place-nowhere i w e k inside (eqb-true _ _ h))
         go false h = refl
     among-says (Place.At j) e =
         ap (ifFrom (p .id)) (s .at w j)
-        ∙ ap (λ (t : Bool). cond t (say (getD w j blank)) silence)
-        (ap (λ (m : MonitorId). eqb (m .0) (p .id .0)) (s .named (getD w j blank)) ∙ eqb-sym (i .0) (p .id .0))
+        ∙ ap (λ (m : MonitorId). cond (eqb (p .id .0) (m .0)) (say (getD w j blank)) silence) (s .named (getD w j blank))
         ∙ go (eqb (p .id .0) (i .0)) refl
       where
         go : (t : Bool) → eqb (p .id .0) (i .0) ≡ t → cond t (say (getD w j blank)) silence ≡ cond t (say p) silence
@@ -91,16 +89,16 @@ module _ (w : Wall) (good : GoodWall w) (k : ℕ) (inside : k < length w) where
   answer-alone r = go (r .verdict)
     where
       nack : (a : Addressee) → ifFrom (p .id) (nackFrom w a) ≡ nackFrom (p ∷ []) a
-      nack Addressee.Nobody = silent (eqb _ (p .id .0))
+      nack Addressee.Nobody = silent (eqb (p .id .0) _)
       nack (Addressee.One i) = says-alone (nack-says i)
 
       heard : (i : MonitorId) (c : Command) (t : Bool)
           → ifFrom (p .id) (cond t (replyFrom w i c (placeOf i w)) silence) ≡ cond t (replyFrom (p ∷ []) i c (placeOf i (p ∷ []))) silence
       heard i c true = says-alone (reply-says i c)
-      heard i c false = silent (eqb _ (p .id .0))
+      heard i c false = silent (eqb (p .id .0) _)
 
       go : (v : Verdict) → ifFrom (p .id) (answeredBy v w (r .part) (r .seems) .reply) ≡ answeredBy v (p ∷ []) (r .part) (r .seems) .reply
-      go Verdict.Empty = silent (eqb _ (p .id .0))
+      go Verdict.Empty = silent (eqb (p .id .0) _)
       go (Verdict.Damaged damage) = nack (r .seems)
       go (Verdict.Intact i g n) = heard i _ (isHeard i g)
 

@@ -6,7 +6,7 @@ use mathlib.Core.List.{List, [], _∷_, map}
 use borrow.Author.Tests.{eqb-false, eq-eqb}
 use lib.Dec.{eqb}
 use lib.ListN.{length, getD}
-use Rattle.lists.proofs.Both.{both, eqb-sym}
+use Rattle.lists.proofs.Both.{both}
 use Rattle.lists.proofs.Mapped.{at-map, map-alike}
 use Rattle.packet.specs.declared.MonitorId.{MonitorId}
 use Rattle.packet.specs.declared.GroupId.{GroupId}
@@ -28,34 +28,30 @@ use Rattle.answers.specs.Judged.{Command, getOf, setOf, unavailable, command, j
 use Rattle.answers.specs.Played.{turned, replyFrom, nackFrom, answeredBy, answered}
 use Rattle.answers.specs.Session.{byBurst}
 use Rattle.answers.proofs.Orders.{OnLine, on-line}
-use Rattle.answers.proofs.Others.{after, AlikeFor, left-alike, same-reply, sets-either}
+use Rattle.answers.proofs.Others.{after, AlikeFor, Leaves, left-alike, same-reply, sets-either}
 use Rattle.demands.proofs.Each.{changedBy, changed, all-each, kept-names, not-addressed, same-addressed}
 use Rattle.demands.specs.Apart.{addressedBy}
-use Rattle.demands.specs.Rooms.{clash, disturbed}
+use Rattle.demands.specs.Rooms.{names, setsNamed, disturbed}
 
-clash-sym : (c d : Command) → clash c d ≡ clash d c
-clash-sym (setOf row vs) (setOf other us) = eqb-sym row other
-clash-sym (setOf row vs) (getOf other) = eqb-sym row other
-clash-sym (setOf row vs) unavailable = refl
-clash-sym (getOf row) (setOf other us) = eqb-sym row other
-clash-sym (getOf row) (getOf other) = refl
-clash-sym (getOf row) unavailable = refl
-clash-sym unavailable (setOf other us) = refl
-clash-sym unavailable (getOf other) = refl
-clash-sym unavailable unavailable = refl
+-- a command that does not set what another names leaves that row
+leaves : (c d : Command) (row : ℕ) → ((other : ℕ) → names c other ≡ eqb row other) → setsNamed d c ≡ false → Leaves d row
+leaves c (setOf other us) row is e = eqb-false row other (sym (is other) ∙ e)
+leaves c (getOf other) row is e = tt
+leaves c unavailable row is e = tt
 
--- A command leaves a panel alike for another that it does not clash with, so that either may be first.
+neither : (a b : Bool) → (a || b) ≡ false → (a ≡ false) × (b ≡ false)
+neither false false e = (refl, refl)
+neither false true e = absurd (false≢true (sym e))
+neither true b e = absurd (false≢true (sym e))
+
+-- So it leaves a panel alike for the other, and either may be first.
 module _ (p : Panel) (good : GoodPanel p) where
-  left : (c d : Command) → OnLine d → clash c d ≡ false → AlikeFor c p (after d p)
-  left (setOf row vs) (setOf other us) on e = left-alike row (setOf other us) on (eqb-false row other e) p good
-  left (setOf row vs) (getOf other) on e = left-alike row (getOf other) on tt p good
-  left (setOf row vs) unavailable on e = left-alike row unavailable on tt p good
-  left (getOf row) (setOf other us) on e = left-alike row (setOf other us) on (eqb-false row other e) p good
-  left (getOf row) (getOf other) on e = left-alike row (getOf other) on tt p good
-  left (getOf row) unavailable on e = left-alike row unavailable on tt p good
+  left : (c d : Command) → OnLine d → setsNamed d c ≡ false → AlikeFor c p (after d p)
+  left (setOf row vs) d on e = left-alike row d on (leaves (setOf row vs) d row (λ other. refl) e) p good
+  left (getOf row) d on e = left-alike row d on (leaves (getOf row) d row (λ other. refl) e) p good
   left unavailable d on e = tt
 
-  either-after : (c d : Command) → OnLine c → OnLine d → clash c d ≡ false → after c (after d p) ≡ after d (after c p)
+  either-after : (c d : Command) → OnLine c → OnLine d → setsNamed d c ≡ false → after c (after d p) ≡ after d (after c p)
   unfolding judge
   either-after (setOf row vs) (setOf other us) on on-other e = sets-either row other (eqb-false row other e) vs us on on-other p good
   either-after (setOf row vs) (getOf other) on on-other e = refl
@@ -72,6 +68,15 @@ addressed-after (Verdict.Intact i g n) d p e = rw e
 
 -- Two bursts of which neither disturbs the other at a panel: it ends the same in either order, and says the same.
 module _ (p : Panel) (good : GoodPanel p) (r s : Reading) (free : disturbed r s p ≡ false) where
+  abbrev c : Command
+  c = command (r .part)
+
+  abbrev d : Command
+  d = command (s .part)
+
+  unnamed : addressedBy (r .verdict) p ≡ true → addressedBy (s .verdict) p ≡ true → setsNamed d c ≡ false
+  unnamed x y = neither (setsNamed c d) (setsNamed d c) (rw (x, y) at free) .1
+
   either-changed : changed r (changed s p) ≡ changed s (changed r p)
   either-changed = go (addressedBy (r .verdict) p) (addressedBy (s .verdict) p) refl refl
     where
@@ -84,23 +89,20 @@ module _ (p : Panel) (good : GoodPanel p) (r s : Reading) (free : disturbed r s 
           ∙ sym (not-addressed (s .verdict) (s .part) (changed r p) (same-addressed (s .verdict) r p ∙ y))
       go true true x y =
           addressed-after (r .verdict) (r .part) (changed s p) (same-addressed (r .verdict) s p ∙ x)
-          ∙ ap (after (command (r .part))) (addressed-after (s .verdict) (s .part) p y)
-          ∙ either-after p good _ _ (on-line (r .part)) (on-line (s .part)) (rw (x, y) at free)
+          ∙ ap (after c) (addressed-after (s .verdict) (s .part) p y)
+          ∙ either-after p good c d (on-line (r .part)) (on-line (s .part)) (unnamed x y)
           ∙ sym (addressed-after (s .verdict) (s .part) (changed r p) (same-addressed (s .verdict) r p ∙ y)
-          ∙ ap (after (command (s .part))) (addressed-after (r .verdict) (r .part) p x))
+          ∙ ap (after d) (addressed-after (r .verdict) (r .part) p x))
 
   same-said : addressedBy (r .verdict) p ≡ true → (i : MonitorId)
-      → replyBy i (judge (command (r .part)) (changed s p)) ≡ replyBy i (judge (command (r .part)) p)
+      → replyBy i (judge c (changed s p)) ≡ replyBy i (judge c p)
   same-said x i = go (addressedBy (s .verdict) p) refl
     where
-      c : Command
-      c = command (r .part)
-
       go : (b : Bool) → addressedBy (s .verdict) p ≡ b → replyBy i (judge c (changed s p)) ≡ replyBy i (judge c p)
       go false y = ap (λ (q : Panel). replyBy i (judge c q)) (not-addressed (s .verdict) (s .part) p y)
       go true y =
           ap (λ (q : Panel). replyBy i (judge c q)) (addressed-after (s .verdict) (s .part) p y)
-          ∙ same-reply i c p _ (left p good c _ (on-line (s .part)) (rw (x, y) at free))
+          ∙ same-reply i c p (after d p) (left p good c d (on-line (s .part)) (unnamed x y))
 
 -- a packet that is answered addresses the panel with its ID
 heard-addressed : (i : MonitorId) (g : GroupId) (p : Panel) → isHeard i g ≡ true → p .id .0 ≡ i .0 → reaches i g p ≡ true
@@ -153,10 +155,13 @@ module _ (w : Wall) (good : GoodWall w) (r s : Reading) (free : (k : ℕ) → k 
 
 -- neither disturbs the other
 pub free-sym : (r s : Reading) (p : Panel) → disturbed r s p ≡ disturbed s r p
-free-sym r s p = go (addressedBy (r .verdict) p) (addressedBy (s .verdict) p) (clash-sym (command (r .part)) (command (s .part)))
+free-sym r s p = go (addressedBy (r .verdict) p) (addressedBy (s .verdict) p) (setsNamed (command (r .part)) _) (setsNamed (command (s .part)) _)
   where
-    go : (a b : Bool) {x y : Bool} → x ≡ y → ((a && b) && x) ≡ ((b && a) && y)
-    go true true e = e
-    go true false e = refl
-    go false true e = refl
-    go false false e = refl
+    go : (a b x y : Bool) → ((a && b) && (x || y)) ≡ ((b && a) && (y || x))
+    go true true true true = refl
+    go true true true false = refl
+    go true true false true = refl
+    go true true false false = refl
+    go true false x y = refl
+    go false true x y = refl
+    go false false x y = refl

@@ -5,7 +5,6 @@ use mathlib.Core.Path.{_≡_, refl, sym, ap, ap₂, subst, _∙_}
 use mathlib.Core.List.{List, [], _∷_, _++_, map, List·Memᴰ, List·Memᴰ·head, List·Memᴰ·tail}
 use native.Mathlib.Omega.{arith}
 use borrow.Author.Tests.{ne-eqb}
-use lib.Dec.{eqb}
 use lib.ListN.{length, getD}
 use Rattle.lists.proofs.Mapped.{at-map}
 use Rattle.codes.specs.declared.Found.{Found}
@@ -107,8 +106,10 @@ pub other-codes : OtherCodes
 other-codes edition t f b c (code, other, ne, (i, g, n, row, vs, _, is, found), (j, h, m, row-other, us, _, is-other, found-other)) =
     let (sets, has) = set-with code row _ vs is found in
     let (sets-other, has-other) = set-with other row-other _ us is-other found-other in
-    let apart : eqb row row-other ≡ false = ne-eqb row row-other (λ e. ne (sym has ∙ ap setCode e ∙ has-other)) in
-    change-places edition t f b c (λ k h. rw (sets, sets-other, apart, and-false (shared (readingOf edition b) (readingOf edition c) (getD (panelsOf t) k blank))))
+    let rows : row ≡ row-other → ⊥ = λ e. ne (sym has ∙ ap setCode e ∙ has-other) in
+    change-places edition t f b c (λ k h.
+    rw (sets, sets-other, ne-eqb row row-other rows, ne-eqb row-other row (λ e. rows (sym e)))
+    (and-false (shared (readingOf edition b) (readingOf edition c) (getD (panelsOf t) k blank))))
 
 pub two-hands : TwoHands
 two-hands edition t f = rooms edition (panelsOf t) (f .good)

@@ -21,7 +21,7 @@ use Rattle.answers.specs.Session.{session}
 
 -- the answers of the panel with an ID, each in its place, with silence in place of any other
 abbrev pub ifFrom : MonitorId → Reply → Reply
-ifFrom i r = cond (eqb (r .id .0) (i .0)) r silence
+ifFrom i r = cond (eqb (i .0) (r .id .0)) r silence
 
 abbrev pub answersFrom : MonitorId → List Reply → List Reply
 answersFrom i = map (ifFrom i)

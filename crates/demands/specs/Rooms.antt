@@ -1,7 +1,7 @@
 -- Two rooms on one line: in what order they must send. 02, A10. All of it is said of bursts; add, remove and image reading between
 -- them are excepted, of which `AddExcepted` is an example. What one code sets is one setting, so that tiling is one.
 use Prim.Native.Nat.{ℕ, _<_}
-use mathlib.Core.Bool.{Bool, false, cond, not, _&&_}
+use mathlib.Core.Bool.{Bool, false, cond, not, _&&_, _||_}
 use mathlib.Core.Path.{_≡_}
 use mathlib.Core.List.{List, [], _∷_, _++_, map, List·Memᴰ}
 use lib.Dec.{eqb}
@@ -54,17 +54,21 @@ abbrev pub OtherCodes : Type 0
 OtherCodes = EitherOrderIf (λ edition w b c. (code : ℕ) × (other : ℕ) × (code ≡ other → ⊥) × SetWith edition code b × SetWith edition other c)
 
 -- What both come from, with gets in it: at no panel that both address does one set what the other sets or asks for.
-abbrev pub clash : Command → Command → Bool
-clash (setOf row values) (setOf other others) = eqb row other
-clash (setOf row values) (getOf other) = eqb row other
-clash (setOf row values) unavailable = false
-clash (getOf row) (setOf other others) = eqb row other
-clash (getOf row) (getOf other) = false
-clash (getOf row) unavailable = false
-clash unavailable c = false
+abbrev pub names : Command → ℕ → Bool
+names (setOf row values) other = eqb row other
+names (getOf row) other = eqb row other
+names unavailable other = false
+
+abbrev pub setsNamed : Command → Command → Bool
+setsNamed (setOf row values) c = names c row
+setsNamed (getOf row) c = false
+setsNamed unavailable c = false
 
 abbrev pub disturbed : Reading → Reading → Panel → Bool
-disturbed r s p = shared r s p && clash (command (r .part)) (command (s .part))
+disturbed r s p =
+    let c = command (r .part) in
+    let d = command (s .part) in
+    shared r s p && (setsNamed c d || setsNamed d c)
 
 abbrev pub Undisturbed : Edition → Wall → List ℕ → List ℕ → Type 0
 Undisturbed edition w b c = (k : ℕ) → k < length w → disturbed (readingOf edition b) (readingOf edition c) (getD w k blank) ≡ false

@@ -1,6 +1,6 @@
 -- The laws of lists: `Each` of lists made by a rule, `Flat` of lists one behind the other, `Laid` of bytes laid over others,
 -- `Places` of lists that are changed place by place, `Mapped` of a rule applied to every element, `Same` of bytes compared;
--- `Both` of tests.
+-- `Both` is one of tests.
 pub mod Each
 pub mod Flat
 pub mod Laid
