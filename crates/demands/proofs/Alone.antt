@@ -135,7 +135,8 @@ as-alone edition t f k h bursts = (settings-alone edition (panelsOf t) k h burst
 pub own-record : OwnRecord
 own-record edition t u f g names k h same bursts =
     let (wall, answers) = as-alone edition t f k h bursts in
-    let (wall′, answers′) = as-alone edition u g k (rw (← names .0) h) bursts in
-    (wall ∙ ap (λ (p : Panel). getD (session edition (p ∷ []) bursts .wall) 0 blank) same ∙ sym wall′,
-    answers ∙ ap (λ (p : Panel). session edition (p ∷ []) bursts .replies) same ∙ sym answers′
-    ∙ ap (λ (p : Panel). answersFrom (p .id) (session edition (panelsOf u) bursts .replies)) (sym same))
+    let (wall′, answers′) = as-alone edition u g k (rw (← names .0) h) bursts in (
+      wall ∙ ap (λ (p : Panel). getD (session edition (p ∷ []) bursts .wall) 0 blank) same ∙ sym wall′,
+      answers ∙ ap (λ (p : Panel). session edition (p ∷ []) bursts .replies) same ∙ sym answers′
+          ∙ ap (λ (p : Panel). answersFrom (p .id) (session edition (panelsOf u) bursts .replies)) (sym same),
+    )

@@ -58,9 +58,10 @@ module _ (edition : Edition) where
   past w good b [] u = (refl, refl)
   past w good b (c ∷ cs) u =
       let (walls, b-same, c-same) = either-order w good b c (u c (List·Memᴰ·head refl)) in
-      let (replies, wall) = past (played edition w c .wall) (answered-good w good (read c)) b cs (λ d m. still w c b d (u d (List·Memᴰ·tail m))) in
-      (ap₂ (λ (x : Reply) (xs : List Reply). x ∷ xs) (sym c-same) (ap (λ (v : Wall). session edition v cs .replies) walls ∙ replies),
-      ap (λ (v : Wall). session edition v cs .wall) walls ∙ wall)
+      let (replies, wall) = past (played edition w c .wall) (answered-good w good (read c)) b cs (λ d m. still w c b d (u d (List·Memᴰ·tail m))) in (
+        ap₂ (λ (x : Reply) (xs : List Reply). x ∷ xs) (sym c-same) (ap (λ (v : Wall). session edition v cs .replies) walls ∙ replies),
+        ap (λ (v : Wall). session edition v cs .wall) walls ∙ wall,
+      )
 
   rooms : (w : Wall) → GoodWall w → (mine : List Bool) (bursts : List (List ℕ)) → length mine ≡ length bursts
       → OfAll (Undisturbed edition w) mine bursts → EachAlone edition w mine bursts
@@ -80,9 +81,11 @@ module _ (edition : Edition) where
       let other = ofRoom (map not mine) bursts in
       let (wall, own, theirs) = rooms (o .wall) (answered-good w good (read b)) mine bursts (omega (arith, n))
       (λ x y m l. still w b x y (u x y m (List·Memᴰ·tail l))) in
-      let (replies, moved) = past w good b one (λ c m. undisturbed-sym w c b (u c b m (List·Memᴰ·head refl))) in
-      (wall ∙ session-parts (o .wall) one other ∙ ap (λ (v : Wall). session edition v other .wall) moved ∙ sym (session-parts w one (b ∷ other)),
-      own ∙ replies, ap (λ (rs : List Reply). o .reply ∷ rs) theirs)
+      let (replies, moved) = past w good b one (λ c m. undisturbed-sym w c b (u c b m (List·Memᴰ·head refl))) in (
+        wall ∙ session-parts (o .wall) one other ∙ ap (λ (v : Wall). session edition v other .wall) moved ∙ sym (session-parts w one (b ∷ other)),
+        own ∙ replies,
+        ap (λ (rs : List Reply). o .reply ∷ rs) theirs,
+      )
     where
       session-parts : (w : Wall) (a b : List (List ℕ)) → session edition w (a ++ b) .wall ≡ session edition (session edition w a .wall) b .wall
       session-parts w a b = ap (λ (e : Ended). e .wall) (session-then edition w a b)
