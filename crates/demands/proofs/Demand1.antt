@@ -122,6 +122,7 @@ Stays s m = (r : HostRefusal) → m .outcome ≡ Outcome.Refused r → (m .next 
 
 abbrev isRefused : Outcome → Bool
 isRefused Outcome.Idle = false
+isRefused Outcome.Resting = false
 isRefused Outcome.Waiting = false
 isRefused (Outcome.Over e n) = false
 isRefused (Outcome.Refused r) = true
@@ -139,11 +140,12 @@ quiet-stays s o r e = (refl, refl)
 
 step-stays : (s : State) (h : Happening) → Stays s (step s h)
 step-stays s = step-holds s (Stays s) (record {
-  stays = quiet-stays s;
+  stays = λ o e. quiet-stays s o;
   starts = λ r. taken _ refl;
   unheard = λ r. taken _ refl;
   sends = taken _ refl;
-  ends = λ e vs. taken _ refl;
+  ends = λ e vs may. taken _ refl;
+  rested = taken _ refl;
   tells = λ d m held. held;
 })
 

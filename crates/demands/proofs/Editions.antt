@@ -44,11 +44,12 @@ byte-keeps r b = go (ltb (r .count) longest) _ _ refl refl
 -- the host
 step-keeps : (s : State) (h : Happening) → step s h .next .edition ≡ s .edition
 step-keeps s = step-holds s (λ m. m .next .edition ≡ s .edition) (record {
-  stays = λ o. refl;
+  stays = λ o e. refl;
   starts = λ r. refl;
   unheard = λ r. refl;
   sends = refl;
-  ends = λ e vs. refl;
+  ends = λ e vs may. refl;
+  rested = refl;
   tells = λ d m held. held;
 })
 

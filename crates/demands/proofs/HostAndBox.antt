@@ -48,7 +48,7 @@ use Rattle.requests.specs.Said.{isControl, isReport, endedBy, wordIn}
 use Rattle.host.specs.declared.End.{End}
 use Rattle.host.specs.Heard.{saidBy, saidTo}
 use Rattle.host.specs.Machine.{start, burst, mark, idle, State, Move, sendings, mostSendings, over, begun, again, navEnds, ending, heard, telling, step}
-use Rattle.host.proofs.Lasting.{packet-reads}
+use Rattle.requests.proofs.Packets.{packet-reads}
 use Rattle.demands.specs.HostAndBox.{asking, waiting, pastWall, EndsWith, Lossless}
 use Rattle.demands.proofs.Tiling.{in-own-wall, value-at, held-allowed, host-tiling}
 

@@ -18,7 +18,12 @@ pub mod Power
 pub mod Each
 pub mod Again
 pub mod HostAndBox
+pub mod EachOnce
 pub mod Editions
+pub mod HostCalls
+pub mod Sendings
+pub mod LateAck
+pub mod WrongHosts
 pub mod WrongBoxes
 pub mod Scenes
 pub mod EitherOrder

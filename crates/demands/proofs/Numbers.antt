@@ -1,11 +1,13 @@
 -- The numbers that calls refuse by. Assumes nothing.
-use Prim.Native.Nat.{ℕ, _+_, _*_}
+use Prim.Native.Nat.{ℕ, zero, suc, _+_, _*_}
 use mathlib.Core.Path.{_≡_, refl, ap, _∙_}
 use mathlib.Core.Bool.{Bool, true, false, cond, _&&_, _||_}
 use mathlib.Core.List.{List, [], _∷_, flatten}
 use mathlib.Core.Option.{none, some}
-use lib.Dec.{leb, eqb}
-use lib.ListN.{length}
+use native.Mathlib.Omega.{arith}
+use borrow.Author.Tests.{lt-ltb, ne-eqb}
+use lib.Dec.{leb, ltb, eqb}
+use lib.ListN.{length, length-replicate}
 use Rattle.settings.specs.declared.Profile.{Profile}
 use Rattle.tiling.specs.declared.Kind.{Kind}
 use Rattle.tiling.specs.declared.Numbered.{Numbered as KindNumbered}
@@ -16,6 +18,8 @@ use Rattle.profiles.specs.Numbers.{profileWith, ifKnown}
 use Rattle.packet.specs.declared.Edition.{Edition}
 use Rattle.packet.specs.declared.Numbered.{Numbered as EditionNumbered}
 use Rattle.packet.specs.declared.Written.{Written}
+use Rattle.packet.specs.Reading.{readingOf}
+use Rattle.packet.specs.Answered.{isHeard}
 use Rattle.packet.specs.Edition.{editionWith, openRefusal}
 use Rattle.packet.specs.Packet.{shortest, mostData as packetData, writtenOf as packetWritten, refusalNumber as packetNumber}
 use Rattle.panels.specs.declared.Place.{Place}
@@ -24,12 +28,22 @@ use Rattle.panels.specs.Wall.{Wall, placeOf, ifThere}
 use Rattle.table_calls.specs.Calls.{refusalNumber as tableNumber, addRefusal}
 use Rattle.answers.specs.declared.Sent.{Sent}
 use Rattle.answers.specs.Reply.{sentBytes, sentOf, refusalNumber as answerNumber}
+use Rattle.requests.specs.declared.Request.{Request}
+use Rattle.requests.specs.declared.Said.{Said}
+use Rattle.requests.specs.Request.{isRequest}
+use Rattle.host.specs.declared.Host.{Host}
+use Rattle.host.specs.declared.Outcome.{Outcome}
+use Rattle.host.specs.Heard.{saidTo}
+use Rattle.host.specs.Machine.{Happening, start, burst, mark, State, Move, mostSendings, sendings, waits, quiet, unasked, again, ending, heard, step}
+use Rattle.host.specs.Calls.{stateOf, stepOf}
 use Rattle.image_write.specs.declared.Written.{Written as ImageWritten}
 use Rattle.image_forms.specs.declared.Form.{Form}
 use Rattle.image_forms.specs.Forms.{keeps}
 use Rattle.image_write.specs.Written.{sizeOf, losesNothing, writtenOf as imageWritten, refusalNumber as imageNumber}
 use Rattle.image_write.proofs.Losing.{two-holds}
-use Rattle.demands.specs.Numbers.{Add, Remove, isPlain, allPlain, ImageOne, ImageTwo, Answer, mostData, Packet, Open}
+use Rattle.demands.specs.HostCalls.{Call, hasRoom, answerTo}
+use Rattle.demands.proofs.HostCalls.{startBy, start-by, refused, roomy}
+use Rattle.demands.specs.Numbers.{Add, Remove, isPlain, allPlain, ImageOne, ImageTwo, Answer, mostData, Packet, Open, numberIn, startNumber, HostCall}
 
 pub add-number : Add
 unfolding addRefusal profileWith kindWith
@@ -115,3 +129,65 @@ open-number n = go (eqb n 185) (eqb n 201)
     go true b = refl
     go false true = refl
     go false false = refl
+
+-- The host's calls: a start by its questions,
+start-questions : (s : State) (r : Request) (a b c d : Bool) → numberIn (startBy s r a b c d .outcome) ≡ cond a 21 (cond b 24 (cond c 0 22))
+start-questions s r true b c d = refl
+start-questions s r false true c d = refl
+start-questions s r false false true true = refl
+start-questions s r false false true false = refl
+start-questions s r false false false d = refl
+
+-- of which the first is whether the packet was sent at least once;
+some-or-none : {A : Type 0} (n : ℕ) (x y : A) → cond (ltb 0 n) x y ≡ cond (eqb n 0) y x
+some-or-none zero x y = refl
+some-or-none (suc n) x y = rw (lt-ltb 0 (suc n) (omega arith), ne-eqb (suc n) 0 (λ e. omega arith))
+
+-- a burst and a mark, which are taken
+module _ (s : State) where
+  abbrev Taken : Move → Type 0
+  Taken m = numberIn (m .outcome) ≡ 0
+
+  either : (t : Bool) (m n : Move) → Taken m → Taken n → Taken (cond t m n)
+  either true m n h k = h
+  either false m n h k = k
+
+  again-taken : Taken (again s)
+  unfolding again
+  again-taken = either (ltb (sendings s) mostSendings) _ _ refl refl
+
+  ending-taken : (d : List ℕ) (w : Said) → Taken (ending s d w)
+  unfolding ending
+  ending-taken d Said.Ack = refl
+  ending-taken d Said.Nack = again-taken
+  ending-taken d Said.Nav = refl
+  ending-taken d Said.Report = refl
+  ending-taken d Said.Nothing = refl
+
+  unasked-taken : (resting : Bool) → numberIn (cond resting Outcome.Resting Outcome.Idle) ≡ 0
+  unasked-taken true = refl
+  unasked-taken false = refl
+
+  burst-taken : (b : List ℕ) → Taken (step s (burst b))
+  unfolding step heard
+  burst-taken b = either (waits s) (heard s (readingOf (s .edition) b)) (quiet s (unasked s)) (ending-taken _ (saidTo (s .request) (readingOf (s .edition) b))) (unasked-taken (s .resting))
+
+  mark-taken : Taken (step s mark)
+  unfolding step
+  mark-taken = either (waits s) _ _ again-taken refl
+
+by-happening : (host : Host) (h : Happening) → numberIn (step (stateOf host) h .outcome) ≡ startNumber host h
+by-happening host (start r) =
+    let s = stateOf host in
+    ap (λ (m : Move). numberIn (m .outcome)) (start-by s r) ∙ start-questions s r (waits s) (s .resting) (isRequest (s .edition) r) (isHeard (r .id) (r .group))
+    ∙ rw length-replicate (some-or-none (host .sendings) 21 (cond (host .resting) 24 (cond (isRequest (host .edition) r) 0 22)))
+by-happening host (burst b) = burst-taken (stateOf host) b
+by-happening host mark = mark-taken (stateOf host)
+
+pub host-call : HostCall
+unfolding stepOf
+host-call host c = go (hasRoom c) refl
+  where
+    go : (t : Bool) → hasRoom c ≡ t → numberIn (answerTo host c .outcome) ≡ cond t (startNumber host (c .happens)) 19
+    go true room = ap (λ (m : Move). numberIn (m .outcome)) (roomy host c room) ∙ by-happening host (c .happens)
+    go false short = ap numberIn (refused host c short .told)

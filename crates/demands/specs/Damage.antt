@@ -1,10 +1,11 @@
 -- What is wrong with a burst, told beside the answer. 02, A3 and A11.
-use Prim.Native.Nat.{ℕ, _-_}
+use Prim.Native.Nat.{ℕ}
 use mathlib.Core.Bool.{true, cond, not, _&&_, _||_}
 use mathlib.Core.Path.{_≡_}
-use mathlib.Core.List.{List, [], foldl}
+use mathlib.Core.List.{List, [], _∷_, foldl}
 use lib.Dec.{leb, eqb}
-use lib.ListN.{length, getD, take, drop}
+use lib.ListN.{length, getD, drop}
+use Rattle.lists.specs.Lists.{same}
 use Rattle.packet.specs.declared.Edition.{Edition}
 use Rattle.packet.specs.declared.Addressee.{Addressee}
 use Rattle.packet.specs.declared.Damage.{Damage}
@@ -19,7 +20,11 @@ use Rattle.answers.specs.Judged.{command}
 use Rattle.answers.specs.Played.{Outcome, playedPacket, nackFrom, answered}
 use Rattle.line.specs.Receiver.{receiverOf, withByte, atMark}
 use Rattle.host.specs.declared.Outcome.{Outcome as HostOutcome}
-use Rattle.host.specs.Machine.{burst, State, waits, quiet, heard, telling, step}
+use Rattle.requests.specs.declared.Said.{Said}
+use Rattle.requests.specs.Request.{requestData, requestPacket}
+use Rattle.host.specs.declared.End.{End}
+use Rattle.host.specs.Machine.{burst, State, Move, waitingFor, free, move, quiet, telling, step}
+use Rattle.demands.specs.HostCalls.{dataIn, said}
 
 -- what is told of a burst
 abbrev pub told : Edition → List ℕ → Damage
@@ -57,10 +62,10 @@ AnyLength =
     atMark (foldl withByte (receiverOf edition []) b) t
     ≡ record { receiver = receiverOf edition []; table = tableOf (o .wall); reply = o .reply; damage = told edition b }
 
--- a packet: size, ID, on 2.01 group, data, checksum; on 1.85 group 0 is meant
+-- a packet: on 1.85 group 0 is meant
 abbrev pub packetIn : Edition → Wall → List ℕ → Outcome
-packetIn Edition.Sicp185 w b = playedPacket w (monitorId (getD b 1 0)) (groupId 0) (command (take (length b - 3) (drop 2 b)))
-packetIn Edition.Sicp201 w b = playedPacket w (monitorId (getD b 1 0)) (groupId (getD b 2 0)) (command (take (length b - 4) (drop 3 b)))
+packetIn Edition.Sicp185 w b = playedPacket w (monitorId (getD b 1 0)) (groupId 0) (command (dataIn Edition.Sicp185 b))
+packetIn Edition.Sicp201 w b = playedPacket w (monitorId (getD b 1 0)) (groupId (getD b 2 0)) (command (dataIn Edition.Sicp201 b))
 
 -- whom a NACK is from: the burst has 2 bytes, or on 2.01 3 of which the third is 0; the second is the ID
 abbrev pub nackedBy : Edition → List ℕ → Addressee
@@ -79,8 +84,30 @@ before edition w b =
 abbrev pub Unchanged : Type 0
 Unchanged = (edition : Edition) (w : Wall) (b : List ℕ) → answered w (readingOf edition b) ≡ before edition w b
 
--- and the host's move is what it was, with what is wrong with the burst beside it, whatever the host waits for.
+-- The host's move without this request, by 01. Where a request is over, its answer tells how it ended and how often it was sent, and
+-- the host rests where that was more than once (A12).
+abbrev pub ended : State → End → List ℕ → Move
+ended s e vs = let n = length (s .given) in move (free (s .edition) (leb 2 n)) [] (HostOutcome.Over e n) vs
+
+-- NACK: the same packet again, or, after the third sending, given up
+abbrev pub sentAgain : State → Move
+sentAgain s =
+    let p = requestPacket (s .edition) (s .request) in
+    cond (leb 3 (length (s .given))) (ended s End.GivenUp []) (move (waitingFor (s .edition) (s .request) (p ∷ s .given)) (p ∷ []) HostOutcome.Waiting [])
+
+-- ACK, report and NAV end it, NAV to a power off that was sent more than once as "off or refused" (A5); everything else is ignored
+abbrev pub movedBy : State → List ℕ → Said → Move
+movedBy s d Said.Ack = ended s End.Ack []
+movedBy s d Said.Nack = sentAgain s
+movedBy s d Said.Nav = ended s (cond (same (requestData (s .request)) (0x18 ∷ 1 ∷ []) && leb 2 (length (s .given))) End.OffOrRefused End.Nav) []
+movedBy s d Said.Report = ended s End.Report (drop 1 d)
+movedBy s d Said.Nothing = quiet s HostOutcome.Waiting
+
+abbrev pub hostBefore : State → List ℕ → Move
+hostBefore s b =
+    cond (eqb (length (s .given)) 0) (quiet s (cond (s .resting) HostOutcome.Resting HostOutcome.Idle))
+    (movedBy s (dataIn (s .edition) b) (said (s .edition) (s .request) b))
+
+-- and the host's move is that, with what is wrong with the burst beside it, whatever the host waits for.
 abbrev pub HostUnchanged : Type 0
-HostUnchanged =
-    (s : State) (b : List ℕ)
-    → step s (burst b) ≡ telling (told (s .edition) b) (cond (waits s) (heard s (readingOf (s .edition) b)) (quiet s HostOutcome.Idle))
+HostUnchanged = (s : State) (b : List ℕ) → step s (burst b) ≡ telling (told (s .edition) b) (hostBefore s b)

@@ -2,9 +2,9 @@
 use Prim.Native.Nat.{ℕ, zero, suc, _<_}
 use mathlib.Core.Bool.{Bool, true, cond, not, _&&_}
 use mathlib.Core.Path.{_≡_}
-use mathlib.Core.List.{List, []}
+use mathlib.Core.List.{List, [], _∷_, map}
 use lib.Dec.{eqb}
-use lib.ListN.{getD, replicate}
+use lib.ListN.{length, getD, replicate}
 use Rattle.codes.specs.declared.Found.{Found}
 use Rattle.tiling.specs.Kinds.{inWall}
 use Rattle.settings.specs.Settings.{valuesOf, tilingRow}
@@ -14,7 +14,7 @@ use Rattle.packet.specs.Answered.{isHeard}
 use Rattle.panels.specs.declared.Panel.{Panel}
 use Rattle.panels.specs.declared.Table.{Table}
 use Rattle.panels.specs.declared.Place.{Place}
-use Rattle.panels.specs.Wall.{modelOf, blank, placeOf, panelsOf}
+use Rattle.panels.specs.Wall.{Wall, modelOf, blank, placeOf, panelsOf}
 use Rattle.panels.specs.WellFormed.{WellFormed}
 use Rattle.answers.specs.Reply.{sentBytes}
 use Rattle.answers.specs.Judged.{offAlready}
@@ -22,7 +22,8 @@ use Rattle.answers.specs.Played.{played}
 use Rattle.requests.specs.declared.Request.{Request}
 use Rattle.requests.specs.Request.{valuesOf as requestValues, requestPacket, isRequest}
 use Rattle.host.specs.declared.End.{End}
-use Rattle.host.specs.Machine.{start, burst, mark, State, Move, idle, over, step, mostSendings}
+use Rattle.host.specs.declared.Outcome.{Outcome}
+use Rattle.host.specs.Machine.{start, burst, mark, State, Move, waitingFor, idle, over, step, mostSendings}
 
 -- the host that was started with a request, and to which the mark then came n times
 abbrev pub asking : Edition → Request → ℕ → State
@@ -31,7 +32,7 @@ asking edition r (suc n) = step (asking edition r n) mark .next
 
 -- the host that has sent a request's packet n times
 abbrev pub waiting : Edition → Request → ℕ → State
-waiting edition r n = record { edition = edition; request = r; given = replicate n (requestPacket edition r) }
+waiting edition r n = waitingFor edition r (replicate n (requestPacket edition r))
 
 -- a tiling that leaves the panel its wall, which has no such position (02, A6)
 abbrev pub pastWall : ℕ → List ℕ → Panel → Bool
@@ -56,3 +57,37 @@ Lossless =
     → placeOf (r .id) (panelsOf t) ≡ Place.At k → modelOf (getD (panelsOf t) k blank) ≡ r .model → n < mostSendings
     → let answer = sentBytes edition (played edition (panelsOf t) (requestPacket edition r) .reply) in
     EndsWith edition (foundBy (r .code)) r (getD (panelsOf t) k blank) (suc n) (step (asking edition r n) (burst answer))
+
+-- a request that the panel which it asks can answer: the panel is there, and of the profile and kind that the request says; or one to
+-- which no answer is due
+abbrev pub StandsAs : Request → Wall → Place → Type 0
+StandsAs r w (Place.At k) = modelOf (getD w k blank) ≡ r .model
+StandsAs r w Place.Nowhere = ⊥
+
+abbrev pub AllAnswered : Edition → Wall → List Request → Type 0
+AllAnswered edition w [] = Unit {0}
+AllAnswered edition w (r ∷ rs) =
+    (isRequest edition r ≡ true) × (isHeard (r .id) (r .group) ≡ true → StandsAs r w (placeOf (r .id) w)) × AllAnswered edition w rs
+
+-- Such requests on a line that loses nothing: each is started, the box plays its packet, and the host hears the box's answer, if one is
+-- due, before the next. What is told of each in the end:
+abbrev pub ends : Edition → State → Wall → List Request → List Outcome
+ends edition s w [] = []
+ends edition s w (r ∷ rs) =
+    let begun = step s (start r) in
+    let o = played edition w (requestPacket edition r) in
+    let m = cond (isHeard (r .id) (r .group)) (step (begun .next) (burst (sentBytes edition (o .reply)))) begun in
+    m .outcome ∷ ends edition (m .next) (o .wall) rs
+
+-- Each is over and was sent once: none is sent again, and no start is refused, not by 24 either.
+abbrev pub sendingsIn : Outcome → ℕ
+sendingsIn Outcome.Idle = 0
+sendingsIn Outcome.Resting = 0
+sendingsIn Outcome.Waiting = 0
+sendingsIn (Outcome.Over e n) = n
+sendingsIn (Outcome.Refused r) = 0
+
+abbrev pub EachOnce : Type 0
+EachOnce =
+    (edition : Edition) (t : Table) → WellFormed t → (rs : List Request) → AllAnswered edition (panelsOf t) rs
+    → map sendingsIn (ends edition (idle edition) (panelsOf t) rs) ≡ replicate (length rs) 1

@@ -19,4 +19,8 @@ pub mod Alone
 pub mod WrongBoxes
 pub mod HostAndBox
 pub mod Editions
+pub mod HostCalls
+pub mod Sendings
+pub mod LateAck
+pub mod WrongHosts
 pub mod Scenes

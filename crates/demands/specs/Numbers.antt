@@ -1,6 +1,6 @@
 -- The numbers that calls refuse by, 0 where nothing is refused. 01, "Table calls and numbers": each is given exactly when its
--- row says, lower numbers first. 11 to 18 go with the order of reading, in `image_read`; 21 and 22 with the machine, in `host`;
--- 32 and 33 with lists of bursts, in `Scenes`.
+-- row says, lower numbers first, but 24 before 22 (02, A12). 11 to 18 go with the order of reading, in `image_read`; 32 and 33 with
+-- lists of bursts, in `Scenes`.
 use Prim.Native.Nat.{ℕ, _+_, _*_}
 use mathlib.Core.Bool.{Bool, true, cond, _&&_, _||_}
 use mathlib.Core.Path.{_≡_}
@@ -20,8 +20,14 @@ use Rattle.panels.specs.Wall.{Wall, placeOf, ifThere}
 use Rattle.table_calls.specs.Calls.{refusalNumber as tableNumber, addRefusal, removedFrom}
 use Rattle.answers.specs.declared.Reply.{Reply}
 use Rattle.answers.specs.Reply.{sentOf, refusalNumber as answerNumber}
+use Rattle.requests.specs.Request.{isRequest}
+use Rattle.host.specs.declared.Host.{Host}
+use Rattle.host.specs.declared.Outcome.{Outcome}
+use Rattle.host.specs.Machine.{Happening, start, burst, mark}
+use Rattle.host.specs.Calls.{refusalNumber as hostNumber}
 use Rattle.image_forms.specs.declared.Form.{Form}
 use Rattle.image_write.specs.Written.{writtenOf as imageWritten, refusalNumber as imageNumber}
+use Rattle.demands.specs.HostCalls.{Call, answerTo}
 
 -- 32 panels are there, ID 0, ID in the table, group 0, a profile that is neither 0 nor 1, a kind that is neither
 abbrev pub Add : Type 0
@@ -71,3 +77,20 @@ Packet =
 -- a line or a host is opened with 185 or 201, and 23 is any other number
 abbrev pub Open : Type 0
 Open = (n : ℕ) → openRefusal (editionWith n) ≡ cond (eqb n 185 || eqb n 201) 0 23
+
+-- a host's start: lent output under 40 bytes; a request is waiting; a mark is due before it; not a request from the table. A burst and a
+-- mark are refused for want of room alone.
+abbrev pub numberIn : Outcome → ℕ
+numberIn Outcome.Idle = 0
+numberIn Outcome.Resting = 0
+numberIn Outcome.Waiting = 0
+numberIn (Outcome.Over e n) = 0
+numberIn (Outcome.Refused r) = hostNumber r
+
+abbrev pub startNumber : Host → Happening → ℕ
+startNumber host (start r) = cond (eqb (host .sendings) 0) (cond (host .resting) 24 (cond (isRequest (host .edition) r) 0 22)) 21
+startNumber host (burst b) = 0
+startNumber host mark = 0
+
+abbrev pub HostCall : Type 0
+HostCall = (host : Host) (c : Call) → numberIn (answerTo host c .outcome) ≡ cond (leb 40 (length (c .lent))) (startNumber host (c .happens)) 19

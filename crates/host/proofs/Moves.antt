@@ -23,7 +23,7 @@ use Rattle.requests.specs.declared.Said.{Said}
 use Rattle.requests.specs.Request.{isRequest}
 use Rattle.requests.specs.Said.{wordIn}
 use Rattle.host.specs.Heard.{saidBy, saidTo}
-use Rattle.host.specs.Machine.{Happening, start, burst, mark, State, quiet, begun, again, ending, heard, telling, step}
+use Rattle.host.specs.Machine.{Happening, start, burst, mark, State, idle, quiet, unasked, begun, again, ending, heard, telling, step}
 use Rattle.host.specs.Calls.{stateOf, call}
 
 pub no-room : (out : List ℕ) (s : State) (h : Happening) → length out < longest → call out s h ≡ quiet s (Outcome.Refused Refusal.NoRoom)
@@ -37,21 +37,25 @@ some n h = omega arith
 module _ (out : List ℕ) (host : Host) (room : longest ≤ length out) where
   -- nothing waits
   module _ (e : host .sendings ≡ 0) where
-    pub idle-burst : (b : List ℕ) → call out (stateOf host) (burst b) ≡ telling (damageIn (readingOf (host .edition) b .verdict)) (quiet (stateOf host) Outcome.Idle)
+    pub idle-burst : (b : List ℕ) → call out (stateOf host) (burst b) ≡ telling (damageIn (readingOf (host .edition) b .verdict)) (quiet (stateOf host) (unasked (stateOf host)))
     unfolding call step
     idle-burst b = rw (le-leb _ _ room, length-replicate, e)
 
-    pub idle-mark : call out (stateOf host) mark ≡ quiet (stateOf host) Outcome.Idle
+    pub idle-mark : call out (stateOf host) mark ≡ quiet (idle (host .edition)) Outcome.Idle
     unfolding call step
     idle-mark = rw (le-leb _ _ room, length-replicate, e)
 
-    pub not-started : (r : Request) → isRequest (host .edition) r ≡ false → call out (stateOf host) (start r) ≡ quiet (stateOf host) (Outcome.Refused Refusal.NotARequest)
+    pub rests : host .resting ≡ true → (r : Request) → call out (stateOf host) (start r) ≡ quiet (stateOf host) (Outcome.Refused Refusal.Resting)
     unfolding call step
-    not-started r t = rw (le-leb _ _ room, length-replicate, e, t)
+    rests t r = rw (le-leb _ _ room, length-replicate, e, t)
 
-    pub started : (r : Request) → isRequest (host .edition) r ≡ true → call out (stateOf host) (start r) ≡ begun (host .edition) r
+    pub not-started : host .resting ≡ false → (r : Request) → isRequest (host .edition) r ≡ false → call out (stateOf host) (start r) ≡ quiet (stateOf host) (Outcome.Refused Refusal.NotARequest)
     unfolding call step
-    started r t = rw (le-leb _ _ room, length-replicate, e, t)
+    not-started f r t = rw (le-leb _ _ room, length-replicate, e, f, t)
+
+    pub started : host .resting ≡ false → (r : Request) → isRequest (host .edition) r ≡ true → call out (stateOf host) (start r) ≡ begun (host .edition) r
+    unfolding call step
+    started f r t = rw (le-leb _ _ room, length-replicate, e, f, t)
 
   -- a request waits
   module _ (ne : host .sendings ≡ 0 → ⊥) where

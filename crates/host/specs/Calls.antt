@@ -16,18 +16,24 @@ use Rattle.host.specs.declared.Outcome.{Outcome}
 use Rattle.requests.specs.Request.{requestPacket}
 use Rattle.host.specs.Machine.{Happening, State, Move, quiet, step}
 
--- 01's numbers
+-- 01's numbers, and 02's (A12)
 abbrev pub refusalNumber : Refusal → ℕ
 refusalNumber Refusal.NoRoom = noRoom
 refusalNumber Refusal.Busy = 21
+refusalNumber Refusal.Resting = 24
 refusalNumber Refusal.NotARequest = 22
 
 -- a state by value has the number of the packets; they are all the request's own
 abbrev pub hostOf : State → Host
-hostOf s = record { edition = s .edition; request = s .request; sendings = length (s .given) }
+hostOf s = record { edition = s .edition; request = s .request; sendings = length (s .given); resting = s .resting }
 
 abbrev pub stateOf : Host → State
-stateOf h = record { edition = h .edition; request = h .request; given = replicate (h .sendings) (requestPacket (h .edition) (h .request)) }
+stateOf h = record {
+  edition = h .edition;
+  request = h .request;
+  given = replicate (h .sendings) (requestPacket (h .edition) (h .request));
+  resting = h .resting;
+}
 
 -- the bytes given out
 abbrev pub bytesOf : Move → List ℕ

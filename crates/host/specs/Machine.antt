@@ -1,6 +1,7 @@
--- The host as a machine over happenings. 000, 2.2; 01, "Host side"; 02, A5: a power off that gets NAV; A11: its line has one edition.
+-- The host as a machine over happenings. 000, 2.2; 01, "Host side"; 02, A5: a power off that gets NAV; A11: its line has one edition;
+-- A12: it rests.
 use Prim.Native.Nat.{ℕ}
-use mathlib.Core.Bool.{Bool, cond, _&&_}
+use mathlib.Core.Bool.{Bool, true, false, cond, _&&_}
 use mathlib.Core.List.{List, [], _∷_}
 use lib.ListN.{length, drop, replicate}
 use lib.Dec.{ltb}
@@ -26,11 +27,13 @@ pub data Happening : Type 0 where
   burst : List ℕ → Happening
   mark : Happening
 
--- the line's edition, the request that waits, and the packets given out for it since its start; none where nothing waits
+-- the line's edition; the request that waits, and the packets given out for it since its start, none where nothing waits; and
+-- whether a mark is due before the next start
 pub record State : Type 0 where
   pub edition : Edition
   pub request : Request
   pub given : List (List ℕ)
+  pub resting : Bool
 
 -- what a happening leads to: the next state, the packet given out or none, what has become of the request, a report's values, and
 -- what is wrong with the burst that was heard
@@ -41,13 +44,21 @@ pub record Move : Type 0 where
   pub values : List ℕ
   pub damage : Damage
 
--- nothing waits, and a fixed blank stands in the place of a request
-abbrev pub idle : Edition → State
-idle edition = record {
+-- a request waits, for which these packets were given out
+abbrev pub waitingFor : Edition → Request → List (List ℕ) → State
+waitingFor edition r packets = record { edition = edition; request = r; given = packets; resting = false }
+
+-- nothing waits, and a fixed blank stands in the place of a request; the host rests, or it is idle
+abbrev pub free : Edition → Bool → State
+free edition resting = record {
   edition = edition;
   request = record { model = record { profile = Profile.General; kind = Kind.FiveByFive }; id = monitorId 0; group = groupId 0; code = 0; values = replicate mostValues 0; count = 0 };
   given = [];
+  resting = resting;
 }
+
+abbrev pub idle : Edition → State
+idle edition = free edition false
 
 -- how many times the packet was sent: the number given out since start
 abbrev pub sendings : State → ℕ
@@ -56,9 +67,21 @@ sendings s = length (s .given)
 abbrev pub waits : State → Bool
 waits s = ltb 0 (sendings s)
 
+-- it was sent more than once
+abbrev pub repeated : State → Bool
+repeated s = ltb 1 (sendings s)
+
 -- a packet is sent at most so often
 abbrev pub mostSendings : ℕ
 mostSendings = 3
+
+-- a request is over
+abbrev pub isOver : Outcome → Bool
+isOver Outcome.Idle = false
+isOver Outcome.Resting = false
+isOver Outcome.Waiting = false
+isOver (Outcome.Over e n) = true
+isOver (Outcome.Refused r) = false
 
 -- of no burst is anything told
 abbrev pub move : State → List (List ℕ) → Outcome → List ℕ → Move
@@ -68,26 +91,31 @@ move s packets o vs = record { next = s; sent = packets; outcome = o; values = v
 abbrev pub quiet : State → Outcome → Move
 quiet s o = move s [] o []
 
--- the request of s is over; the result has how it ended and how often its packet was sent
+-- the request of s is over; the result has how it ended and how often its packet was sent. Where that is more than once, an answer
+-- may still be under way, and the host rests.
 abbrev pub over : State → List (List ℕ) → End → List ℕ → Move
-over s packets e vs = move (idle (s .edition)) packets (Outcome.Over e (sendings s)) vs
+over s packets e vs = move (free (s .edition) (repeated s)) packets (Outcome.Over e (sendings s)) vs
+
+-- what is told while nothing waits
+abbrev pub unasked : State → Outcome
+unasked s = cond (s .resting) Outcome.Resting Outcome.Idle
 
 -- the packet is given out; where no answer is due, the request is over
 unfoldable pub begun : Edition → Request → Move
 begun edition r = let p = requestPacket edition r ∷ [] in
-    let s : State = record { edition = edition; request = r; given = p } in
+    let s = waitingFor edition r p in
     cond (isHeard (r .id) (r .group)) (move s p Outcome.Waiting []) (over s p End.Unheard [])
 
 -- the same packet again, or after the third sending given up
 unfoldable pub again : State → Move
 again s = let p = requestPacket (s .edition) (s .request) in
     cond (ltb (sendings s) mostSendings)
-    (move (record { edition = s .edition; request = s .request; given = p ∷ s .given }) (p ∷ []) Outcome.Waiting [])
+    (move (waitingFor (s .edition) (s .request) (p ∷ s .given)) (p ∷ []) Outcome.Waiting [])
     (over s [] End.GivenUp [])
 
 -- NAV: where a power off was sent more than once, an earlier sending may have done the work
 unfoldable pub navEnds : State → End
-navEnds s = cond (isPowerOff (s .request) && ltb 1 (sendings s)) End.OffOrRefused End.Nav
+navEnds s = cond (isPowerOff (s .request) && repeated s) End.OffOrRefused End.Nav
 
 -- ACK, report and NAV end the request
 unfoldable pub ending : State → List ℕ → Said → Move
@@ -106,6 +134,9 @@ telling d m = record { next = m .next; sent = m .sent; outcome = m .outcome; val
 
 -- one happening
 unfoldable pub step : State → Happening → Move
-step s (start r) = cond (waits s) (quiet s (Outcome.Refused Refusal.Busy)) (cond (isRequest (s .edition) r) (begun (s .edition) r) (quiet s (Outcome.Refused Refusal.NotARequest)))
-step s (burst b) = let reading = readingOf (s .edition) b in telling (damageIn (reading .verdict)) (cond (waits s) (heard s reading) (quiet s Outcome.Idle))
-step s mark = cond (waits s) (again s) (quiet s Outcome.Idle)
+step s (start r) =
+    cond (waits s) (quiet s (Outcome.Refused Refusal.Busy))
+    (cond (s .resting) (quiet s (Outcome.Refused Refusal.Resting))
+    (cond (isRequest (s .edition) r) (begun (s .edition) r) (quiet s (Outcome.Refused Refusal.NotARequest))))
+step s (burst b) = let reading = readingOf (s .edition) b in telling (damageIn (reading .verdict)) (cond (waits s) (heard s reading) (quiet s (unasked s)))
+step s mark = cond (waits s) (again s) (quiet (idle (s .edition)) Outcome.Idle)

@@ -1,3 +1,2 @@
--- What only this crate's contracts and theorems cite: `Steps` is how answers are made, `Lasting` how long a request lasts.
+-- What only this crate's contracts and theorems cite: `Steps` is how answers are made.
 pub mod Steps
-pub mod Lasting

@@ -7,7 +7,7 @@ ghost use mathlib.Core.List.{List, flatten};
 ghost use Prim.Native.Nat.{ℕ, _≤_};
 ghost use lib.ListN.{length};
 ghost use Rattle.settings.specs.Settings.{mostValues};
-ghost use Rattle.host.specs.Machine.{start, burst, mark, idle, over};
+ghost use Rattle.host.specs.Machine.{start, burst, mark, idle, unasked, over};
 ghost use Rattle.host.specs.Calls.{refusalNumber, hostOf, stateOf, stepOf, call, Answers};
 ghost use Rattle.host.specs.Private.Steps.{plainStep, tellingStep};
 use models::Model;
@@ -25,17 +25,20 @@ use tiling::Kind;
 // A packet is sent at most so often.
 const MOST_SENDINGS: usize = 3;
 
-// The line's edition, the request that waits, and how often its packet was sent. Nothing waits where that is 0.
+// The line's edition, the request that waits, and how often its packet was sent. Nothing waits where that is 0; the host then
+// rests where a mark is due before the next start.
 pub struct Host {
     edition: Edition,
     request: Request,
     sendings: usize,
+    resting: bool,
 }
 
 // Why a call did nothing.
 pub enum Refusal {
     NoRoom,
     Busy,
+    Resting,
     NotARequest,
 }
 
@@ -52,6 +55,7 @@ pub enum End {
 // What has become of the request; where it is over, how it ended and how often its packet was sent.
 pub enum Outcome {
     Idle,
+    Resting,
     Waiting,
     Over(End, usize),
     Refused(Refusal),
@@ -75,6 +79,7 @@ pub fn refusal_number(refusal: Refusal) -> u8
     match refusal {
         Refusal::NoRoom => NO_ROOM,
         Refusal::Busy => 21,
+        Refusal::Resting => 24,
         Refusal::NotARequest => 22,
     }
 }
@@ -94,22 +99,35 @@ fn plain(host: Host, length: usize, outcome: Outcome) -> Step
     }
 }
 
-// The host's request is over. So many bytes were given out, and a report has these values.
+// The host's request is over. So many bytes were given out, and a report has these values. Where its packet was sent more than
+// once, an answer may still be under way, and the host rests.
 fn over(host: Host, sent: usize, end: End, v: &[u8]) -> Step
     requires { ⌜ length (now v) ≤ mostValues ⌝ }
     ensures { λ r. ⌜ ((packets : List (List ℕ)) → sent ≡ length (flatten packets) → r ≡ stepOf (over (stateOf host) packets end (now (v .entry)))) ⌝ }
 {
     let edition = host.edition;
+    let mut next = Host::open(edition);
+    next.resting = 1 < host.sendings;
     let mut values = [0u8; MOST_VALUES];
     let count = bytes::copy(v, &mut values);
     Step {
-        host: Host::open(edition),
+        host: next,
         length: sent,
         outcome: Outcome::Over(end, host.sendings),
         values,
         count,
         damage: Damage::Nothing,
     }
+}
+
+// What a host tells to which nothing is due.
+fn unasked(host: Host) -> Outcome
+    ensures { λ r. ⌜ r ≡ unasked (stateOf host) ⌝ }
+{
+    if host.resting {
+        return Outcome::Resting;
+    }
+    Outcome::Idle
 }
 
 // An answer to a burst with this damage.
@@ -151,6 +169,7 @@ impl Host {
             edition,
             request,
             sendings: 0,
+            resting: false,
         }
     }
 
@@ -163,6 +182,9 @@ impl Host {
         }
         if self.sendings != 0 {
             return plain(self, 0, Outcome::Refused(Refusal::Busy));
+        }
+        if self.resting {
+            return plain(self, 0, Outcome::Refused(Refusal::Resting));
         }
         let edition = self.edition;
         if !requests::is_request(edition, request) {
@@ -182,13 +204,13 @@ impl Host {
         let verdict = packet::verdict_of(edition, b);
         let damage = packet::damage_in(verdict);
         if self.sendings == 0 {
-            return telling(damage, plain(self, 0, Outcome::Idle));
+            return telling(damage, plain(self, 0, unasked(self)));
         }
         let d = packet::data_of(edition, b, verdict);
         telling(damage, hearing::heeded(self, verdict, d, out))
     }
 
-    // 500 ms have passed.
+    // 500 ms have passed. A host that rests is idle then.
     pub fn mark(self, out: &mut [u8]) -> Step
         ensures { λ r. ⌜ Answers (call (now (out .entry)) (stateOf self) mark) (now (out .entry)) r (now (out .exit)) ⌝ }
     {
@@ -196,7 +218,8 @@ impl Host {
             return plain(self, 0, Outcome::Refused(Refusal::NoRoom));
         }
         if self.sendings == 0 {
-            return plain(self, 0, Outcome::Idle);
+            let edition = self.edition;
+            return plain(Host::open(edition), 0, Outcome::Idle);
         }
         sending::send_again(self, out)
     }

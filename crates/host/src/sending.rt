@@ -40,6 +40,7 @@ pub(crate) fn begin(edition: Edition, request: Request, out: &mut [u8]) -> Step
         edition,
         request,
         sendings: 1,
+        resting: false,
     };
     if packet::is_heard(request.id, request.group) {
         crate::plain(host, length, Outcome::Waiting)
@@ -65,6 +66,7 @@ pub(crate) fn send_again(host: Host, out: &mut [u8]) -> Step
             edition,
             request,
             sendings: sendings + 1,
+            resting: false,
         },
         length,
         Outcome::Waiting,

@@ -76,6 +76,9 @@ fn print_outcome(outcome: Outcome, values: &[u8]) {
         Outcome::Idle => {
             io::write_all(1, b"idle");
         }
+        Outcome::Resting => {
+            io::write_all(1, b"resting");
+        }
         Outcome::Waiting => {
             io::write_all(1, b"waiting");
         }

@@ -5,10 +5,9 @@ use Rattle.packet.specs.declared.Damage.{Damage}
 use Rattle.packet.specs.Packet.{damageIn}
 use Rattle.packet.specs.Reading.{readingOf}
 use Rattle.host.specs.declared.Step.{Step}
-use Rattle.host.specs.declared.Outcome.{Outcome}
-use Rattle.host.specs.Machine.{quiet, heard}
+use Rattle.host.specs.Machine.{quiet, unasked, heard}
 use Rattle.host.specs.Calls.{stateOf}
-use Rattle.host.specs.Private.Steps.{tellingStep}
+use Rattle.host.specs.Private.Steps.{plainStep, tellingStep}
 use Rattle.host.proofs.Moves.{no-room, idle-burst, burst-heard, heard-is}
 use Rattle.host.proofs.Answers.{stays, tells}
 use Rattle.host.proofs.Host.hear.Statement.{statement}
@@ -31,6 +30,9 @@ verdict-of-requires c κs = search needs
 damage-in-requires : tie.Need-damage-in-requires
 damage-in-requires c κs = search needs
 
+unasked-requires : tie.Need-unasked-requires
+unasked-requires c κs = search needs
+
 plain-requires-2 : tie.Need-plain-requires-2
 plain-requires-2 c κs = search needs
 
@@ -39,12 +41,14 @@ telling-requires c κs = search needs
 
 returns-2 : tie.Need-returns-2
 returns-2 c =
-    let idle = c .before .before in
-    let damage = idle .before .before in
+    let answer = c .before in
+    let none = answer .before .before in
+    let damage = none .before .before in
     let has = damage .before .before in
     let a = has .before .before .before .args in
-    rw (idle-burst (a .out .now) (a .self) (has .if1 .left) (idle .if2 .taken) (a .b .now))
-    (tells (quiet (stateOf (a .self)) Outcome.Idle) _ _ (stays _ _ _ refl (c .before .plain2 .ensures)) (c .telling .ensures ∙ told damage (c .before .plain2 .result)))
+    let free = answer .plain2 .ensures ∙ ap (plainStep (a .self) 0) (answer .before .unasked .ensures) in
+    rw (idle-burst (a .out .now) (a .self) (has .if1 .left) (none .if2 .taken) (a .b .now))
+    (tells (quiet (stateOf (a .self)) (unasked (stateOf (a .self)))) _ _ (stays _ _ _ refl free) (c .telling .ensures ∙ told damage (answer .plain2 .result)))
 
 data-of-requires : tie.Need-data-of-requires
 data-of-requires c κs = c .before .before .before .verdict-of .ensures
@@ -78,6 +82,7 @@ hear-spec =
     returns
     verdict-of-requires
     damage-in-requires
+    unasked-requires
     plain-requires-2
     telling-requires
     returns-2

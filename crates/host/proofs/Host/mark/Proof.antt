@@ -1,5 +1,11 @@
 -- Each test decides a case of the call. Assumes nothing.
+use mathlib.Core.Path.{ap, _∙_}
 use borrow.Author.Needs.{needs}
+use Rattle.host.specs.declared.Host.{Host}
+use Rattle.host.specs.declared.Outcome.{Outcome}
+use Rattle.host.specs.Machine.{idle}
+use Rattle.host.specs.Calls.{hostOf}
+use Rattle.host.specs.Private.Steps.{plainStep}
 use Rattle.host.proofs.Moves.{no-room, idle-mark, mark-heard}
 use Rattle.host.proofs.Answers.{stays}
 use Rattle.host.proofs.Host.mark.Statement.{statement}
@@ -11,14 +17,18 @@ plain-requires c κs = search needs
 returns : tie.Need-returns
 returns c = stays _ _ _ (no-room _ _ _ (c .before .if1 .taken)) (c .plain .ensures)
 
+open-requires : tie.Need-open-requires
+open-requires c κs = search needs
+
 plain-requires-2 : tie.Need-plain-requires-2
 plain-requires-2 c κs = search needs
 
 returns-2 : tie.Need-returns-2
 returns-2 c =
-    let has = c .before .before .before in
+    let none = c .before .before in
+    let has = none .before .before in
     let a = has .before .before .args in
-    stays _ _ _ (idle-mark (a .out .now) (a .self) (has .if1 .left) (c .before .if2 .taken)) (c .plain2 .ensures)
+    stays (hostOf (idle (a .self .edition))) _ _ (idle-mark (a .out .now) (a .self) (has .if1 .left) (none .if2 .taken)) (c .plain2 .ensures ∙ ap (λ (h : Host). plainStep h 0 Outcome.Idle) (c .before .open .ensures))
 
 send-again-requires : tie.Need-send-again-requires
 send-again-requires c κs = search needs
@@ -39,6 +49,7 @@ mark-spec =
     (tie.spec
     plain-requires
     returns
+    open-requires
     plain-requires-2
     returns-2
     send-again-requires

@@ -1,7 +1,7 @@
 -- Each test decides a case of the call. Assumes nothing.
 use mathlib.Core.Path.{sym, _∙_}
 use borrow.Author.Needs.{needs}
-use Rattle.host.proofs.Moves.{no-room, busy, not-started, started}
+use Rattle.host.proofs.Moves.{no-room, busy, rests, not-started, started}
 use Rattle.host.proofs.Answers.{stays}
 use borrow.Author.Tests.{not-true, not-false}
 use Rattle.host.proofs.Host.start.Statement.{statement}
@@ -22,19 +22,30 @@ returns-2 c =
     let a = has .before .before .args in
     stays _ _ _ (busy (a .out .now) (a .self) (has .if1 .left) (c .before .if2 .taken) (a .request)) (c .plain2 .ensures)
 
-is-request-requires : tie.Need-is-request-requires
-is-request-requires c κs = search needs
-
 plain-requires-3 : tie.Need-plain-requires-3
 plain-requires-3 c κs = search needs
 
 returns-3 : tie.Need-returns-3
 returns-3 c =
-    let asked = c .before .before in
-    let has = asked .before .before .before in
+    let free = c .before .before in
+    let has = free .before .before in
     let a = has .before .before .args in
-    let other = sym (asked .is-request .ensures) ∙ not-true _ (c .before .if3 .taken) in
-    stays _ _ _ (not-started (a .out .now) (a .self) (has .if1 .left) (asked .before .if2 .left) (a .request) other) (c .plain3 .ensures)
+    stays _ _ _ (rests (a .out .now) (a .self) (has .if1 .left) (free .if2 .left) (c .before .if3 .taken) (a .request)) (c .plain3 .ensures)
+
+is-request-requires : tie.Need-is-request-requires
+is-request-requires c κs = search needs
+
+plain-requires-4 : tie.Need-plain-requires-4
+plain-requires-4 c κs = search needs
+
+returns-4 : tie.Need-returns-4
+returns-4 c =
+    let asked = c .before .before in
+    let free = asked .before .before in
+    let has = free .before .before in
+    let a = has .before .before .args in
+    let other = sym (asked .is-request .ensures) ∙ not-true _ (c .before .if4 .taken) in
+    stays _ _ _ (not-started (a .out .now) (a .self) (has .if1 .left) (free .if2 .left) (asked .before .if3 .left) (a .request) other) (c .plain4 .ensures)
 
 begin-requires : tie.Need-begin-requires
 begin-requires c κs = search needs
@@ -42,13 +53,15 @@ begin-requires c κs = search needs
 same-length : tie.Need-same-length
 same-length c = search needs
 
-returns-4 : tie.Need-returns-4
-returns-4 c =
-    let asked = c .before .before .before .before .before in
-    let has = asked .before .before .before in
+returns-5 : tie.Need-returns-5
+returns-5 c =
+    let begun = c .before .before in
+    let asked = begun .before .before .before in
+    let free = asked .before .before in
+    let has = free .before .before in
     let a = has .before .before .args in
-    let taken = sym (asked .is-request .ensures) ∙ not-false _ (c .before .before .before .before .if3 .left) in
-    rw (started (a .out .now) (a .self) (has .if1 .left) (asked .before .if2 .left) (a .request) taken) (c .before .before .begin .ensures)
+    let taken = sym (asked .is-request .ensures) ∙ not-false _ (begun .before .before .if4 .left) in
+    rw (started (a .out .now) (a .self) (has .if1 .left) (free .if2 .left) (asked .before .if3 .left) (a .request) taken) (begun .begin .ensures)
 
 pub start-spec : {M : Type 1} → statement M
 start-spec =
@@ -58,9 +71,11 @@ start-spec =
     returns
     plain-requires-2
     returns-2
-    is-request-requires
     plain-requires-3
     returns-3
+    is-request-requires
+    plain-requires-4
+    returns-4
     begin-requires
     same-length
-    returns-4)
+    returns-5)

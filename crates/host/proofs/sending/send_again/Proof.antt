@@ -9,7 +9,7 @@ use lib.ListN.{length-replicate}
 use Rattle.host.specs.declared.Host.{Host}
 use Rattle.host.specs.declared.End.{End}
 use Rattle.host.specs.declared.Outcome.{Outcome}
-use Rattle.host.specs.Machine.{mostSendings, move, over, again}
+use Rattle.host.specs.Machine.{waitingFor, mostSendings, move, over, again}
 use Rattle.requests.specs.Request.{requestPacket}
 use Rattle.host.specs.Calls.{stateOf}
 use Rattle.host.proofs.Answers.{ends, gives}
@@ -22,7 +22,7 @@ gives-up h e = rw (length-replicate, le-ltb _ _ e)
 
 sends : (h : Host) → h .sendings < mostSendings
     → let p = requestPacket (h .edition) (h .request) in
-    again (stateOf h) ≡ move (record { edition = h .edition; request = h .request; given = p ∷ stateOf h .given }) (p ∷ []) Outcome.Waiting []
+    again (stateOf h) ≡ move (waitingFor (h .edition) (h .request) (p ∷ stateOf h .given)) (p ∷ []) Outcome.Waiting []
 unfolding again
 sends h e = rw (length-replicate, lt-ltb _ _ e)
 

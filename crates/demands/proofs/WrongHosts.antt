@@ -1,0 +1,42 @@
+-- The wrong hosts. Assumes nothing.
+use Prim.Native.Nat.{ℕ}
+use mathlib.Core.Path.{_≡_, refl, sym, ap, _∙_}
+use mathlib.Core.List.{List, [], _∷_, flatten}
+use native.Mathlib.Omega.{arith}
+use lib.ListN.{getD}
+use Rattle.settings.specs.Settings.{settings, allowedByRow, within, allAllowed, inRanges}
+use Rattle.codes.specs.Found.{foundFrom}
+use Rattle.models.specs.Models.{filled}
+use Rattle.lists.specs.Lists.{same}
+use Rattle.packet.specs.declared.Edition.{Edition}
+use Rattle.xor.specs.Xor.{_⊕_, xorAll}
+use Rattle.packet.specs.Packet.{isIntact, verdictOf, dataOf}
+use Rattle.packet.specs.Answered.{isHeard}
+use Rattle.requests.specs.Request.{isTaken, isRequest}
+use Rattle.requests.specs.Said.{isControl, endedBy, wordIn}
+use Rattle.host.specs.declared.Outcome.{Outcome}
+use Rattle.host.specs.Heard.{saidBy, saidTo}
+use Rattle.host.specs.Machine.{idle, begun, again, ending, heard, step}
+use Rattle.demands.specs.WrongHosts.{outcomes, alwaysThree, busyPanel, Booked, Differs, HostsDiffer}
+use Rattle.demands.proofs.HostCalls.{countIn}
+
+pub booked : Booked
+unfolding settings foundFrom allowedByRow within allAllowed filled flatten _⊕_ xorAll isIntact verdictOf dataOf isHeard same isTaken isRequest isControl endedBy wordIn saidBy saidTo begun again ending heard step outcomes
+booked Edition.Sicp185 = (refl, refl)
+booked Edition.Sicp201 = (refl, refl)
+
+-- the sendings that the kth outcome tells
+abbrev told : ℕ → List Outcome → ℕ
+told k l = countIn (getD l k Outcome.Idle)
+
+three : (edition : Edition) → told 2 (outcomes alwaysThree (idle edition) (busyPanel edition)) ≡ 3
+unfolding settings foundFrom allowedByRow within allAllowed filled flatten _⊕_ xorAll isIntact verdictOf dataOf isHeard same isTaken isRequest isControl endedBy wordIn saidBy saidTo begun again ending heard step outcomes
+three Edition.Sicp185 = refl
+three Edition.Sicp201 = refl
+
+pub hosts-differ : HostsDiffer
+hosts-differ edition =
+    let (before, ours) = booked edition in (
+      (λ e. absurd (omega (arith, ap (told 4) (sym before ∙ e ∙ ours)))),
+      (λ e. absurd (omega (arith, sym (three edition) ∙ ap (told 2) (e ∙ ours)))),
+    )
