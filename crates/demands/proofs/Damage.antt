@@ -1,10 +1,9 @@
 -- What is wrong with a burst. Assumes nothing.
-use Prim.Native.Nat.{ℕ, zero, suc}
+use Prim.Native.Nat.{ℕ, suc}
 use mathlib.Core.Path.{_≡_, refl, sym, ap, _∙_}
-use mathlib.Core.List.{List}
 use mathlib.Core.Bool.{Bool, true, false, cond, not, and-true, _||_, false≢true}
 use native.Mathlib.Omega.{arith}
-use borrow.Author.Tests.{leb-true, leb-false, ltb-true, ltb-false, lt-ltb, le-ltb, lt-leb, le-leb, eqb-false, ne-eqb}
+use borrow.Author.Tests.{leb-true, leb-false, lt-ltb, le-ltb, eqb-false}
 use lib.Dec.{leb, ltb, eqb}
 use lib.ListN.{length, getD}
 use Rattle.packet.specs.declared.Edition.{Edition}
@@ -16,14 +15,10 @@ use Rattle.packet.proofs.Packets.{sound, intact}
 use Rattle.packet.proofs.Spoiled.{spoiled-told as told}
 use Rattle.packet.proofs.Damages.{undamaged, passed, damage-said}
 use Rattle.answers.specs.Played.{answered}
-use Rattle.requests.specs.declared.Said.{Said}
-use Rattle.requests.specs.Request.{isPowerOff}
-use Rattle.settings.specs.Settings.{settings}
-use Rattle.host.specs.Machine.{State, waits, quiet, unasked, again, navEnds, ending, heard, telling, step}
+use Rattle.host.specs.Machine.{telling, step}
 use Rattle.line.proofs.Streams.{marked}
-use Rattle.demands.specs.HostCalls.{dataIn, said}
-use Rattle.demands.specs.Damage.{mostTooShort, Kinds, NoDamage, SpoiledTold, AnyLength, before, Unchanged, movedBy, hostBefore, HostUnchanged}
-use Rattle.demands.proofs.HostCalls.{data-in, said-is}
+use Rattle.demands.specs.Damage.{mostTooShort, Kinds, NoDamage, SpoiledTold, AnyLength, before, Unchanged, HostUnchanged}
+use Rattle.demands.proofs.HostMoves.{heard-by}
 
 short : (n m : ℕ) → leb n m ≡ ltb n (suc m)
 short n m = go (leb n m) refl
@@ -85,37 +80,6 @@ unchanged edition w b = go edition (eqb (length b) 0) refl (isIntact edition b) 
 pub any-length : AnyLength
 any-length = marked
 
--- The host's move, by what the burst says.
-
-never-both : {A : Type 0} (n : ℕ) (x y : A) → cond (ltb n 3) x y ≡ cond (leb 3 n) y x
-never-both n x y = go (ltb n 3) refl
-  where
-    go : (t : Bool) → ltb n 3 ≡ t → cond (ltb n 3) x y ≡ cond (leb 3 n) y x
-    go true e = rw (e, lt-leb 3 n (ltb-true n 3 e))
-    go false e = rw (e, le-leb 3 n (ltb-false n 3 e))
-
-moved-by : (s : State) (d : List ℕ) (w : Said) → ending s d w ≡ movedBy s d w
-unfolding ending again navEnds isPowerOff settings
-moved-by s d Said.Ack = refl
-moved-by s d Said.Nack = never-both (length (s .given)) _ _
-moved-by s d Said.Nav = refl
-moved-by s d Said.Report = refl
-moved-by s d Said.Nothing = refl
-
--- what is not intact says nothing
-heard-by : (s : State) (b : List ℕ) → heard s (readingOf (s .edition) b) ≡ movedBy s (dataIn (s .edition) b) (said (s .edition) (s .request) b)
-unfolding heard
-heard-by s b = rw (said-is (s .edition) (s .request) b) (moved-by s _ _ ∙ go (isIntact (s .edition) b) refl)
-  where
-    go : (t : Bool) → isIntact (s .edition) b ≡ t
-        → movedBy s (dataOf (s .edition) b) (said (s .edition) (s .request) b) ≡ movedBy s (dataIn (s .edition) b) (said (s .edition) (s .request) b)
-    go true e = rw (data-in (s .edition) b e)
-    go false e = rw e
-
 pub host-unchanged : HostUnchanged
 unfolding step
-host-unchanged s b = ap (telling (damageIn (readingOf (s .edition) b .verdict))) (go (length (s .given)) refl)
-  where
-    go : (n : ℕ) → length (s .given) ≡ n → cond (waits s) (heard s (readingOf (s .edition) b)) (quiet s (unasked s)) ≡ hostBefore s b
-    go zero e = rw e
-    go (suc n) e = rw (e, lt-ltb 0 (suc n) (omega arith), ne-eqb (suc n) 0 (λ z. omega arith)) (heard-by s b)
+host-unchanged s b = ap (telling (damageIn (readingOf (s .edition) b .verdict))) (heard-by s b)

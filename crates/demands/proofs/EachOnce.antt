@@ -31,7 +31,8 @@ use Rattle.answers.proofs.Formed.{answered-formed}
 use Rattle.requests.specs.declared.Request.{Request}
 use Rattle.requests.specs.Request.{requestPacket, isRequest}
 use Rattle.host.specs.Machine.{start, burst, Move, idle, begun, step}
-use Rattle.demands.specs.HostAndBox.{EndsWith, StandsAs, AllAnswered, ends, sendingsIn, EachOnce}
+use Rattle.demands.specs.HostAndBox.{EndsWith, StandsAs, AllAnswered, ends, EachOnce}
+use Rattle.demands.specs.HostCalls.{sendingsIn}
 use Rattle.demands.proofs.Each.{changedBy, changed, answered-each, kept-names}
 use Rattle.demands.proofs.HostAndBox.{lossless}
 

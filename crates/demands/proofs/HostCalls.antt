@@ -1,6 +1,6 @@
 -- Calls of the host one after the other. Assumes nothing.
 use Prim.Native.Nat.{ℕ}
-use mathlib.Core.Bool.{Bool, true, false, cond, and-true, _&&_}
+use mathlib.Core.Bool.{Bool, true, false, cond}
 use mathlib.Core.Path.{_≡_, refl, sym, ap, _∙_}
 use mathlib.Core.List.{List, [], _∷_, _++_, flatten, append-nil, append-assoc}
 use native.Mathlib.Omega.{arith}
@@ -8,57 +8,21 @@ use borrow.Author.Tests.{ne-eqb}
 use lib.Dec.{eqb}
 use lib.ListN.{length, take, drop}
 use lib.Seq.{take-append-seam}
-use Rattle.lists.specs.Lists.{same, laidOver}
-use Rattle.settings.specs.Settings.{getCode}
-use Rattle.codes.specs.declared.Found.{Found}
-use Rattle.codes.specs.Found.{foundBy}
-use Rattle.models.specs.Models.{allowedFor}
+use Rattle.lists.specs.Lists.{laidOver}
 use Rattle.packet.specs.declared.Damage.{Damage}
 use Rattle.packet.specs.declared.Edition.{Edition}
-use Rattle.packet.specs.Packet.{isIntact, dataOf, packetOf}
-use Rattle.packet.specs.Reading.{readingOf}
-use Rattle.requests.specs.declared.Request.{Request}
-use Rattle.requests.specs.declared.Said.{Said}
 use Rattle.packet.specs.Answered.{isHeard}
+use Rattle.packet.specs.Packet.{packetOf}
+use Rattle.requests.specs.declared.Request.{Request}
 use Rattle.requests.specs.Request.{requestPacket, isRequest}
-use Rattle.requests.specs.Said.{isControl, isReport, endedBy, wordIn}
 use Rattle.host.specs.declared.Host.{Host}
 use Rattle.host.specs.declared.End.{End}
 use Rattle.host.specs.declared.Outcome.{Outcome}
 use Rattle.host.specs.declared.Refusal.{Refusal}
-use Rattle.host.specs.Heard.{saidTo}
 use Rattle.host.specs.Machine.{start, State, Move, waitingFor, waits, move, quiet, over, begun, telling, step}
 use Rattle.host.specs.Calls.{hostOf, stateOf, stepOf, bytesOf, call}
 use Rattle.host.proofs.Answers.{host-back}
-use Rattle.demands.specs.HostCalls.{Call, hasRoom, answerTo, outputAfter, givenOut, hostAfter, packets, dataIn, endsBy, said}
-use Rattle.demands.specs.Editions.{heeds}
-use Rattle.demands.proofs.Editions.{heeded}
-
--- What a burst says to a request.
-
-pub data-in : (edition : Edition) (b : List ℕ) → isIntact edition b ≡ true → dataOf edition b ≡ dataIn edition b
-unfolding dataOf
-data-in Edition.Sicp185 b e = rw e
-data-in Edition.Sicp201 b e = rw e
-
-ends-by : (r : Request) (f : Found) (d : List ℕ) → endedBy (r .model) f d ≡ endsBy r f d
-unfolding endedBy isControl isReport same
-ends-by r (Found.Set row) d = refl
-ends-by r (Found.Get row) [] = refl
-ends-by r (Found.Get row) (c ∷ values) = rw (and-true (eqb c (getCode row)))
-ends-by r Found.Nothing d = refl
-
-word-in : (r : Request) (d : List ℕ) → wordIn (r .model) (r .code) d ≡ cond (same d (0x00 ∷ 0x15 ∷ [])) Said.Nack (cond (same d (0x00 ∷ 0x18 ∷ [])) Said.Nav (endsBy r (foundBy (r .code)) d))
-unfolding wordIn isControl
-word-in r d = rw (ends-by r (foundBy (r .code)) d)
-
-pub said-is : (edition : Edition) (r : Request) (b : List ℕ) → saidTo r (readingOf edition b) ≡ said edition r b
-said-is edition r b = heeded edition r b ∙ go (isIntact edition b) refl
-  where
-    go : (t : Bool) → isIntact edition b ≡ t
-        → cond (isIntact edition b && heeds edition r b) (wordIn (r .model) (r .code) (dataOf edition b)) Said.Nothing ≡ said edition r b
-    go true e = rw (data-in edition b e, word-in r (dataIn edition b))
-    go false e = rw e
+use Rattle.demands.specs.HostCalls.{Call, hasRoom, answerTo, outputAfter, givenOut, hostAfter, packets}
 
 -- What a call gives out is the packet of its move.
 
@@ -136,14 +100,7 @@ module _ (s : State) (r : Request) where
   unfolding step begun
   start-by = refl
 
--- what an outcome tells of a request that is over
-abbrev pub countIn : Outcome → ℕ
-countIn Outcome.Idle = 0
-countIn Outcome.Resting = 0
-countIn Outcome.Waiting = 0
-countIn (Outcome.Over e n) = n
-countIn (Outcome.Refused r) = 0
-
+-- how a request ended that an outcome tells to be over
 abbrev pub endIn : Outcome → End
 endIn Outcome.Idle = End.Unheard
 endIn Outcome.Resting = End.Unheard

@@ -16,9 +16,9 @@ use Rattle.host.specs.declared.Refusal.{Refusal}
 use Rattle.host.specs.Machine.{Happening, start, burst, mark, State, Move, free, idle, sendings, mostSendings, isOver, step}
 use Rattle.host.specs.Calls.{hostOf, stateOf, stepOf, call}
 use Rattle.host.proofs.EachMove.{MayEnd, step-holds}
-use Rattle.demands.specs.HostCalls.{Call, hasRoom, answerTo, givenOut, hostAfter, packets, noneOver}
-use Rattle.demands.specs.LateAck.{markDue, RestsAfter, isMark, noMark, RestsUntilMark, LateAck, IdleStays}
-use Rattle.demands.proofs.HostCalls.{none-given, Stays, stays, refused, roomy, after-both, packets-both, countIn, endIn}
+use Rattle.demands.specs.HostCalls.{Call, hasRoom, answerTo, givenOut, hostAfter, packets, noneOver, sendingsIn}
+use Rattle.demands.specs.LateAck.{markDue, RestsAfter, isMark, noMark, RestsUntilMark, LateAck}
+use Rattle.demands.proofs.HostCalls.{none-given, Stays, stays, refused, roomy, after-both, packets-both, endIn}
 
 -- A request that is over.
 
@@ -29,7 +29,7 @@ goes-on : (s : State) (o : Outcome) (next : State) → isOver o ≡ false → Re
 goes-on s o next f e n q = absurd (false≢true (sym f ∙ ap isOver q))
 
 is-over : (s : State) (how : End) (sent : ℕ) → ltb 1 sent ≡ markDue how sent → Rests s (Outcome.Over how sent) (free (s .edition) (ltb 1 sent))
-is-over s how sent due e n q = ap (free (s .edition)) (due ∙ ap (λ (o : Outcome). markDue (endIn o) (countIn o)) q)
+is-over s how sent due e n q = ap (free (s .edition)) (due ∙ ap (λ (o : Outcome). markDue (endIn o) (sendingsIn o)) q)
 
 due : (s : State) (e : End) → MayEnd s e → ltb 1 (sendings s) ≡ markDue e (sendings s)
 due s End.Unheard may = absurd may
@@ -112,14 +112,3 @@ late-ack host c e n q marked-due cs quiet last room marked =
       after-both (answerTo host c .host) cs (last ∷ []) ∙ rw (rests, same-host) woken,
       rw rests (packets-both (resting edition) cs (last ∷ []) ∙ rw (none, same-host, none-woken)),
     )
-
-pub idle-stays : IdleStays
-unfolding step
-idle-stays edition c e = go (hasRoom c) refl
-  where
-    idling : Host
-    idling = hostOf (idle edition)
-
-    go : (t : Bool) → hasRoom c ≡ t → (answerTo idling c .host ≡ idling) × (givenOut idling c ≡ [])
-    go true room = let s = stays idling c Outcome.Idle Damage.Nothing (roomy idling c room ∙ ap (step (stateOf idling)) e) in (s .same-host, s .none)
-    go false short = let s = refused idling c short in (s .same-host, s .none)

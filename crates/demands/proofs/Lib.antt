@@ -21,7 +21,10 @@ pub mod HostAndBox
 pub mod EachOnce
 pub mod Editions
 pub mod HostCalls
+pub mod HostMoves
+pub mod WhileAsking
 pub mod Sendings
+pub mod Ignored
 pub mod LateAck
 pub mod WrongHosts
 pub mod WrongBoxes

@@ -1,11 +1,9 @@
 -- The numbers that calls refuse by. Assumes nothing.
-use Prim.Native.Nat.{ℕ, zero, suc, _+_, _*_}
+use Prim.Native.Nat.{ℕ, _+_, _*_}
 use mathlib.Core.Path.{_≡_, refl, ap, _∙_}
 use mathlib.Core.Bool.{Bool, true, false, cond, _&&_, _||_}
 use mathlib.Core.List.{List, [], _∷_, flatten}
 use mathlib.Core.Option.{none, some}
-use native.Mathlib.Omega.{arith}
-use borrow.Author.Tests.{lt-ltb, ne-eqb}
 use lib.Dec.{leb, ltb, eqb}
 use lib.ListN.{length, length-replicate}
 use Rattle.settings.specs.declared.Profile.{Profile}
@@ -43,6 +41,7 @@ use Rattle.image_write.specs.Written.{sizeOf, losesNothing, writtenOf as imageW
 use Rattle.image_write.proofs.Losing.{two-holds}
 use Rattle.demands.specs.HostCalls.{Call, hasRoom, answerTo}
 use Rattle.demands.proofs.HostCalls.{startBy, start-by, refused, roomy}
+use Rattle.demands.proofs.HostMoves.{some-or-none}
 use Rattle.demands.specs.Numbers.{Add, Remove, isPlain, allPlain, ImageOne, ImageTwo, Answer, mostData, Packet, Open, numberIn, startNumber, HostCall}
 
 pub add-number : Add
@@ -137,11 +136,6 @@ start-questions s r false true c d = refl
 start-questions s r false false true true = refl
 start-questions s r false false true false = refl
 start-questions s r false false false d = refl
-
--- of which the first is whether the packet was sent at least once;
-some-or-none : {A : Type 0} (n : ℕ) (x y : A) → cond (ltb 0 n) x y ≡ cond (eqb n 0) y x
-some-or-none zero x y = refl
-some-or-none (suc n) x y = rw (lt-ltb 0 (suc n) (omega arith), ne-eqb (suc n) 0 (λ e. omega arith))
 
 -- a burst and a mark, which are taken
 module _ (s : State) where

@@ -18,7 +18,7 @@ use Rattle.host.specs.declared.Outcome.{Outcome}
 use Rattle.host.specs.Heard.{saidBy, saidTo}
 use Rattle.host.specs.Machine.{idle, begun, again, ending, heard, step}
 use Rattle.demands.specs.WrongHosts.{outcomes, alwaysThree, busyPanel, Booked, Differs, HostsDiffer}
-use Rattle.demands.proofs.HostCalls.{countIn}
+use Rattle.demands.specs.HostCalls.{sendingsIn}
 
 pub booked : Booked
 unfolding settings foundFrom allowedByRow within allAllowed filled flatten _⊕_ xorAll isIntact verdictOf dataOf isHeard same isTaken isRequest isControl endedBy wordIn saidBy saidTo begun again ending heard step outcomes
@@ -27,7 +27,7 @@ booked Edition.Sicp201 = (refl, refl)
 
 -- the sendings that the kth outcome tells
 abbrev told : ℕ → List Outcome → ℕ
-told k l = countIn (getD l k Outcome.Idle)
+told k l = sendingsIn (getD l k Outcome.Idle)
 
 three : (edition : Edition) → told 2 (outcomes alwaysThree (idle edition) (busyPanel edition)) ≡ 3
 unfolding settings foundFrom allowedByRow within allAllowed filled flatten _⊕_ xorAll isIntact verdictOf dataOf isHeard same isTaken isRequest isControl endedBy wordIn saidBy saidTo begun again ending heard step outcomes

@@ -2,10 +2,9 @@
 use Prim.Native.Nat.{ℕ}
 use mathlib.Core.Bool.{true, cond, not, _&&_, _||_}
 use mathlib.Core.Path.{_≡_}
-use mathlib.Core.List.{List, [], _∷_, foldl}
+use mathlib.Core.List.{List, [], foldl}
 use lib.Dec.{leb, eqb}
-use lib.ListN.{length, getD, drop}
-use Rattle.lists.specs.Lists.{same}
+use lib.ListN.{length, getD}
 use Rattle.packet.specs.declared.Edition.{Edition}
 use Rattle.packet.specs.declared.Addressee.{Addressee}
 use Rattle.packet.specs.declared.Damage.{Damage}
@@ -19,12 +18,8 @@ use Rattle.answers.specs.Reply.{silence}
 use Rattle.answers.specs.Judged.{command}
 use Rattle.answers.specs.Played.{Outcome, playedPacket, nackFrom, answered}
 use Rattle.line.specs.Receiver.{receiverOf, withByte, atMark}
-use Rattle.host.specs.declared.Outcome.{Outcome as HostOutcome}
-use Rattle.requests.specs.declared.Said.{Said}
-use Rattle.requests.specs.Request.{requestData, requestPacket}
-use Rattle.host.specs.declared.End.{End}
-use Rattle.host.specs.Machine.{burst, State, Move, waitingFor, free, move, quiet, telling, step}
-use Rattle.demands.specs.HostCalls.{dataIn, said}
+use Rattle.host.specs.Machine.{burst, State, telling, step}
+use Rattle.demands.specs.HostMoves.{dataIn, heardBy}
 
 -- what is told of a burst
 abbrev pub told : Edition → List ℕ → Damage
@@ -84,30 +79,6 @@ before edition w b =
 abbrev pub Unchanged : Type 0
 Unchanged = (edition : Edition) (w : Wall) (b : List ℕ) → answered w (readingOf edition b) ≡ before edition w b
 
--- The host's move without this request, by 01. Where a request is over, its answer tells how it ended and how often it was sent, and
--- the host rests where that was more than once (A12).
-abbrev pub ended : State → End → List ℕ → Move
-ended s e vs = let n = length (s .given) in move (free (s .edition) (leb 2 n)) [] (HostOutcome.Over e n) vs
-
--- NACK: the same packet again, or, after the third sending, given up
-abbrev pub sentAgain : State → Move
-sentAgain s =
-    let p = requestPacket (s .edition) (s .request) in
-    cond (leb 3 (length (s .given))) (ended s End.GivenUp []) (move (waitingFor (s .edition) (s .request) (p ∷ s .given)) (p ∷ []) HostOutcome.Waiting [])
-
--- ACK, report and NAV end it, NAV to a power off that was sent more than once as "off or refused" (A5); everything else is ignored
-abbrev pub movedBy : State → List ℕ → Said → Move
-movedBy s d Said.Ack = ended s End.Ack []
-movedBy s d Said.Nack = sentAgain s
-movedBy s d Said.Nav = ended s (cond (same (requestData (s .request)) (0x18 ∷ 1 ∷ []) && leb 2 (length (s .given))) End.OffOrRefused End.Nav) []
-movedBy s d Said.Report = ended s End.Report (drop 1 d)
-movedBy s d Said.Nothing = quiet s HostOutcome.Waiting
-
-abbrev pub hostBefore : State → List ℕ → Move
-hostBefore s b =
-    cond (eqb (length (s .given)) 0) (quiet s (cond (s .resting) HostOutcome.Resting HostOutcome.Idle))
-    (movedBy s (dataIn (s .edition) b) (said (s .edition) (s .request) b))
-
--- and the host's move is that, with what is wrong with the burst beside it, whatever the host waits for.
+-- and the host's move is what it is by 01, with what is wrong with the burst beside it, whatever the host waits for.
 abbrev pub HostUnchanged : Type 0
-HostUnchanged = (s : State) (b : List ℕ) → step s (burst b) ≡ telling (told (s .edition) b) (hostBefore s b)
+HostUnchanged = (s : State) (b : List ℕ) → step s (burst b) ≡ telling (told (s .edition) b) (heardBy s b)

@@ -24,6 +24,7 @@ use Rattle.requests.specs.Request.{valuesOf as requestValues, requestPacket, is
 use Rattle.host.specs.declared.End.{End}
 use Rattle.host.specs.declared.Outcome.{Outcome}
 use Rattle.host.specs.Machine.{start, burst, mark, State, Move, waitingFor, idle, over, step, mostSendings}
+use Rattle.demands.specs.HostCalls.{sendingsIn}
 
 -- the host that was started with a request, and to which the mark then came n times
 abbrev pub asking : Edition → Request → ℕ → State
@@ -80,13 +81,6 @@ ends edition s w (r ∷ rs) =
     m .outcome ∷ ends edition (m .next) (o .wall) rs
 
 -- Each is over and was sent once: none is sent again, and no start is refused, not by 24 either.
-abbrev pub sendingsIn : Outcome → ℕ
-sendingsIn Outcome.Idle = 0
-sendingsIn Outcome.Resting = 0
-sendingsIn Outcome.Waiting = 0
-sendingsIn (Outcome.Over e n) = n
-sendingsIn (Outcome.Refused r) = 0
-
 abbrev pub EachOnce : Type 0
 EachOnce =
     (edition : Edition) (t : Table) → WellFormed t → (rs : List Request) → AllAnswered edition (panelsOf t) rs

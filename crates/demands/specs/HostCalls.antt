@@ -1,24 +1,15 @@
--- Calls of the host one after the other, each with an output that is lent for a packet. 01, "Host side"; what a burst says to a
--- request, written out by its bytes.
-use Prim.Native.Nat.{ℕ, _-_}
+-- Calls of the host one after the other, each with an output that is lent for a packet. 01, "Host side".
+use Prim.Native.Nat.{ℕ}
 use mathlib.Core.Bool.{Bool, true, cond, not, _&&_}
 use mathlib.Core.List.{List, [], _∷_, _++_}
 use lib.Dec.{leb, eqb}
-use lib.ListN.{length, take, drop}
-use Rattle.lists.specs.Lists.{same, laidOver}
-use Rattle.settings.specs.Settings.{getCode}
-use Rattle.codes.specs.declared.Found.{Found}
-use Rattle.codes.specs.Found.{foundBy}
-use Rattle.models.specs.Models.{allowedFor}
-use Rattle.packet.specs.declared.Edition.{Edition}
-use Rattle.packet.specs.Packet.{isIntact}
-use Rattle.requests.specs.declared.Request.{Request}
-use Rattle.requests.specs.declared.Said.{Said}
+use lib.ListN.{length, take}
+use Rattle.lists.specs.Lists.{laidOver}
 use Rattle.host.specs.declared.Host.{Host}
 use Rattle.host.specs.declared.Step.{Step}
+use Rattle.host.specs.declared.Outcome.{Outcome}
 use Rattle.host.specs.Machine.{Happening, isOver}
 use Rattle.host.specs.Calls.{stateOf, stepOf, bytesOf, call}
-use Rattle.demands.specs.Editions.{heeds}
 
 -- what happens, and the output that is lent for it
 pub record Call : Type 0 where
@@ -53,21 +44,10 @@ abbrev pub noneOver : Host → List Call → Bool
 noneOver host [] = true
 noneOver host (c ∷ cs) = not (isOver (answerTo host c .outcome)) && noneOver (answerTo host c .host) cs
 
--- the data of a packet: size, ID, on 2.01 group, data, checksum
-abbrev pub dataIn : Edition → List ℕ → List ℕ
-dataIn Edition.Sicp185 b = take (length b - 3) (drop 2 b)
-dataIn Edition.Sicp201 b = take (length b - 4) (drop 3 b)
-
--- for a set ACK, 00 06; for a get its report, the get code and then values that the panel may hold
-abbrev pub endsBy : Request → Found → List ℕ → Said
-endsBy r (Found.Set row) d = cond (same d (0x00 ∷ 0x06 ∷ [])) Said.Ack Said.Nothing
-endsBy r (Found.Get row) d = cond (same (take 1 d) (getCode row ∷ []) && allowedFor (r .model) row (drop 1 d)) Said.Report Said.Nothing
-endsBy r Found.Nothing d = Said.Nothing
-
--- for either NACK, 00 15, or NAV, 00 18; and nothing, where the burst is not intact, or is not heeded
-abbrev pub said : Edition → Request → List ℕ → Said
-said edition r b =
-    let d = dataIn edition b in
-    cond (isIntact edition b && heeds edition r b)
-    (cond (same d (0x00 ∷ 0x15 ∷ [])) Said.Nack (cond (same d (0x00 ∷ 0x18 ∷ [])) Said.Nav (endsBy r (foundBy (r .code)) d)))
-    Said.Nothing
+-- how often the packet was sent of a request that is over; 0 where none is
+abbrev pub sendingsIn : Outcome → ℕ
+sendingsIn Outcome.Idle = 0
+sendingsIn Outcome.Resting = 0
+sendingsIn Outcome.Waiting = 0
+sendingsIn (Outcome.Over e n) = n
+sendingsIn (Outcome.Refused r) = 0

@@ -1,5 +1,6 @@
 -- The late ACK. 02, A12: after a request that was sent more than once and answered or given up, the host must hear one 500 ms mark
--- before the next start; bursts until then are ignored. That a start before it is refused by 24 is in `Numbers`.
+-- before the next start; bursts until then are ignored. That a start before it is refused by 24 is in `Numbers`, the mark's own move in
+-- `HostMoves`.
 use Prim.Native.Nat.{ℕ}
 use mathlib.Core.Bool.{Bool, true, false, not, _&&_}
 use mathlib.Core.Path.{_≡_}
@@ -11,7 +12,7 @@ use Rattle.host.specs.declared.End.{End}
 use Rattle.host.specs.declared.Outcome.{Outcome}
 use Rattle.host.specs.Machine.{Happening, start, burst, mark, free, idle}
 use Rattle.host.specs.Calls.{hostOf}
-use Rattle.demands.specs.HostCalls.{Call, hasRoom, answerTo, givenOut, hostAfter, packets, noneOver}
+use Rattle.demands.specs.HostCalls.{Call, hasRoom, answerTo, hostAfter, packets, noneOver}
 
 -- whether a mark is due after a request that ended so and was sent n times: ACK, NAV, "off or refused" and a report are answers; what is
 -- given up, or "off or refused", was sent more than once, and what is unheard once
@@ -52,9 +53,3 @@ LateAck =
     (host : Host) (c : Call) (e : End) (n : ℕ) → answerTo host c .outcome ≡ Outcome.Over e n → markDue e n ≡ true
     → (cs : List Call) → noMark cs ≡ true → (last : Call) → hasRoom last ≡ true → last .happens ≡ mark
     → (hostAfter host (c ∷ cs ++ last ∷ []) ≡ hostOf (idle (host .edition))) × (packets (answerTo host c .host) (cs ++ last ∷ []) ≡ [])
-
--- A mark leaves an idle host idle.
-abbrev pub IdleStays : Type 0
-IdleStays =
-    (edition : Edition) (c : Call) → c .happens ≡ mark
-    → let host = hostOf (idle edition) in (answerTo host c .host ≡ host) × (givenOut host c ≡ [])

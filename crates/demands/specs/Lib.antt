@@ -20,6 +20,7 @@ pub mod WrongBoxes
 pub mod HostAndBox
 pub mod Editions
 pub mod HostCalls
+pub mod HostMoves
 pub mod Sendings
 pub mod LateAck
 pub mod WrongHosts

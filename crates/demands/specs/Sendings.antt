@@ -2,13 +2,15 @@
 -- third NACK or 500 ms mark, whatever else arrives; the result carries how many times the packet was sent, the number given out
 -- since start; everything else is ignored.
 use Prim.Native.Nat.{ℕ, suc, _+_, _≤_}
-use mathlib.Core.Bool.{Bool, true, false, cond, not, _&&_}
+use mathlib.Core.Bool.{Bool, true, false, cond, _&&_}
 use mathlib.Core.Path.{_≡_}
 use mathlib.Core.List.{List, [], _∷_, _++_}
 use lib.Dec.{eqb}
 use lib.ListN.{length, replicate}
+use Rattle.lists.specs.Lists.{same}
 use Rattle.packet.specs.declared.Edition.{Edition}
 use Rattle.packet.specs.Answered.{isHeard}
+use Rattle.packet.specs.Packet.{isIntact}
 use Rattle.requests.specs.declared.Request.{Request}
 use Rattle.requests.specs.declared.Said.{Said}
 use Rattle.requests.specs.Request.{requestPacket}
@@ -16,25 +18,31 @@ use Rattle.host.specs.declared.Host.{Host}
 use Rattle.host.specs.declared.End.{End}
 use Rattle.host.specs.declared.Outcome.{Outcome}
 use Rattle.host.specs.Machine.{Happening, start, burst, mark}
-use Rattle.demands.specs.HostCalls.{Call, hasRoom, answerTo, outputAfter, givenOut, hostAfter, packets, noneOver, said}
+use Rattle.demands.specs.HostCalls.{Call, hasRoom, answerTo, outputAfter, givenOut, hostAfter, packets, noneOver}
+use Rattle.demands.specs.HostMoves.{dataIn, said}
+use Rattle.demands.specs.Numbers.{numberIn}
+use Rattle.demands.specs.Editions.{heeds}
 
 -- a NACK to the request, or a mark
-abbrev pub isNack : Said → Bool
-isNack Said.Ack = false
-isNack Said.Nack = true
-isNack Said.Nav = false
-isNack Said.Report = false
-isNack Said.Nothing = false
+abbrev pub isNack : Edition → Request → List ℕ → Bool
+isNack edition r b = isIntact edition b && (heeds edition r b && same (dataIn edition b) (0x00 ∷ 0x15 ∷ []))
 
 abbrev pub pushes : Edition → Request → Happening → Bool
 pushes edition r (start other) = false
-pushes edition r (burst b) = isNack (said edition r b)
+pushes edition r (burst b) = isNack edition r b
 pushes edition r mark = true
 
 -- how many of them are among calls; one that 19 refuses does not count
 abbrev pub pushed : Edition → Request → List Call → ℕ
 pushed edition r [] = 0
 pushed edition r (c ∷ cs) = cond (hasRoom c && pushes edition r (c .happens)) 1 0 + pushed edition r cs
+
+-- A start that is not refused gives the request's packet out. Where an answer is due the request waits; else it is over, unheard.
+abbrev pub Started : Type 0
+Started =
+    (host : Host) (r : Request) (first : Call) → first .happens ≡ start r → numberIn (answerTo host first .outcome) ≡ 0
+    → (givenOut host first ≡ requestPacket (host .edition) r ∷ [])
+    × (answerTo host first .outcome ≡ cond (isHeard (r .id) (r .group)) Outcome.Waiting (Outcome.Over End.Unheard 1))
 
 -- A start tells that it waits, so the request is taken; and of the calls behind it none has told yet that it is over.
 abbrev pub WhileItLasts : (Host → Request → List Call → Type 0) → Type 0
@@ -55,28 +63,14 @@ OwnPackets =
 
 -- The call that ends it gives none out and tells how many were given out since start. It was given up where this call is the third of
 -- these, and only there.
-abbrev pub isGivenUp : End → Bool
-isGivenUp End.Unheard = false
-isGivenUp End.Ack = false
-isGivenUp End.Nav = false
-isGivenUp End.OffOrRefused = false
-isGivenUp End.Report = false
-isGivenUp End.GivenUp = true
-
 abbrev pub Counted : Type 0
 Counted =
     WhileItLasts (λ (host : Host) (r : Request) (cs : List Call).
     (c : Call) (e : End) (n : ℕ)
     → let h = hostAfter host cs in
     answerTo h c .outcome ≡ Outcome.Over e n
-    → (n ≡ length (packets host cs)) × (givenOut h c ≡ []) × (isGivenUp e ≡ eqb (pushed (host .edition) r (cs ++ c ∷ [])) 3))
-
--- A start that tells that the request is over has given its packet out once, and no answer is due.
-abbrev pub OverUnheard : Type 0
-OverUnheard =
-    (host : Host) (r : Request) (first : Call) (e : End) (n : ℕ)
-    → first .happens ≡ start r → answerTo host first .outcome ≡ Outcome.Over e n
-    → (e ≡ End.Unheard) × (n ≡ 1) × (givenOut host first ≡ requestPacket (host .edition) r ∷ []) × (isHeard (r .id) (r .group) ≡ false)
+    → let k = pushed (host .edition) r (cs ++ c ∷ []) in
+    (n ≡ length (packets host cs)) × (givenOut h c ≡ []) × (e ≡ End.GivenUp → k ≡ 3) × (k ≡ 3 → e ≡ End.GivenUp))
 
 -- Calls that 19 refuses are as if they had not been made.
 abbrev pub withRoom : List Call → List Call
