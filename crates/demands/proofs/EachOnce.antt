@@ -4,7 +4,7 @@ use mathlib.Core.Bool.{Bool, true, false, cond}
 use mathlib.Core.Path.{_≡_, refl, sym, ap, subst, _∙_}
 use mathlib.Core.List.{List, [], _∷_, map}
 use native.Mathlib.Omega.{arith}
-use lib.ListN.{length, getD, replicate}
+use lib.ListN.{getD}
 use Rattle.settings.specs.Settings.{kindRow}
 use Rattle.codes.specs.declared.Found.{Found}
 use Rattle.codes.specs.Found.{foundBy}
@@ -31,7 +31,7 @@ use Rattle.answers.proofs.Formed.{answered-formed}
 use Rattle.requests.specs.declared.Request.{Request}
 use Rattle.requests.specs.Request.{requestPacket, isRequest}
 use Rattle.host.specs.Machine.{start, burst, Move, idle, begun, step}
-use Rattle.demands.specs.HostAndBox.{EndsWith, StandsAs, AllAnswered, ends, EachOnce}
+use Rattle.demands.specs.HostAndBox.{EndsWith, StandsAs, AllAnswered, EachOnce}
 use Rattle.demands.specs.HostCalls.{sendingsIn}
 use Rattle.demands.proofs.Each.{changedBy, changed, answered-each, kept-names}
 use Rattle.demands.proofs.HostAndBox.{lossless}

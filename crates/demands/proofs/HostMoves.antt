@@ -18,9 +18,8 @@ use Rattle.requests.specs.declared.Request.{Request}
 use Rattle.requests.specs.declared.Said.{Said}
 use Rattle.requests.specs.Request.{isPowerOff}
 use Rattle.requests.specs.Said.{isControl, isReport, endedBy, wordIn}
-use Rattle.host.specs.declared.Outcome.{Outcome}
 use Rattle.host.specs.Heard.{saidTo}
-use Rattle.host.specs.Machine.{mark, State, waits, idle, quiet, unasked, again, navEnds, ending, heard, step}
+use Rattle.host.specs.Machine.{State, waits, quiet, unasked, again, navEnds, ending, heard, step}
 use Rattle.demands.specs.Editions.{heeds}
 use Rattle.demands.specs.HostMoves.{dataIn, endsBy, said, sentAgain, movedBy, heardBy, MarkMoves}
 use Rattle.demands.proofs.Editions.{heeded}

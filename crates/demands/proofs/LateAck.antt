@@ -1,8 +1,8 @@
 -- The late ACK. Assumes nothing.
 use Prim.Native.Nat.{ℕ}
 use mathlib.Core.Bool.{Bool, true, false, not, false≢true, _&&_}
-use mathlib.Core.Path.{_≡_, refl, sym, ap, subst, _∙_}
-use mathlib.Core.List.{List, [], _∷_, _++_}
+use mathlib.Core.Path.{_≡_, refl, sym, ap, _∙_}
+use mathlib.Core.List.{List, [], _∷_}
 use native.Mathlib.Omega.{arith}
 use borrow.Author.Tests.{ltb-false, lt-ltb}
 use lib.Dec.{ltb}
@@ -14,7 +14,7 @@ use Rattle.host.specs.declared.End.{End}
 use Rattle.host.specs.declared.Outcome.{Outcome}
 use Rattle.host.specs.declared.Refusal.{Refusal}
 use Rattle.host.specs.Machine.{Happening, start, burst, mark, State, Move, free, idle, sendings, mostSendings, isOver, step}
-use Rattle.host.specs.Calls.{hostOf, stateOf, stepOf, call}
+use Rattle.host.specs.Calls.{hostOf, stateOf, stepOf}
 use Rattle.host.proofs.EachMove.{MayEnd, step-holds}
 use Rattle.demands.specs.HostCalls.{Call, hasRoom, answerTo, givenOut, hostAfter, packets, noneOver, sendingsIn}
 use Rattle.demands.specs.LateAck.{markDue, RestsAfter, isMark, noMark, RestsUntilMark, LateAck}

@@ -39,7 +39,7 @@ use Rattle.image_forms.specs.declared.Form.{Form}
 use Rattle.image_forms.specs.Forms.{keeps}
 use Rattle.image_write.specs.Written.{sizeOf, losesNothing, writtenOf as imageWritten, refusalNumber as imageNumber}
 use Rattle.image_write.proofs.Losing.{two-holds}
-use Rattle.demands.specs.HostCalls.{Call, hasRoom, answerTo}
+use Rattle.demands.specs.HostCalls.{hasRoom, answerTo}
 use Rattle.demands.proofs.HostCalls.{startBy, start-by, refused, roomy}
 use Rattle.demands.proofs.HostMoves.{some-or-none}
 use Rattle.demands.specs.Numbers.{Add, Remove, isPlain, allPlain, ImageOne, ImageTwo, Answer, mostData, Packet, Open, numberIn, startNumber, HostCall}
