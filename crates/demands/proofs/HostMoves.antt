@@ -86,7 +86,7 @@ pub some-or-none : {A : Type 0} (n : ℕ) (x y : A) → cond (ltb 0 n) x y ≡ c
 some-or-none zero x y = refl
 some-or-none (suc n) x y = rw (lt-ltb 0 (suc n) (omega arith), ne-eqb (suc n) 0 (λ e. omega arith))
 
-pub heard-by : (s : State) (b : List ℕ) → cond (waits s) (heard s (readingOf (s .edition) b)) (quiet s (unasked s)) ≡ heardBy s b
+pub heard-by : (s : State) (b : List ℕ) → cond (waits s) (heard s (readingOf (s .edition) b)) (quiet s (unasked (s .resting))) ≡ heardBy s b
 heard-by s b = rw (waiting-by s b) (some-or-none (length (s .given)) _ _)
 
 pub mark-moves : MarkMoves

@@ -41,7 +41,7 @@ not-counted host (c ∷ cs) = counted-or-not host c cs (not-counted (answerTo ho
 
 -- A burst that is ignored.
 
-not-over : (z resting : Bool) → isOver (cond z (cond resting Outcome.Resting Outcome.Idle) Outcome.Waiting) ≡ false
+not-over : (z resting : Bool) → isOver (cond z (unasked resting) Outcome.Waiting) ≡ false
 not-over true true = refl
 not-over true false = refl
 not-over false resting = refl
@@ -51,7 +51,7 @@ module _ (host : Host) (b lent : List ℕ) (nothing : eqb (host .sendings) 0 ≡
   heardCall = record { happens = burst b; lent = lent }
 
   abbrev passed : Outcome
-  passed = cond (eqb (host .sendings) 0) (unasked (stateOf host)) Outcome.Waiting
+  passed = cond (eqb (host .sendings) 0) (unasked (host .resting)) Outcome.Waiting
 
   passes : step (stateOf host) (burst b) ≡ telling (damageIn (readingOf (host .edition) b .verdict)) (quiet (stateOf host) passed)
   unfolding step heard ending

@@ -158,13 +158,13 @@ module _ (s : State) where
   ending-taken d Said.Report = refl
   ending-taken d Said.Nothing = refl
 
-  unasked-taken : (resting : Bool) → numberIn (cond resting Outcome.Resting Outcome.Idle) ≡ 0
+  unasked-taken : (resting : Bool) → numberIn (unasked resting) ≡ 0
   unasked-taken true = refl
   unasked-taken false = refl
 
   burst-taken : (b : List ℕ) → Taken (step s (burst b))
   unfolding step heard
-  burst-taken b = either (waits s) (heard s (readingOf (s .edition) b)) (quiet s (unasked s)) (ending-taken _ (saidTo (s .request) (readingOf (s .edition) b))) (unasked-taken (s .resting))
+  burst-taken b = either (waits s) (heard s (readingOf (s .edition) b)) (quiet s (unasked (s .resting))) (ending-taken _ (saidTo (s .request) (readingOf (s .edition) b))) (unasked-taken (s .resting))
 
   mark-taken : Taken (step s mark)
   unfolding step

@@ -34,12 +34,6 @@ use Rattle.demands.specs.Sendings.{isNack, pushes, pushed}
 use Rattle.demands.proofs.HostCalls.{given, none-given, one-given, packet-some, without-room, roomy, endIn}
 use Rattle.demands.proofs.HostMoves.{said-is}
 
--- One call while a request waits whose packet was sent n times; `push` says whether it is a NACK or a mark that counts.
-
-abbrev more : Bool → ℕ → ℕ
-more true n = suc n
-more false n = n
-
 abbrev pub isGivenUp : End → Bool
 isGivenUp End.Unheard = false
 isGivenUp End.Ack = false
@@ -88,6 +82,12 @@ nack-said edition r b =
     go true true true v w e = refl
     go true true false true w e = refl
     go true true false false w e = e
+
+-- One call while a request waits whose packet was sent n times; `push` says whether it is a NACK or a mark that counts.
+
+abbrev more : Bool → ℕ → ℕ
+more true n = suc n
+more false n = n
 
 module _ (edition : Edition) (r : Request) where
   abbrev pub packet : List ℕ

@@ -42,7 +42,7 @@ module _ (s : State) (P : Move → Type 0) (each : EachMove s P) where
   either true h k = h
   either false h k = k
 
-  unasked-goes : (resting : Bool) → isOver (cond resting Outcome.Resting Outcome.Idle) ≡ false
+  unasked-goes : (resting : Bool) → isOver (unasked resting) ≡ false
   unasked-goes true = refl
   unasked-goes false = refl
 
@@ -77,5 +77,5 @@ module _ (s : State) (P : Move → Type 0) (each : EachMove s P) where
       either (waits s) (each .stays _ refl)
       (either (s .resting) (each .stays _ refl)
       (either (isRequest (s .edition) r) (either (isHeard (r .id) (r .group)) (each .starts r) (each .unheard r)) (each .stays _ refl)))
-  step-holds (burst b) = each .tells _ _ (either (waits s) (ending-holds _ (saidTo (s .request) (readingOf (s .edition) b))) (each .stays (unasked s) (unasked-goes (s .resting))))
+  step-holds (burst b) = each .tells _ _ (either (waits s) (ending-holds _ (saidTo (s .request) (readingOf (s .edition) b))) (each .stays (unasked (s .resting)) (unasked-goes (s .resting))))
   step-holds mark = either (waits s) again-holds (each .rested)

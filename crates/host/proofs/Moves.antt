@@ -37,7 +37,7 @@ some n h = omega arith
 module _ (out : List ℕ) (host : Host) (room : longest ≤ length out) where
   -- nothing waits
   module _ (e : host .sendings ≡ 0) where
-    pub idle-burst : (b : List ℕ) → call out (stateOf host) (burst b) ≡ telling (damageIn (readingOf (host .edition) b .verdict)) (quiet (stateOf host) (unasked (stateOf host)))
+    pub idle-burst : (b : List ℕ) → call out (stateOf host) (burst b) ≡ telling (damageIn (readingOf (host .edition) b .verdict)) (quiet (stateOf host) (unasked (host .resting)))
     unfolding call step
     idle-burst b = rw (le-leb _ _ room, length-replicate, e)
 

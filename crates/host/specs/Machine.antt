@@ -97,8 +97,8 @@ abbrev pub over : State → List (List ℕ) → End → List ℕ → Move
 over s packets e vs = move (free (s .edition) (repeated s)) packets (Outcome.Over e (sendings s)) vs
 
 -- what is told while nothing waits
-abbrev pub unasked : State → Outcome
-unasked s = cond (s .resting) Outcome.Resting Outcome.Idle
+abbrev pub unasked : Bool → Outcome
+unasked resting = cond resting Outcome.Resting Outcome.Idle
 
 -- the packet is given out; where no answer is due, the request is over
 unfoldable pub begun : Edition → Request → Move
@@ -138,5 +138,5 @@ step s (start r) =
     cond (waits s) (quiet s (Outcome.Refused Refusal.Busy))
     (cond (s .resting) (quiet s (Outcome.Refused Refusal.Resting))
     (cond (isRequest (s .edition) r) (begun (s .edition) r) (quiet s (Outcome.Refused Refusal.NotARequest))))
-step s (burst b) = let reading = readingOf (s .edition) b in telling (damageIn (reading .verdict)) (cond (waits s) (heard s reading) (quiet s (unasked s)))
+step s (burst b) = let reading = readingOf (s .edition) b in telling (damageIn (reading .verdict)) (cond (waits s) (heard s reading) (quiet s (unasked (s .resting))))
 step s mark = cond (waits s) (again s) (quiet (idle (s .edition)) Outcome.Idle)

@@ -120,11 +120,11 @@ fn over(host: Host, sent: usize, end: End, v: &[u8]) -> Step
     }
 }
 
-// What a host tells to which nothing is due.
-fn unasked(host: Host) -> Outcome
-    ensures { λ r. ⌜ r ≡ unasked (stateOf host) ⌝ }
+// What a host tells while nothing waits, and it rests or not.
+fn unasked(resting: bool) -> Outcome
+    ensures { λ r. ⌜ r ≡ unasked resting ⌝ }
 {
-    if host.resting {
+    if resting {
         return Outcome::Resting;
     }
     Outcome::Idle
@@ -204,7 +204,7 @@ impl Host {
         let verdict = packet::verdict_of(edition, b);
         let damage = packet::damage_in(verdict);
         if self.sendings == 0 {
-            return telling(damage, plain(self, 0, unasked(self)));
+            return telling(damage, plain(self, 0, unasked(self.resting)));
         }
         let d = packet::data_of(edition, b, verdict);
         telling(damage, hearing::heeded(self, verdict, d, out))

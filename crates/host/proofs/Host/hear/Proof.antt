@@ -48,7 +48,7 @@ returns-2 c =
     let a = has .before .before .before .args in
     let free = answer .plain2 .ensures ∙ ap (plainStep (a .self) 0) (answer .before .unasked .ensures) in
     rw (idle-burst (a .out .now) (a .self) (has .if1 .left) (none .if2 .taken) (a .b .now))
-    (tells (quiet (stateOf (a .self)) (unasked (stateOf (a .self)))) _ _ (stays _ _ _ refl free) (c .telling .ensures ∙ told damage (answer .plain2 .result)))
+    (tells (quiet (stateOf (a .self)) (unasked (a .self .resting))) _ _ (stays _ _ _ refl free) (c .telling .ensures ∙ told damage (answer .plain2 .result)))
 
 data-of-requires : tie.Need-data-of-requires
 data-of-requires c κs = c .before .before .before .verdict-of .ensures
