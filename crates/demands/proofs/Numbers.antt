@@ -30,7 +30,6 @@ use Rattle.requests.specs.declared.Request.{Request}
 use Rattle.requests.specs.declared.Said.{Said}
 use Rattle.requests.specs.Request.{isRequest}
 use Rattle.host.specs.declared.Host.{Host}
-use Rattle.host.specs.declared.Outcome.{Outcome}
 use Rattle.host.specs.Heard.{saidTo}
 use Rattle.host.specs.Machine.{Happening, start, burst, mark, State, Move, mostSendings, sendings, waits, quiet, unasked, again, ending, heard, step}
 use Rattle.host.specs.Calls.{stateOf, stepOf}
