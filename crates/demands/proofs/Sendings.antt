@@ -13,13 +13,13 @@ use Rattle.requests.specs.Request.{requestPacket, isRequest}
 use Rattle.host.specs.declared.Host.{Host}
 use Rattle.host.specs.declared.End.{End}
 use Rattle.host.specs.declared.Outcome.{Outcome}
-use Rattle.host.specs.Machine.{start, State, Move, waits, move, step}
+use Rattle.host.specs.Machine.{start, State, Move, idle, waits, move, step}
 use Rattle.host.specs.Calls.{hostOf, stateOf, stepOf, call}
 use Rattle.demands.specs.HostCalls.{Call, hasRoom, answerTo, givenOut, hostAfter, packets, noneOver}
 use Rattle.demands.specs.Numbers.{numberIn}
 use Rattle.demands.specs.Sendings.{pushed, Started, OverWithThird, OwnPackets, Counted}
 use Rattle.demands.proofs.HostCalls.{one-given, packet-some, refused, roomy, asked, startBy, start-by}
-use Rattle.demands.proofs.WhileAsking.{isGivenUp, given-up, asking, Lasted, lasted, pushed-behind, counted-at}
+use Rattle.demands.proofs.WhileAsking.{isGivenUp, given-up, waitingHost, Lasted, lasted, pushed-behind, counted-at}
 
 abbrev isWaiting : Outcome → Bool
 isWaiting Outcome.Idle = false
@@ -38,10 +38,11 @@ module _ (s : State) (r : Request) where
 
   begun-by : (a b c d : Bool) → numberIn (startBy s r a b c d .outcome) ≡ 0
       → (startBy s r a b c d .sent ≡ asked s r .given) × (startBy s r a b c d .outcome ≡ cond d Outcome.Waiting (Outcome.Over End.Unheard 1))
+      × (startBy s r a b c d .next ≡ cond d (asked s r) (idle (s .edition)))
   begun-by true b c d e = absurd (omega (arith, e))
   begun-by false true c d e = absurd (omega (arith, e))
-  begun-by false false true true e = (refl, refl)
-  begun-by false false true false e = (refl, refl)
+  begun-by false false true true e = (refl, refl, refl)
+  begun-by false false true false e = (refl, refl, refl)
   begun-by false false false d e = absurd (omega (arith, e))
 
 pub started : Started
@@ -51,12 +52,13 @@ started host r first starts e = go (hasRoom first) refl
     go : (t : Bool) → hasRoom first ≡ t
         → (givenOut host first ≡ requestPacket (host .edition) r ∷ [])
         × (answerTo host first .outcome ≡ cond (isHeard (r .id) (r .group)) Outcome.Waiting (Outcome.Over End.Unheard 1))
+        × (answerTo host first .host ≡ hostOf (cond (isHeard (r .id) (r .group)) (asked (stateOf host) r) (idle (host .edition))))
     go true room =
         let s = stateOf host in
         let m = roomy host first room ∙ ap (step s) starts ∙ start-by s r in
         let told = ap (λ (x : Move). x .outcome) m in
-        let (sent, outcome) = begun-by s r (waits s) (s .resting) (isRequest (s .edition) r) (isHeard (r .id) (r .group)) (sym (ap numberIn told) ∙ e) in
-        (one-given _ (first .lent) _ (packet-some (host .edition) r) (ap (λ (x : Move). x .sent) m ∙ sent), told ∙ outcome)
+        let (sent, outcome, next) = begun-by s r (waits s) (s .resting) (isRequest (s .edition) r) (isHeard (r .id) (r .group)) (sym (ap numberIn told) ∙ e) in
+        (one-given _ (first .lent) _ (packet-some (host .edition) r) (ap (λ (x : Move). x .sent) m ∙ sent), told ∙ outcome, ap (λ (x : Move). hostOf (x .next)) m ∙ ap hostOf next)
     go false short = absurd (omega (arith, sym (ap numberIn (refused host first short .told)) ∙ e))
 
 module _ (host : Host) (r : Request) (first : Call) (cs : List Call) (starts : first .happens ≡ start r) (told-waiting : answerTo host first .outcome ≡ Outcome.Waiting)
@@ -78,7 +80,7 @@ module _ (host : Host) (r : Request) (first : Call) (cs : List Call) (starts : f
           m ∙ waits-by s r (waits s) (s .resting) (isRequest (s .edition) r) (isHeard (r .id) (r .group)) (ap (λ (x : Move). isWaiting (x .outcome)) (sym m) ∙ ap isWaiting told-waiting)
       go false short = absurd (false≢true (ap isWaiting (sym (refused host first short .told)) ∙ ap isWaiting told-waiting))
 
-  next : answerTo host first .host ≡ asking (host .edition) r 1
+  next : answerTo host first .host ≡ waitingHost (host .edition) r 1
   unfolding stepOf
   next = ap (λ (m : Move). hostOf (m .next)) taken
 

@@ -93,8 +93,8 @@ module _ (edition : Edition) (r : Request) where
   abbrev pub packet : List ℕ
   packet = requestPacket edition r
 
-  abbrev pub asking : ℕ → Host
-  asking n = record { edition = edition; request = r; sendings = n; resting = false }
+  abbrev pub waitingHost : ℕ → Host
+  waitingHost n = record { edition = edition; request = r; sendings = n; resting = false }
 
   -- it is over, as given up where push says so, and then it was the third
   record Ends (n : ℕ) (push : Bool) (m : Move) : Type 0 where
@@ -106,7 +106,7 @@ module _ (edition : Edition) (r : Request) where
 
   -- or it goes on, with a packet more where push says so
   record Goes (n : ℕ) (push : Bool) (m : Move) : Type 0 where
-    pub next : m .next ≡ stateOf (asking (more push n))
+    pub next : m .next ≡ stateOf (waitingHost (more push n))
     pub sent : m .sent ≡ replicate (cond push 1 0) packet
     pub goes : isOver (m .outcome) ≡ false
     pub few : push ≡ true → n ≤ 2
@@ -114,21 +114,21 @@ module _ (edition : Edition) (r : Request) where
   abbrev One : ℕ → Bool → Move → Type 0
   One n push m = Ends n push m ⊎ Goes n push m
 
-  stays : (n : ℕ) (o : Outcome) → isOver o ≡ false → One n false (quiet (stateOf (asking n)) o)
+  stays : (n : ℕ) (o : Outcome) → isOver o ≡ false → One n false (quiet (stateOf (waitingHost n)) o)
   stays n o e = inr (record { next = refl; sent = refl; goes = e; few = λ t. absurd (false≢true t) })
 
-  sent-again : (n : ℕ) → One n true (again (stateOf (asking n)))
+  sent-again : (n : ℕ) → One n true (again (stateOf (waitingHost n)))
   unfolding again
   sent-again n = go (ltb n mostSendings) refl
     where
-      go : (t : Bool) → ltb n mostSendings ≡ t → One n true (again (stateOf (asking n)))
+      go : (t : Bool) → ltb n mostSendings ≡ t → One n true (again (stateOf (waitingHost n)))
       go true e = inr (rw (length-replicate, e) (record { next = refl; sent = refl; goes = refl; few = λ t. omega (arith, ltb-true n mostSendings e) }))
       go false e = inl (rw (length-replicate, e) (record { how = End.GivenUp; told = refl; none = refl; up = refl; third = λ t. ltb-false n mostSendings e }))
 
-  ends : (n : ℕ) (e : End) (vs : List ℕ) → isGivenUp e ≡ false → One n false (over (stateOf (asking n)) [] e vs)
+  ends : (n : ℕ) (e : End) (vs : List ℕ) → isGivenUp e ≡ false → One n false (over (stateOf (waitingHost n)) [] e vs)
   ends n e vs f = inl (record { how = e; told = rw length-replicate; none = refl; up = f; third = λ t. absurd (false≢true t) })
 
-  nav-other : (n : ℕ) → isGivenUp (navEnds (stateOf (asking n))) ≡ false
+  nav-other : (n : ℕ) → isGivenUp (navEnds (stateOf (waitingHost n))) ≡ false
   unfolding navEnds
   nav-other n = go (isPowerOff r && ltb 1 (length (replicate n packet)))
     where
@@ -136,7 +136,7 @@ module _ (edition : Edition) (r : Request) where
       go true = refl
       go false = refl
 
-  told : (n : ℕ) (d : List ℕ) (w : Said) → One n (saysNack w) (ending (stateOf (asking n)) d w)
+  told : (n : ℕ) (d : List ℕ) (w : Said) → One n (saysNack w) (ending (stateOf (waitingHost n)) d w)
   unfolding ending
   told n d Said.Ack = ends n End.Ack [] refl
   told n d Said.Nack = sent-again n
@@ -151,7 +151,7 @@ module _ (edition : Edition) (r : Request) where
       (λ (o : Ends n push m). inl (record { how = o .how; told = o .told; none = o .none; up = o .up; third = o .third }))
       (λ (g : Goes n push m). inr (record { next = g .next; sent = g .sent; goes = g .goes; few = g .few }))
 
-  one-step : (n : ℕ) → 1 ≤ n → (h : Happening) → One n (pushes edition r h) (step (stateOf (asking n)) h)
+  one-step : (n : ℕ) → 1 ≤ n → (h : Happening) → One n (pushes edition r h) (step (stateOf (waitingHost n)) h)
   unfolding step heard
   one-step n some (start other) = rw (length-replicate, lt-ltb 0 n some) (stays n _ refl)
   one-step n some (burst b) = rw (length-replicate, lt-ltb 0 n some, ← nack-said edition r b, ← said-is edition r b) (telling-on n _ _ _ (told n _ (saidTo r (readingOf edition b))))
@@ -160,12 +160,12 @@ module _ (edition : Edition) (r : Request) where
   abbrev counts : Call → Bool
   counts c = hasRoom c && pushes edition r (c .happens)
 
-  one-call : (n : ℕ) → 1 ≤ n → (c : Call) → One n (counts c) (call (c .lent) (stateOf (asking n)) (c .happens))
+  one-call : (n : ℕ) → 1 ≤ n → (c : Call) → One n (counts c) (call (c .lent) (stateOf (waitingHost n)) (c .happens))
   one-call n some c = go (hasRoom c) refl
     where
-      go : (t : Bool) → hasRoom c ≡ t → One n (counts c) (call (c .lent) (stateOf (asking n)) (c .happens))
-      go true e = rw (roomy (asking n) c e, e) (one-step n some (c .happens))
-      go false e = rw (without-room (asking n) c e, e) (stays n _ refl)
+      go : (t : Bool) → hasRoom c ≡ t → One n (counts c) (call (c .lent) (stateOf (waitingHost n)) (c .happens))
+      go true e = rw (roomy (waitingHost n) c e, e) (one-step n some (c .happens))
+      go false e = rw (without-room (waitingHost n) c e, e) (stays n _ refl)
 
   -- what a caller sees of it
   gives : (push : Bool) (m : Move) (lent : List ℕ) → m .sent ≡ replicate (cond push 1 0) packet → given m lent ≡ replicate (cond push 1 0) packet
@@ -175,28 +175,28 @@ module _ (edition : Edition) (r : Request) where
   -- All calls while it lasts.
 
   pub record Lasted (n : ℕ) (cs : List Call) : Type 0 where
-    pub host : hostAfter (asking n) cs ≡ asking (pushed edition r cs + n)
-    pub sent : packets (asking n) cs ≡ replicate (pushed edition r cs) packet
+    pub host : hostAfter (waitingHost n) cs ≡ waitingHost (pushed edition r cs + n)
+    pub sent : packets (waitingHost n) cs ≡ replicate (pushed edition r cs) packet
     pub few : n ≤ 3 → pushed edition r cs + n ≤ 3
 
   sum : (push : Bool) (k n : ℕ) → k + more push n ≡ (cond push 1 0 + k) + n
   sum true k n = omega arith
   sum false k n = omega arith
 
-  asked-next : (n : ℕ) (c : Call) (push : Bool) → Goes n push (call (c .lent) (stateOf (asking n)) (c .happens)) → answerTo (asking n) c .host ≡ asking (more push n)
+  asked-next : (n : ℕ) (c : Call) (push : Bool) → Goes n push (call (c .lent) (stateOf (waitingHost n)) (c .happens)) → answerTo (waitingHost n) c .host ≡ waitingHost (more push n)
   unfolding stepOf
   asked-next n c push g = ap hostOf (g .next) ∙ rw length-replicate
 
   extended : (n : ℕ) (c : Call) (cs : List Call) (push : Bool) → counts c ≡ push
-      → Goes n push (call (c .lent) (stateOf (asking n)) (c .happens)) → Lasted (more push n) cs → Lasted n (c ∷ cs)
+      → Goes n push (call (c .lent) (stateOf (waitingHost n)) (c .happens)) → Lasted (more push n) cs → Lasted n (c ∷ cs)
   unfolding stepOf
   extended n c cs push e g rest =
       let next = asked-next n c push g in
-      let out = gives push (call (c .lent) (stateOf (asking n)) (c .happens)) (c .lent) (g .sent) in
+      let out = gives push (call (c .lent) (stateOf (waitingHost n)) (c .happens)) (c .lent) (g .sent) in
       let k = pushed edition r cs in
       record {
-        host = ap (λ (h : Host). hostAfter h cs) next ∙ rest .host ∙ rw e (ap asking (sum push k n));
-        sent = ap (λ (l : List (List ℕ)). l ++ packets (answerTo (asking n) c .host) cs) out ∙ ap (λ (h : Host). replicate (cond push 1 0) packet ++ packets h cs) next
+        host = ap (λ (h : Host). hostAfter h cs) next ∙ rest .host ∙ rw e (ap waitingHost (sum push k n));
+        sent = ap (λ (l : List (List ℕ)). l ++ packets (answerTo (waitingHost n) c .host) cs) out ∙ ap (λ (h : Host). replicate (cond push 1 0) packet ++ packets h cs) next
             ∙ ap (λ (l : List (List ℕ)). replicate (cond push 1 0) packet ++ l) (rest .sent) ∙ replicate-append-replicate (cond push 1 0) k packet ∙ rw e;
         few = λ l. let total = sum push k n in rw e (omega (arith, rest .few (step-few push l (g .few))));
       }
@@ -209,15 +209,15 @@ module _ (edition : Edition) (r : Request) where
   more-some true n h = omega arith
   more-some false n h = h
 
-  ended-not : (n : ℕ) (c : Call) → Ends n (counts c) (call (c .lent) (stateOf (asking n)) (c .happens)) → not (isOver (answerTo (asking n) c .outcome)) ≡ true → ⊥
+  ended-not : (n : ℕ) (c : Call) → Ends n (counts c) (call (c .lent) (stateOf (waitingHost n)) (c .happens)) → not (isOver (answerTo (waitingHost n) c .outcome)) ≡ true → ⊥
   unfolding stepOf
   ended-not n c o goes = false≢true (sym (ap (λ (x : Outcome). not (isOver x)) (o .told)) ∙ goes)
 
-  pub lasted : (n : ℕ) → 1 ≤ n → (cs : List Call) → noneOver (asking n) cs ≡ true → Lasted n cs
-  lasted n some [] e = record { host = ap asking (omega arith); sent = refl; few = λ l. omega arith }
+  pub lasted : (n : ℕ) → 1 ≤ n → (cs : List Call) → noneOver (waitingHost n) cs ≡ true → Lasted n cs
+  lasted n some [] e = record { host = ap waitingHost (omega arith); sent = refl; few = λ l. omega arith }
   lasted n some (c ∷ cs) e =
-      let m = call (c .lent) (stateOf (asking n)) (c .happens) in
-      let (not-over, rest) = both (not (isOver (answerTo (asking n) c .outcome))) _ e in
+      let m = call (c .lent) (stateOf (waitingHost n)) (c .happens) in
+      let (not-over, rest) = both (not (isOver (answerTo (waitingHost n) c .outcome))) _ e in
       ⊎-elim
       (λ (o : Ends n (counts c) m). absurd (ended-not n c o not-over))
       (λ (g : Goes n (counts c) m).
@@ -231,11 +231,11 @@ module _ (edition : Edition) (r : Request) where
 
   -- The call that ends it.
 
-  pub counted-at : (k : ℕ) → k + 1 ≤ 3 → (c : Call) (e : End) (n : ℕ) → answerTo (asking (k + 1)) c .outcome ≡ Outcome.Over e n
-      → (n ≡ k + 1) × (givenOut (asking (k + 1)) c ≡ []) × (isGivenUp e ≡ eqb (cond (counts c) 1 0 + k) 3)
+  pub counted-at : (k : ℕ) → k + 1 ≤ 3 → (c : Call) (e : End) (n : ℕ) → answerTo (waitingHost (k + 1)) c .outcome ≡ Outcome.Over e n
+      → (n ≡ k + 1) × (givenOut (waitingHost (k + 1)) c ≡ []) × (isGivenUp e ≡ eqb (cond (counts c) 1 0 + k) 3)
   unfolding stepOf
   counted-at k few c e n q =
-      let m = call (c .lent) (stateOf (asking (k + 1))) (c .happens) in
+      let m = call (c .lent) (stateOf (waitingHost (k + 1))) (c .happens) in
       ⊎-elim
       (λ (o : Ends (k + 1) (counts c) m).
       let same-end = sym q ∙ o .told in

@@ -17,7 +17,8 @@ use Rattle.requests.specs.Request.{requestPacket}
 use Rattle.host.specs.declared.Host.{Host}
 use Rattle.host.specs.declared.End.{End}
 use Rattle.host.specs.declared.Outcome.{Outcome}
-use Rattle.host.specs.Machine.{Happening, start, burst, mark}
+use Rattle.host.specs.Machine.{Happening, start, burst, mark, waitingFor, idle}
+use Rattle.host.specs.Calls.{hostOf}
 use Rattle.demands.specs.HostCalls.{Call, hasRoom, answerTo, outputAfter, givenOut, hostAfter, packets, noneOver}
 use Rattle.demands.specs.HostMoves.{dataIn, said}
 use Rattle.demands.specs.Numbers.{numberIn}
@@ -37,12 +38,15 @@ abbrev pub pushed : Edition → Request → List Call → ℕ
 pushed edition r [] = 0
 pushed edition r (c ∷ cs) = cond (hasRoom c && pushes edition r (c .happens)) 1 0 + pushed edition r cs
 
--- A start that is not refused gives the request's packet out. Where an answer is due the request waits; else it is over, unheard.
+-- A start that is not refused gives the request's packet out. Where an answer is due the host waits for that request; else it is over,
+-- unheard, and the host is idle.
 abbrev pub Started : Type 0
 Started =
     (host : Host) (r : Request) (first : Call) → first .happens ≡ start r → numberIn (answerTo host first .outcome) ≡ 0
     → (givenOut host first ≡ requestPacket (host .edition) r ∷ [])
     × (answerTo host first .outcome ≡ cond (isHeard (r .id) (r .group)) Outcome.Waiting (Outcome.Over End.Unheard 1))
+    × (answerTo host first .host
+    ≡ hostOf (cond (isHeard (r .id) (r .group)) (waitingFor (host .edition) r (requestPacket (host .edition) r ∷ [])) (idle (host .edition))))
 
 -- A start tells that it waits, so the request is taken; and of the calls behind it none has told yet that it is over.
 abbrev pub WhileItLasts : (Host → Request → List Call → Type 0) → Type 0

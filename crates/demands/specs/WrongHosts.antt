@@ -18,14 +18,14 @@ unfoldable pub outcomes : (State → Happening → Move) → State → List Happ
 outcomes rule s [] = []
 outcomes rule s (h ∷ hs) = rule s h .outcome ∷ outcomes rule (rule s h .next) hs
 
--- the host of before, which never rests
+-- one that never rests
 abbrev pub restless : State → Happening → Move
 restless s h =
     let m = step s h in
     let next : State = record { edition = m .next .edition; request = m .next .request; given = m .next .given; resting = false } in
     record { next = next; sent = m .sent; outcome = m .outcome; values = m .values; damage = m .damage }
 
--- one that always reports three sendings
+-- and one that always reports three sendings
 abbrev pub withThree : Outcome → Outcome
 withThree Outcome.Idle = Outcome.Idle
 withThree Outcome.Resting = Outcome.Resting
@@ -48,7 +48,7 @@ ackFrom1 Edition.Sicp201 = 0x06 ∷ 0x01 ∷ 0x00 ∷ 0x00 ∷ 0x06 ∷ 0x01 ∷
 abbrev pub busyPanel : Edition → List Happening
 busyPanel edition = start (toPanel1 0x61 4) ∷ mark ∷ burst (ackFrom1 edition) ∷ start (toPanel1 0xA3 2) ∷ burst (ackFrom1 edition) ∷ []
 
--- The host of before books the late ACK for the cold start; ours refuses that start by 24 and ignores the ACK.
+-- The one that never rests books the late ACK for the cold start; ours refuses that start by 24 and ignores the ACK.
 abbrev pub Booked : Type 0
 Booked =
     (edition : Edition)
