@@ -7,13 +7,6 @@ use crate::Listed;
 use crate::ROOM_FOR_ONE;
 use crate::Refusal;
 
-// The number that a count byte stands for.
-pub(crate) fn count_of(b: u8) -> usize
-    ensures { λ r. ⌜ r ≡ b ⌝ }
-{
-    b as usize
-}
-
 // How many bursts stand whole in a list, and whether it stops inside another.
 fn look_through(list: &[u8]) -> Listed
     ensures { λ r. ⌜ r ≡ listedAs (burstsIn (now (list .entry))) ⌝ }
@@ -21,7 +14,7 @@ fn look_through(list: &[u8]) -> Listed
     let mut bursts = 0;
     let mut at = 0;
     while at < list.len() {
-        let n = count_of(list[at]);
+        let n = bursts::count_of(list[at]);
         if list.len() - at <= n {
             return Listed { bursts, cut: true };
         }

@@ -10,7 +10,6 @@ ghost use Rattle.panels.specs.WellFormed.{WellFormed};
 ghost use Rattle.batch.specs.Scene.{roomForOne, playedOut, batchOf};
 use crate::Batch;
 use crate::Refusal;
-use crate::listing;
 use answers::Entry;
 use packet::Edition;
 use panels::MOST_PANELS;
@@ -26,7 +25,7 @@ pub(crate) fn play_all(edition: Edition, mut t: Table, list: &[u8], out: &mut [u
     let mut written = 0;
     let mut at = 0;
     while at < list.len() {
-        let end = at + 1 + listing::count_of(list[at]);
+        let end = at + 1 + bursts::count_of(list[at]);
         let burst = &list[at + 1..end];
         let verdict = packet::verdict_of(edition, burst);
         let d = packet::data_of(edition, burst, verdict);

@@ -33,3 +33,4 @@ pub mod EitherOrder
 pub mod Rooms
 pub mod Alone
 pub mod Excepted
+pub mod Qx

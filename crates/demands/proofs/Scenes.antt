@@ -46,7 +46,7 @@ list-append [] b = refl
 list-append (x ∷ a) b = ap (λ (l : List ℕ). length x ∷ (x ++ l)) (list-append a b) ∙ ap (λ (l : List ℕ). length x ∷ l) (sym (append-assoc x (listOf a) (listOf b)))
 
 -- one that stops inside a burst
-stops : (bursts : List (List ℕ)) (n : ℕ) (part : List ℕ) → length part < n → burstsIn (listOf bursts ++ n ∷ part) .cut ≡ true
+pub stops : (bursts : List (List ℕ)) (n : ℕ) (part : List ℕ) → length part < n → burstsIn (listOf bursts ++ n ∷ part) .cut ≡ true
 stops [] n part h = ap (λ (b : Bursts). b .cut) (cut-burst n part h)
 stops (b ∷ bursts) n part h =
     ap (λ (l : List ℕ). burstsIn (length b ∷ l) .cut) (append-assoc b (listOf bursts) (n ∷ part))

@@ -25,3 +25,4 @@ pub mod Sendings
 pub mod LateAck
 pub mod WrongHosts
 pub mod Scenes
+pub mod Qx

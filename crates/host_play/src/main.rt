@@ -1,8 +1,4 @@
 // Drives the host side over the steps of standard input and prints what comes of each.
-ghost use mathlib.Core.Path.{_≡_};
-ghost use Prim.Native.Nat.{_≤_};
-ghost use lib.ListN.{length};
-ghost use Rattle.host_play.specs.Private.Steps.{requestOf, startHead};
 use host::End;
 use host::Host;
 use host::Outcome;
@@ -10,36 +6,12 @@ use host::Step;
 use models::Model;
 use packet::Damage;
 use packet::Edition;
-use packet::GroupId;
 use packet::LONGEST;
-use packet::MonitorId;
-use profiles::Numbered;
-use requests::Request;
-use settings::MOST_VALUES;
+use request_steps::Told;
 use settings::Profile;
 use text::LONGEST_STEP;
 use text::Read;
 use tiling::Kind;
-
-// How many bytes stand before a start's values: ID, group and code.
-const START_HEAD: usize = 3;
-
-// A start's ID, group, code and values, of which those are kept that a request has room for; a request with more is refused by its count.
-fn request_of(model: Model, asked: &[u8]) -> Request
-    requires { ⌜ startHead ≤ length (now asked) ⌝ }
-    ensures { λ r. ⌜ r ≡ requestOf model (now (asked .entry)) ⌝ }
-{
-    let mut values = [0u8; MOST_VALUES];
-    bytes::copy(text::front(&asked[START_HEAD..], MOST_VALUES), &mut values);
-    Request {
-        model,
-        id: MonitorId(asked[0]),
-        group: GroupId(asked[1]),
-        code: asked[2],
-        values,
-        count: asked.len() - START_HEAD,
-    }
-}
 
 // Prints the bytes of a packet in hex.
 fn print_hex(bytes: &[u8]) {
@@ -132,31 +104,15 @@ fn unknown(host: Host) -> Host {
     host
 }
 
-// A request of a panel of this model is started.
-fn play_start(host: Host, model: Model, asked: &[u8]) -> Host {
-    if asked.len() < START_HEAD {
+// The request that a step tells is started.
+fn play_start(host: Host, told: Told) -> Host {
+    if !told.known {
         return unknown(host);
     }
     let mut out = [0u8; LONGEST];
-    let step = host.start(request_of(model, asked), &mut out);
+    let request = told.request;
+    let step = host.start(request, &mut out);
     show(step, &out)
-}
-
-// A start in front of which the model's number stands: the profile's, and twice the kind's.
-fn play_modelled(host: Host, step: &[u8]) -> Host {
-    if step.len() == 0 {
-        return unknown(host);
-    }
-    let number = step[0];
-    let kinded = tiling::kind_with(number / 2);
-    let tiling::Numbered::Known(kind) = kinded else {
-        return unknown(host);
-    };
-    let numbered = profiles::profile_with(number % 2);
-    let Numbered::Known(profile) = numbered else {
-        return unknown(host);
-    };
-    play_start(host, Model { profile, kind }, &step[1..])
 }
 
 // The host is opened anew on a line of the edition that has this number; where none has, it stays.
@@ -186,7 +142,7 @@ fn play(host: Host, step: &[u8]) -> Host {
                 profile: Profile::General,
                 kind: Kind::FiveByFive,
             };
-            play_start(host, model, &step[1..])
+            play_start(host, request_steps::told_for(model, &step[1..]))
         }
         2 => {
             let step = host.hear(&step[1..], &mut out);
@@ -199,7 +155,7 @@ fn play(host: Host, step: &[u8]) -> Host {
             let step = host.mark(&mut out);
             show(step, &out)
         }
-        4 => play_modelled(host, &step[1..]),
+        4 => play_start(host, request_steps::told_with_model(&step[1..])),
         5 => {
             if n != 2 {
                 return unknown(host);

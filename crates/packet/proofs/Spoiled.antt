@@ -6,32 +6,21 @@ use mathlib.Core.List.{List, [], _∷_, _++_}
 use Prim.Native.Nat.{ℕ, zero, suc, _≤_}
 use native.Mathlib.Omega.{arith}
 use lib.ListN.{length, getD, take, drop, length-append, length-take, length-drop, length-set}
-use lib.Seq.{set-split, split-at}
 use Rattle.xor.specs.Xor.{_⊕_, xorAll}
 use Rattle.packet.specs.Packet.{isIntact, damageOf, verdictOf}
 use Rattle.packet.specs.Spoiled.{Spoiling, changed, lost, added, spoiled, Spoils}
 use Rattle.packet.specs.declared.Edition.{Edition}
 use Rattle.packet.specs.declared.Damage.{Damage}
 use Rattle.packet.specs.declared.Verdict.{Verdict}
-use Rattle.xor.proofs.Laws.{xor-assoc, ⊕-comm, ⊕-zero-eq, xorAll-append}
+use Rattle.xor.proofs.Laws.{⊕-zero-eq, one-changed}
 use Rattle.packet.proofs.EachEdition.{head-few}
 use Rattle.packet.proofs.Packets.{Sound, sound}
 use Rattle.packet.proofs.Damages.{passed, damaged-verdict}
 
--- a byte of a list can be summed first
-xorAll-middle : (p q : List ℕ) (y : ℕ) → xorAll (p ++ y ∷ q) ≡ y ⊕ xorAll (p ++ q)
-unfolding xorAll
-xorAll-middle p q y =
-    xorAll-append p (y ∷ q) ∙ sym (xor-assoc (xorAll p) y (xorAll q)) ∙ ap (λ (s : ℕ). s ⊕ xorAll q) (⊕-comm (xorAll p) y)
-    ∙ xor-assoc y (xorAll p) (xorAll q) ∙ ap (λ (s : ℕ). y ⊕ s) (sym (xorAll-append p q))
-
 -- on no edition
 not-sound : {edition other : Edition} (s : Spoiling) (b : List ℕ) → Sound edition b → Spoils s b → Sound other (spoiled s b) → ⊥
 unfolding spoiled Spoils xorAll
-not-sound (changed i v) b ok (h, other) then =
-    let was = sym (xorAll-middle (take i b) (drop (suc i) b) (getD b i 0)) ∙ ap xorAll (sym (split-at b i 0 h)) ∙ ok .sum in
-    let is = sym (xorAll-middle (take i b) (drop (suc i) b) v) ∙ ap xorAll (sym (set-split b i v h)) ∙ then .sum in
-    other (sym (⊕-zero-eq _ _ was) ∙ ⊕-zero-eq _ _ is)
+not-sound (changed i v) b ok (h, other) then = other (one-changed b i v h (ok .sum) (then .sum))
 not-sound (lost i) [] ok h then = absurd (omega arith)
 not-sound (lost zero) (x ∷ xs) ok h then = omega (arith, ok .size, then .sum, ⊕-zero-eq x (xorAll xs) (ok .sum))
 not-sound (lost (suc i)) (x ∷ xs) ok h then = omega (arith, h, ok .size, simp (length-append, length-take, length-drop) at (then .size))

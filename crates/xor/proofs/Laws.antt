@@ -5,6 +5,8 @@ use Prim.Native.Nat.{ℕ, zero, suc, _+_, _*_, _/_, _%_, _<_}
 use native.Mathlib.Omega.{arith}
 use lib.Arith.{bin-ind}
 use lib.Bits.{bitXor, differ, xor-step, xor-comm, xor-self, xor-zero-r}
+use lib.ListN.{length, getD, take, drop, set}
+use lib.Seq.{set-split, split-at}
 use Rattle.xor.specs.Xor.{_⊕_, xorAll}
 
 -- one digit
@@ -70,3 +72,17 @@ pub xorAll-append : (xs ys : List ℕ) → xorAll (xs ++ ys) ≡ xorAll xs ⊕ x
 unfolding xorAll
 xorAll-append [] ys = sym (zero-⊕ _)
 xorAll-append (x ∷ xs) ys = rw (xorAll-append xs ys) (sym (xor-assoc x (xorAll xs) (xorAll ys)))
+
+-- a byte of a list can be summed first
+xorAll-middle : (p q : List ℕ) (y : ℕ) → xorAll (p ++ y ∷ q) ≡ y ⊕ xorAll (p ++ q)
+unfolding xorAll
+xorAll-middle p q y =
+    xorAll-append p (y ∷ q) ∙ sym (xor-assoc (xorAll p) y (xorAll q)) ∙ ap (λ (s : ℕ). s ⊕ xorAll q) (⊕-comm (xorAll p) y)
+    ∙ xor-assoc y (xorAll p) (xorAll q) ∙ ap (λ (s : ℕ). y ⊕ s) (sym (xorAll-append p q))
+
+-- two lists that differ in one byte at most, and whose sums are 0, differ in none
+pub one-changed : (b : List ℕ) (i v : ℕ) → i < length b → xorAll b ≡ 0 → xorAll (set b i v) ≡ 0 → getD b i 0 ≡ v
+one-changed b i v h was is =
+    let old = sym (xorAll-middle (take i b) (drop (suc i) b) (getD b i 0)) ∙ ap xorAll (sym (split-at b i 0 h)) ∙ was in
+    let new = sym (xorAll-middle (take i b) (drop (suc i) b) v) ∙ ap xorAll (sym (set-split b i v h)) ∙ is in
+    sym (⊕-zero-eq _ _ old) ∙ ⊕-zero-eq _ _ new

@@ -10,7 +10,7 @@ use Rattle.bursts.specs.Bursts.{Bursts, burstsIn}
 use Rattle.bursts.proofs.Bursts.{first-of}
 use Rattle.batch.specs.declared.Listed.{Listed}
 use Rattle.batch.specs.Private.Listed.{listedAs}
-use Rattle.batch.proofs.Walks.{bursts-end, burst-at, cut-at}
+use Rattle.bursts.proofs.Walks.{bursts-end, burst-at, cut-at}
 use Rattle.batch.proofs.listing.look_through.Statement.{statement}
 use Rattle.batch.proofs.listing.look_through.Tie as tie
 

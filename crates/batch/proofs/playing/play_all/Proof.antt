@@ -44,7 +44,7 @@ use Rattle.batch.specs.declared.Batch.{Batch}
 use Rattle.batch.specs.declared.Refusal.{Refusal}
 use Rattle.batch.specs.Scene.{roomForOne}
 use Rattle.batch.proofs.Counted.{behind, wide, put-there}
-use Rattle.batch.proofs.Walks.{bursts-end, burst-at, whole-there}
+use Rattle.bursts.proofs.Walks.{bursts-end, burst-at, whole-there}
 use Rattle.batch.proofs.Scenes.{Playing, playing-first, playing-next, playing-last}
 use Rattle.batch.proofs.playing.play_all.Statement.{statement}
 use Rattle.batch.proofs.playing.play_all.Tie as tie

@@ -1,2 +1,0 @@
--- A program has no public promise.
-pub mod Private

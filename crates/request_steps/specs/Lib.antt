@@ -1,0 +1,2 @@
+-- What a step of the programs says of a request.
+pub mod Steps
