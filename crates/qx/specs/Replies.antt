@@ -13,9 +13,13 @@ use Rattle.qx.specs.declared.Heard.{Heard}
 use Rattle.qx.specs.Message.{qxAnswer}
 use Rattle.qx.specs.Asked.{askedOf, codesFor, powerGet}
 
--- 35: an answer that is none
-abbrev pub wrongAnswer : ℕ
-wrongAnswer = 35
+-- an answer that is none is refused, and 0 stands for all others
+abbrev pub replyNumber : Reply → ℕ
+replyNumber Reply.Ack = 0
+replyNumber Reply.Nack = 0
+replyNumber Reply.Nav = 0
+replyNumber (Reply.Report v) = 0
+replyNumber Reply.Wrong = 35
 
 -- 3 and 4 in answer to any command code, 1 and 2 to the get of power, 0 to a set
 unfoldable pub valueSays : ℕ → ℕ → Reply
@@ -34,11 +38,7 @@ repliesTo id (code ∷ codes) [] = []
 repliesTo id (code ∷ codes) (answer ∷ answers) = saidTo id code answer ∷ repliesTo id codes answers
 
 abbrev pub isWrong : Reply → Bool
-isWrong Reply.Ack = false
-isWrong Reply.Nack = false
-isWrong Reply.Nav = false
-isWrong (Reply.Report v) = false
-isWrong Reply.Wrong = true
+isWrong r = not (eqb (replyNumber r) 0)
 
 abbrev pub isAck : Reply → Bool
 isAck Reply.Ack = true

@@ -1,6 +1,6 @@
 // What a request asks of a QX panel, and the command codes that ask it.
 ghost use mathlib.Core.Path.{_≡_};
-ghost use lib.ListN.{length, replicate};
+ghost use lib.ListN.{replicate};
 ghost use Rattle.lists.specs.Lists.{laidOver};
 ghost use Rattle.qx.specs.Translation.{mostPackets};
 ghost use Rattle.qx.specs.Asked.{isCarried, pictureOf, askedBy, askedOf, codesFor};
@@ -89,19 +89,7 @@ pub(crate) fn asked_of(request: Request) -> Asked
     asked_by(request)
 }
 
-// How many packets ask it.
-pub(crate) fn count_of(asked: Asked) -> usize
-    ensures { λ r. ⌜ r ≡ length (codesFor asked) ⌝ }
-{
-    match asked {
-        Asked::Nothing => 0,
-        Asked::GetPower => 1,
-        Asked::SetPower(_) => 1,
-        Asked::SetPicture(_, _, _) => 3,
-    }
-}
-
-// Their command codes, and zeros behind them.
+// The command codes of the packets that ask it, and zeros behind them.
 pub(crate) fn codes_of(asked: Asked) -> [u8; MOST_PACKETS]
     ensures { λ r. ⌜ r ≡ laidOver (codesFor asked) (replicate mostPackets 0) ⌝ }
 {

@@ -5,11 +5,12 @@ ghost use Rattle.lists.specs.Lists.{same};
 ghost use Rattle.bursts.specs.Bursts.{burstsIn};
 ghost use Rattle.qx.specs.Message.{qxAnswer};
 ghost use Rattle.qx.specs.Asked.{codesFor};
-ghost use Rattle.qx.specs.Replies.{valueSays, saidTo, isWrong, isAck, joined, heardIn};
+ghost use Rattle.qx.specs.Replies.{valueSays, saidTo, isAck, joined, heardIn};
 use crate::Asked;
 use crate::Heard;
 use crate::Reply;
 use crate::asking;
+use crate::writing;
 use packet::MonitorId;
 
 // The header of an answer, its length from the control byte on, and that byte.
@@ -87,18 +88,6 @@ fn said_to(id: MonitorId, code: u8, answer: &[u8]) -> Reply
     value_says(code, value)
 }
 
-fn is_wrong(reply: Reply) -> bool
-    ensures { λ r. ⌜ r ≡ isWrong reply ⌝ }
-{
-    match reply {
-        Reply::Ack => false,
-        Reply::Nack => false,
-        Reply::Nav => false,
-        Reply::Report(_) => false,
-        Reply::Wrong => true,
-    }
-}
-
 fn is_ack(reply: Reply) -> bool
     ensures { λ r. ⌜ r ≡ isAck reply ⌝ }
 {
@@ -115,7 +104,7 @@ fn is_ack(reply: Reply) -> bool
 fn joined(first: Reply, next: Reply) -> Reply
     ensures { λ r. ⌜ r ≡ joined (first ∷ next ∷ []) ⌝ }
 {
-    if is_wrong(next) {
+    if crate::reply_number(next) != 0 {
         return Reply::Wrong;
     }
     if is_ack(first) {
@@ -157,5 +146,7 @@ pub(crate) fn hear_all(id: MonitorId, asked: Asked, list: &[u8]) -> Heard
     ensures { λ r. ⌜ r ≡ heardIn id (codesFor asked) (burstsIn (now (list .entry))) ⌝ }
 {
     let codes = asking::codes_of(asked);
-    hear_each(id, &codes[..asking::count_of(asked)], list)
+    let packets = writing::told(asked);
+    let count = packets.count;
+    hear_each(id, &codes[..count], list)
 }

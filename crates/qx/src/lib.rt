@@ -6,7 +6,7 @@ mod writing;
 ghost use mathlib.Core.Path.{_≡_};
 ghost use lib.ListN.{length};
 ghost use Rattle.qx.specs.Translation.{refusalNumber, translated, translatedOver};
-ghost use Rattle.qx.specs.Replies.{heardBy};
+ghost use Rattle.qx.specs.Replies.{replyNumber, heardBy};
 use packet::Edition;
 use packet::LONGEST;
 use refusals::NO_ROOM;
@@ -14,9 +14,6 @@ use requests::Request;
 
 // The most packets that a request becomes.
 pub const MOST_PACKETS: usize = 3;
-
-// An answer that is none of the panel's to its packet.
-pub const WRONG_ANSWER: u8 = 35;
 
 // What a request asks of a QX panel; nothing where it has no packet for it.
 enum Asked {
@@ -65,6 +62,19 @@ pub fn refusal_number(refusal: Refusal) -> u8
         Refusal::NoRoom => NO_ROOM,
         Refusal::NotARequest => 22,
         Refusal::NotCarried => 34,
+    }
+}
+
+// The paper's number for an answer that is none, 0 for all others.
+pub fn reply_number(reply: Reply) -> u8
+    ensures { λ r. ⌜ r ≡ replyNumber reply ⌝ }
+{
+    match reply {
+        Reply::Ack => 0,
+        Reply::Nack => 0,
+        Reply::Nav => 0,
+        Reply::Report(_) => 0,
+        Reply::Wrong => 35,
     }
 }
 

@@ -91,7 +91,7 @@ fn print_reply(reply: Reply) {
             print_hex(&one);
             io::write_all(1, b"\n");
         }
-        Reply::Wrong => print_counted(b"refused", qx::WRONG_ANSWER as u64),
+        Reply::Wrong => print_counted(b"refused", qx::reply_number(reply) as u64),
     }
 }
 
