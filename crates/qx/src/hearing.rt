@@ -3,27 +3,17 @@ ghost use mathlib.Core.Path.{_≡_};
 ghost use mathlib.Core.List.{[], _∷_};
 ghost use Rattle.lists.specs.Lists.{same};
 ghost use Rattle.bursts.specs.Bursts.{burstsIn};
-ghost use Rattle.qx.specs.Message.{qxAnswer};
 ghost use Rattle.qx.specs.Asked.{codesFor};
 ghost use Rattle.qx.specs.Replies.{valueSays, saidTo, isAck, joined, heardIn};
 use crate::Asked;
 use crate::Heard;
 use crate::Reply;
 use crate::asking;
+use crate::message;
+use crate::message::ANSWER;
+use crate::message::VALUE;
 use crate::writing;
 use packet::MonitorId;
-
-// The header of an answer, its length from the control byte on, and that byte.
-const HEADER: u8 = 0x21;
-
-const LENGTH: u8 = 4;
-
-const CONTROL: u8 = 0x01;
-
-// The bytes of an answer, and the place of its value.
-const ANSWER: usize = 9;
-
-const VALUE: usize = 7;
 
 // What a value says in answer to a command code.
 fn value_says(code: u8, value: u8) -> Reply
@@ -45,15 +35,6 @@ fn value_says(code: u8, value: u8) -> Reply
         return Reply::Report(2);
     }
     Reply::Wrong
-}
-
-// The answer of a panel with this value.
-fn answer_of(id: MonitorId, code: u8, value: u8) -> [u8; ANSWER]
-    ensures { λ r. ⌜ r ≡ qxAnswer id (code ∷ value ∷ []) ⌝ }
-{
-    let mut a = [HEADER, id.0, 0, 0, LENGTH, CONTROL, code, value, 0];
-    a[8] = xor::xor_all(&a[..8]);
-    a
 }
 
 // Whether these are the same bytes.
@@ -81,7 +62,7 @@ fn said_to(id: MonitorId, code: u8, answer: &[u8]) -> Reply
         return Reply::Wrong;
     }
     let value = answer[VALUE];
-    let right = answer_of(id, code, value);
+    let right = message::answer_of(id, code, value);
     if !same(answer, &right) {
         return Reply::Wrong;
     }

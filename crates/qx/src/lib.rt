@@ -1,6 +1,7 @@
 // A request for a QX panel: the packets that it becomes, and what the answers to them say.
 mod asking;
 mod hearing;
+mod message;
 mod writing;
 
 ghost use mathlib.Core.Path.{_≡_};

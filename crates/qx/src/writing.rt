@@ -1,6 +1,6 @@
 // The packets for a QX panel, written out.
 ghost use mathlib.Core.Path.{_≡_};
-ghost use mathlib.Core.List.{[], _∷_, map, flatten};
+ghost use mathlib.Core.List.{[], map, flatten};
 ghost use Prim.Native.Nat.{_+_, _≤_};
 ghost use lib.ListN.{length};
 ghost use Rattle.lists.specs.Lists.{laidOver, laidAt};
@@ -15,20 +15,10 @@ use crate::MOST_PACKETS;
 use crate::Packets;
 use crate::Refusal;
 use crate::asking;
+use crate::message;
+use crate::message::ASKING;
+use crate::message::SETTING;
 use packet::MonitorId;
-
-// The header of a packet, the byte behind its length, and how many bytes the length counts besides the data: that one, and the
-// checksum.
-const HEADER: u8 = 0xA6;
-
-const CONTROL: u8 = 0x01;
-
-const AROUND_DATA: u8 = 2;
-
-// The sizes of a packet without a value, and with one.
-const ASKING: usize = 9;
-
-const SETTING: usize = 10;
 
 // No packets, and why.
 pub(crate) fn refused(refusal: Refusal) -> Packets
@@ -39,35 +29,6 @@ pub(crate) fn refused(refusal: Refusal) -> Packets
         sizes: [0usize; MOST_PACKETS],
         refusal,
     }
-}
-
-// A packet that asks.
-fn get_packet(id: MonitorId, code: u8) -> [u8; ASKING]
-    ensures { λ r. ⌜ r ≡ qxPacket id (code ∷ []) ⌝ }
-{
-    let mut p = [HEADER, id.0, 0, 0, 0, 1 + AROUND_DATA, CONTROL, code, 0];
-    p[8] = xor::xor_all(&p[..8]);
-    p
-}
-
-// A packet that sets.
-fn set_packet(id: MonitorId, code: u8, value: u8) -> [u8; SETTING]
-    ensures { λ r. ⌜ r ≡ qxPacket id (code ∷ value ∷ []) ⌝ }
-{
-    let mut p = [
-        HEADER,
-        id.0,
-        0,
-        0,
-        0,
-        2 + AROUND_DATA,
-        CONTROL,
-        code,
-        value,
-        0,
-    ];
-    p[9] = xor::xor_all(&p[..9]);
-    p
 }
 
 // A packet laid over out from a place on.
@@ -83,14 +44,18 @@ fn put_picture(id: MonitorId, brightness: u8, contrast: u8, black_level: u8, out
     requires { ⌜ longest ≤ length (now out) ⌝ }
     ensures { λ _. ⌜ now (out .exit) ≡ laidOver (flatten (map (qxPacket id) (dataFor (Asked.SetPicture brightness contrast «black_level»)))) (now (out .entry)) ⌝ }
 {
-    put(&set_packet(id, asking::BRIGHTNESS_SET, brightness), 0, out);
     put(
-        &set_packet(id, asking::CONTRAST_SET, contrast),
+        &message::set_packet(id, asking::BRIGHTNESS_SET, brightness),
+        0,
+        out,
+    );
+    put(
+        &message::set_packet(id, asking::CONTRAST_SET, contrast),
         SETTING,
         out,
     );
     put(
-        &set_packet(id, asking::BLACK_LEVEL_SET, black_level),
+        &message::set_packet(id, asking::BLACK_LEVEL_SET, black_level),
         2 * SETTING,
         out,
     );
@@ -103,8 +68,8 @@ pub(crate) fn put_all(id: MonitorId, asked: Asked, out: &mut [u8])
 {
     match asked {
         Asked::Nothing => {}
-        Asked::GetPower => put(&get_packet(id, asking::POWER_GET), 0, out),
-        Asked::SetPower(v) => put(&set_packet(id, asking::POWER_SET, v), 0, out),
+        Asked::GetPower => put(&message::get_packet(id, asking::POWER_GET), 0, out),
+        Asked::SetPower(v) => put(&message::set_packet(id, asking::POWER_SET, v), 0, out),
         Asked::SetPicture(b, c, l) => put_picture(id, b, c, l, out),
     }
 }

@@ -1,8 +1,8 @@
 -- The checksum is that of the bytes before it. Assumes nothing.
 use Rattle.qx.specs.Message.{message, qxPacket}
 use borrow.Author.Needs.{needs}
-use Rattle.qx.proofs.writing.get_packet.Statement.{statement}
-use Rattle.qx.proofs.writing.get_packet.Tie as tie
+use Rattle.qx.proofs.message.set_packet.Statement.{statement}
+use Rattle.qx.proofs.message.set_packet.Tie as tie
 
 add-p : tie.Need-add-p
 add-p c = search needs
@@ -23,8 +23,8 @@ returns : tie.Need-returns
 unfolding qxPacket message
 returns c = rw (c .xor-all .ensures)
 
-pub get-packet-spec : {M : Type 1} → statement M
-get-packet-spec =
+pub set-packet-spec : {M : Type 1} → statement M
+set-packet-spec =
     tie.close
     (tie.spec
     add-p

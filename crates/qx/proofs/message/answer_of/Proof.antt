@@ -1,8 +1,11 @@
 -- The checksum is that of the bytes before it. Assumes nothing.
 use Rattle.qx.specs.Message.{message, qxAnswer}
 use borrow.Author.Needs.{needs}
-use Rattle.qx.proofs.hearing.answer_of.Statement.{statement}
-use Rattle.qx.proofs.hearing.answer_of.Tie as tie
+use Rattle.qx.proofs.message.answer_of.Statement.{statement}
+use Rattle.qx.proofs.message.answer_of.Tie as tie
+
+add-a : tie.Need-add-a
+add-a c = search needs
 
 array-share-prefix-a : tie.Need-array-share-prefix-a
 array-share-prefix-a c = search needs
@@ -23,4 +26,4 @@ returns c = rw (c .xor-all .ensures)
 pub answer-of-spec : {M : Type 1} → statement M
 answer-of-spec =
     tie.close
-    (tie.spec array-share-prefix-a slice-aggregate-xor-all xor-all-requires array-write-a returns)
+    (tie.spec add-a array-share-prefix-a slice-aggregate-xor-all xor-all-requires array-write-a returns)
