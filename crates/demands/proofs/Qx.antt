@@ -42,7 +42,7 @@ use Rattle.qx.proofs.Replies.{alone}
 use Rattle.qx.specs.Translation.{refusalNumber, packetsFor, carriedBy, refusalOf, packetsIn, packetsTold, translated, translatedOver}
 use Rattle.demands.specs.Scenes.{listOf}
 use Rattle.demands.proofs.Scenes.{told-again, stops}
-use Rattle.demands.specs.Qx.{numberFor, summed, isCarried, nothingLost, packetsOf, answerTo, valueTo, saysTo, eachTo, QxNumbers, Translated, NotTranslated, Reads, Joined, ReadBack, SpoiledAnswer, Examples004}
+use Rattle.demands.specs.Qx.{numberFor, summed, isCarried, nothingLost, packetsOf, answerTo, valueTo, saysTo, eachTo, QxNumbers, Translated, NotTranslated, Reads, NoneAsked, AnswerNumbers, Joined, ReadBack, SpoiledAnswer, Examples004}
 
 -- a set that is a request has as many values as its row
 set-count : (edition : Edition) (r : Request) (row : ℕ) → isRequest edition r ≡ true → foundBy (r .code) ≡ Found.Set row → byteCount row ≤ r .count
@@ -172,16 +172,21 @@ translated-is out r z =
     (rw (le-ltb _ 40 (t .room-there), is), rw (le-ltb _ 40 (t .room-there), t .request, is, sym none ∙ refusal-none r, length-map (packetsOf r) length))
 
 -- and of what is refused there are none
+refused-data : (r : Request) → (cond {A = ℕ} (isRequest Edition.Sicp201 r) (cond (isCarried r) 0 34) 22 ≡ 0 → ⊥) → asked.dataFor (asked.askedOf r) ≡ []
+refused-data r ne = go (isRequest Edition.Sicp201 r) refl (isCarried r) refl ne
+  where
+    go : (u : Bool) → isRequest Edition.Sicp201 r ≡ u → (w : Bool) → isCarried r ≡ w → (cond {A = ℕ} u (cond w 0 34) 22 ≡ 0 → ⊥) → asked.dataFor (asked.askedOf r) ≡ []
+    go true e true c z = absurd (z refl)
+    go true e false c z = data-is r e ∙ rw c
+    go false e w c z = no-data r e
+
 none-in : (room : ℕ) (r : Request) → (numberFor room r ≡ 0 → ⊥) → packetsIn room r ≡ []
 unfolding packetsIn packetsFor
-none-in room r ne = go (leb 40 room) refl (isRequest Edition.Sicp201 r) refl (isCarried r) refl (λ z. ne (qx-numbers room r ∙ z))
+none-in room r ne = go (leb 40 room) refl
   where
-    go : (t : Bool) → leb 40 room ≡ t → (u : Bool) → isRequest Edition.Sicp201 r ≡ u → (w : Bool) → isCarried r ≡ w → (cond {A = ℕ} t (cond u (cond w 0 34) 22) 19 ≡ 0 → ⊥)
-        → packetsIn room r ≡ []
-    go true h true e true c z = absurd (z refl)
-    go true h true e false c z = rw (le-ltb room 40 (leb-true 40 room h), data-is r e, c)
-    go true h false e w c z = rw (le-ltb room 40 (leb-true 40 room h), no-data r e)
-    go false h u e w c z = rw (lt-ltb room 40 (leb-false 40 room h))
+    go : (t : Bool) → leb 40 room ≡ t → packetsIn room r ≡ []
+    go true h = rw (le-ltb room 40 (leb-true 40 room h), refused-data r (λ z. ne (qx-numbers room r ∙ rw h z)))
+    go false h = rw (lt-ltb room 40 (leb-false 40 room h))
 
 pub not-translated : NotTranslated
 unfolding translated packetsTold translatedOver laidOver flatten
@@ -241,6 +246,13 @@ module _ (r : Request) (z : numberFor 40 r ≡ 0) where
 
 pub reads : Reads
 reads r xs z = (heard-of r z xs, λ n part h. heard-cut r z (listOf xs ++ n ∷ part) (stops xs n part h))
+
+pub none-asked : NoneAsked
+unfolding heardBy heardIn asked.codesFor
+none-asked r bytes ne = rw (refused-data r (λ z. ne (qx-numbers 40 r ∙ z)))
+
+pub answer-numbers : AnswerNumbers
+answer-numbers v = (refl, refl, refl, refl, refl)
 
 -- an ACK is what it is
 ack-is : (c : Reply) → cond (isAck c) Reply.Ack c ≡ c

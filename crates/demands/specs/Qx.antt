@@ -19,7 +19,7 @@ use Rattle.qx.specs.declared.Refusal.{Refusal}
 use Rattle.qx.specs.declared.Reply.{Reply}
 use Rattle.qx.specs.declared.Heard.{Heard}
 use Rattle.qx.specs.Translation.{refusalNumber, translated, translatedOver}
-use Rattle.qx.specs.Replies.{isWrong, isAck, joined, heardBy}
+use Rattle.qx.specs.Replies.{replyNumber, isWrong, isAck, joined, heardBy}
 use Rattle.demands.specs.Scenes.{listOf}
 
 -- what a call with an output of so many bytes is refused by, 0 where it is not
@@ -97,6 +97,20 @@ Reads =
     (r : Request) (xs : List (List ℕ)) → numberFor 40 r ≡ 0
     → (heardBy r (listOf xs) ≡ cond (eqb (length xs) (length (packetsOf r))) (Heard.Said (joined (eachTo saysTo (packetsOf r) xs))) Heard.Unknown)
     × ((n : ℕ) (part : List ℕ) → length part < n → heardBy r (listOf xs ++ n ∷ part) ≡ Heard.Unknown)
+
+-- To a request that is refused there are none.
+abbrev pub NoneAsked : Type 0
+NoneAsked = (r : Request) (bytes : List ℕ) → (numberFor 40 r ≡ 0 → ⊥) → heardBy r bytes ≡ Heard.Unknown
+
+-- 35 is the number of an answer that is none, and of no other.
+abbrev pub AnswerNumbers : Type 0
+AnswerNumbers =
+    (v : ℕ)
+    → (replyNumber Reply.Wrong ≡ 35)
+    × (replyNumber Reply.Ack ≡ 0)
+    × (replyNumber Reply.Nack ≡ 0)
+    × (replyNumber Reply.Nav ≡ 0)
+    × (replyNumber (Reply.Report v) ≡ 0)
 
 -- One reply is all that is said; of three, 35 if any is 35, ACK if all are ACK, else the first that is not.
 abbrev pub Joined : Type 0
