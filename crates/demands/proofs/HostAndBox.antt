@@ -16,8 +16,7 @@ use Rattle.models.specs.Models.{allowedFor, filled}
 use Rattle.lists.proofs.Both.{both}
 use Rattle.settings.proofs.Laws.{byte-count-few}
 use Rattle.codes.proofs.Laws.{IsFound, found-right}
-use Rattle.models.proofs.Laws.{allowed-many}
-use Rattle.models.proofs.Filled.{filled-other, filled-there, length-filled}
+use Rattle.models.proofs.Filled.{filled-other, filled-there}
 use Rattle.tiling.specs.Kinds.{largest, inWall}
 use Rattle.lists.proofs.Each.{alike}
 use Rattle.packet.specs.declared.Edition.{Edition}
@@ -40,6 +39,7 @@ use Rattle.answers.specs.Judged.{command, offAlready, heldThen, takes, judge, r
 use Rattle.answers.specs.Played.{played}
 use Rattle.answers.specs.Reply.{wordFrom, reportFrom, sentBytes}
 use Rattle.answers.proofs.Readings.{answered-intact}
+use Rattle.requests.proofs.Sets.{may-many}
 use Rattle.requests.specs.declared.Request.{Request}
 use Rattle.requests.specs.declared.Said.{Said}
 use Rattle.requests.specs.Request.{valuesOf as requestValues, requestData, requestPacket, isPowerOff, maySet, isTaken, isRequest}
@@ -109,7 +109,7 @@ may-hold p row vs may = go (eqb row tilingRow) (eqb (getD vs 3 0) 0) refl refl
         ap (allowedFor model row) (filled-there row own vs ne ∙ sym (filled-there row (largest (model .kind)) vs ne)) ∙ may ∙ sym (rw (et, ez))
     go true true et ez =
         let same-row = eqb-true row tilingRow et in
-        let four = sym (length-filled row (largest (model .kind)) vs) ∙ allowed-many model row (filled row (largest (model .kind)) vs) may in
+        let four = may-many model row vs may in
         subst (λ (r : ℕ). allowedFor model r (heldThen r vs p) ≡ not (pastWall r vs p)) (sym same-row)
         (open-wall p vs (four ∙ ap byteCount same-row ∙ tiling-count) (subst (λ (r : ℕ). maySet model r vs ≡ true) same-row may) (eqb-true (getD vs 3 0) 0 ez))
 

@@ -34,3 +34,4 @@ pub mod Rooms
 pub mod Alone
 pub mod Excepted
 pub mod Qx
+pub mod QxAnswers

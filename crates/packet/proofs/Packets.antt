@@ -18,7 +18,7 @@ use Rattle.packet.specs.declared.MonitorId.{MonitorId}
 use Rattle.packet.specs.declared.GroupId.{GroupId}
 use Rattle.packet.specs.declared.Verdict.{Verdict}
 use Rattle.packet.proofs.EachEdition.{head-few}
-use Rattle.xor.proofs.Laws.{⊕-self, ⊕-zero, xorAll-append}
+use Rattle.xor.proofs.Laws.{summed-zero}
 
 pub record Sound (edition : Edition) (burst : List ℕ) : Type 0 where
   pub least : shortest edition ≤ length burst
@@ -92,7 +92,7 @@ module _ (edition : Edition) (id : MonitorId) (group : GroupId) (d : List ℕ) (
     least = rw packet-length (omega arith);
     most = rw packet-length (omega (arith, head-few edition));
     size = sym packet-length;
-    sum = xorAll-append head _ ∙ (unfold xorAll in rw ⊕-zero (⊕-self _));
+    sum = summed-zero head;
   })
 
   pub packet-verdict : verdictOf edition (packetOf edition id group d) ≡ Verdict.Intact id (groupId (groupOn edition (group .0))) (length d)

@@ -80,6 +80,11 @@ xorAll-middle p q y =
     xorAll-append p (y ∷ q) ∙ sym (xor-assoc (xorAll p) y (xorAll q)) ∙ ap (λ (s : ℕ). s ⊕ xorAll q) (⊕-comm (xorAll p) y)
     ∙ xor-assoc y (xorAll p) (xorAll q) ∙ ap (λ (s : ℕ). y ⊕ s) (sym (xorAll-append p q))
 
+-- a list with its sum behind it
+pub summed-zero : (b : List ℕ) → xorAll (b ++ xorAll b ∷ []) ≡ 0
+unfolding xorAll
+summed-zero b = xorAll-append b (xorAll b ∷ []) ∙ rw (⊕-zero (xorAll b)) (⊕-self (xorAll b))
+
 -- two lists that differ in one byte at most, and whose sums are 0, differ in none
 pub one-changed : (b : List ℕ) (i v : ℕ) → i < length b → xorAll b ≡ 0 → xorAll (set b i v) ≡ 0 → getD b i 0 ≡ v
 one-changed b i v h was is =
