@@ -1,4 +1,6 @@
 // The answer to a burst, and an answer written out.
+#![tactic(auto)]
+
 mod answering;
 mod judging;
 mod playing;
@@ -22,14 +24,14 @@ pub const PROFILE_COUNT: usize = 2;
 const TILING_COUNT: usize = 4;
 
 // Silence, a control word, or a report, whose bytes stand beside it.
-#[derive(Drop)]
+#[derive(Clone, Copy)]
 pub enum Answer {
     Silence,
     Word(Control),
     Report,
 }
 
-#[derive(Drop)]
+#[derive(Clone, Copy)]
 pub struct Reply {
     pub answer: Answer,
     pub id: MonitorId,
@@ -39,7 +41,7 @@ pub struct Reply {
 
 // What a packet asks of every addressed panel: a report of a row, its values to be stored in a row if the panel takes them,
 // or nothing that is available.
-#[derive(Drop)]
+#[derive(Clone, Copy)]
 enum Order {
     Report(usize),
     Store(usize),
@@ -47,7 +49,7 @@ enum Order {
 }
 
 // Whom a burst names: an ID and a group. No panel has ID 0.
-#[derive(Drop)]
+#[derive(Clone, Copy)]
 pub struct Names {
     pub id: MonitorId,
     pub group: GroupId,
@@ -55,7 +57,7 @@ pub struct Names {
 
 // What a table has of an ID and a group: how many panels there are, how many of them are in the group, and the place of the one
 // with the ID, which is MOST_PANELS where there is none, with the panel there.
-#[derive(Drop)]
+#[derive(Clone, Copy)]
 pub struct Entry {
     pub count: usize,
     pub members: usize,
@@ -64,7 +66,7 @@ pub struct Entry {
 }
 
 // Places from the first on, up to the end.
-#[derive(Drop)]
+#[derive(Clone, Copy)]
 pub struct Span {
     pub first: usize,
     pub end: usize,
@@ -72,7 +74,7 @@ pub struct Span {
 
 // A set as it goes to the panels in some places: for each profile, by its number, whether its ranges allow the values. Where
 // nothing changes there are no places.
-#[derive(Drop)]
+#[derive(Clone, Copy)]
 pub struct Change {
     pub id: MonitorId,
     pub group: GroupId,
@@ -83,21 +85,21 @@ pub struct Change {
 }
 
 // What a burst comes to.
-#[derive(Drop)]
+#[derive(Clone, Copy)]
 pub struct Turn {
     pub reply: Reply,
     pub change: Change,
 }
 
 // How many bytes were sent in answer to a burst, and what it changes.
-#[derive(Drop)]
+#[derive(Clone, Copy)]
 pub struct Heard {
     pub sent: usize,
     pub change: Change,
 }
 
 // The table after a burst, the reply to it, and what was wrong with it.
-#[derive(Drop)]
+#[derive(Clone, Copy)]
 pub struct Played {
     pub table: Table,
     pub reply: Reply,
@@ -105,7 +107,7 @@ pub struct Played {
 }
 
 // How many bytes went into the output, or it has no room for any packet.
-#[derive(Drop)]
+#[derive(Clone, Copy)]
 pub enum Sent {
     Bytes(usize),
     NoRoom,

@@ -1,5 +1,7 @@
 // Many bursts in one call. A list of them, in the play program's input form, is looked at whole and then played one by one; for
 // each a count byte and the answer go into a lent output.
+#![tactic(auto)]
+
 mod listing;
 mod playing;
 
@@ -16,14 +18,14 @@ use panels::Table;
 pub const ROOM_FOR_ONE: usize = 1 + LONGEST;
 
 // How many bursts stand whole in a list, and whether it stops inside another.
-#[derive(Drop)]
+#[derive(Clone, Copy)]
 struct Listed {
     bursts: usize,
     cut: bool,
 }
 
 // Why a list was refused, if it was: it stops inside a burst, or the output has not room for each.
-#[derive(Drop)]
+#[derive(Clone, Copy)]
 pub enum Refusal {
     Nothing,
     Cut,
@@ -31,7 +33,7 @@ pub enum Refusal {
 }
 
 // The table after the bursts, and how many bytes were written; or none was played, and why.
-#[derive(Drop)]
+#[derive(Clone, Copy)]
 pub struct Batch {
     pub table: Table,
     pub written: usize,

@@ -1,4 +1,6 @@
 // Bursts one behind the other, as the programs read them.
+#![tactic(auto)]
+
 ghost use Rattle.std.specs.Prelude.{◌≡◌};
 
 // The number that a count byte stands for.

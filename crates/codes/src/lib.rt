@@ -1,4 +1,6 @@
 // A setting by its code, as the manual has it; and a field by its code.
+#![tactic(auto)]
+
 ghost use Rattle.std.specs.Prelude.{◌≡◌};
 ghost use Rattle.codes.specs.Found.{found_by, field_by};
 
@@ -8,7 +10,7 @@ use settings::{
 };
 
 // What a code is: the set code or the get code of a row, or neither.
-#[derive(Drop)]
+#[derive(Clone, Copy)]
 pub enum Found {
     Set(usize),
     Get(usize),

@@ -1,1 +1,3 @@
 // The demands hold no code: specs/ states them and proofs/ proves them.
+#![tactic(auto)]
+

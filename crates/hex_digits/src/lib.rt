@@ -1,4 +1,6 @@
 // The two hex digits of a byte, in upper case.
+#![tactic(auto)]
+
 ghost use Rattle.std.specs.Prelude.{◌≡◌, ◌/◌, ◌%◌, ◌<◌};
 ghost use Rattle.hex_digits.specs.Digits.{digit_of};
 

@@ -1,4 +1,6 @@
 // The host side of the line: it asks, waits, sends the same packet at most twice more, and always comes to an end.
+#![tactic(auto)]
+
 mod hearing;
 mod sending;
 
@@ -21,7 +23,7 @@ const MOST_SENDINGS: usize = 3;
 
 // The line's edition, the request that waits, and how often its packet was sent. Nothing waits where that is 0; the host then
 // rests where a mark is due before the next start.
-#[derive(Drop)]
+#[derive(Clone, Copy)]
 pub struct Host {
     edition: Edition,
     request: Request,
@@ -30,7 +32,7 @@ pub struct Host {
 }
 
 // Why a call did nothing.
-#[derive(Drop)]
+#[derive(Clone, Copy)]
 pub enum Refusal {
     NoRoom,
     Busy,
@@ -39,7 +41,7 @@ pub enum Refusal {
 }
 
 // How a request ended. A power off that was sent more than once and got NAV has left the panel off, or was refused.
-#[derive(Drop)]
+#[derive(Clone, Copy)]
 pub enum End {
     Unheard,
     Ack,
@@ -50,7 +52,7 @@ pub enum End {
 }
 
 // What has become of the request; where it is over, how it ended and how often its packet was sent.
-#[derive(Drop)]
+#[derive(Clone, Copy)]
 pub enum Outcome {
     Idle,
     Resting,
@@ -61,7 +63,7 @@ pub enum Outcome {
 
 // What a call answers: the host as it then is, the length of the packet given out (0 where there is none), what has become
 // of the request, the values of a report, and what was wrong with the burst that was heard.
-#[derive(Drop)]
+#[derive(Clone, Copy)]
 pub struct Step {
     pub host: Host,
     pub length: usize,
@@ -108,7 +110,7 @@ fn over(host: Host, sent: usize, end: End, v: &[u8]) -> Step
     let mut next = Host::open(edition);
     next.resting = 1 < host.sendings;
     let mut values = [0u8; MOST_VALUES];
-    let count = bytes::copy(v, &mut values);
+    let count = lists::copy(v, &mut values);
     Step {
         host: next,
         length: sent,

@@ -1,4 +1,6 @@
 // Drives the host side over the steps of standard input and prints what comes of each.
+#![tactic(auto)]
+
 use host::{End, Host, Outcome, Step};
 use models::Model;
 use packet::{Damage, Edition, LONGEST};

@@ -1,4 +1,6 @@
 // A fault of a record of a setup image, and the line that tells it.
+#![tactic(auto)]
+
 ghost use Rattle.std.specs.Prelude.{◌≡◌};
 ghost use Rattle.image_faults.specs.Lines.{padded, line_of};
 ghost use Rattle.image_faults.specs.Private.Coded.{coded_line};
@@ -7,7 +9,7 @@ ghost use Rattle.image_faults.specs.Private.Coded.{coded_line};
 pub const LONGEST_LINE: usize = 9;
 
 // What is wrong with a record: it is dropped, or its field with this code is broken, or has a value that is not allowed.
-#[derive(Drop)]
+#[derive(Clone, Copy)]
 pub enum Fault {
     Dropped,
     Broken(u8),
@@ -15,7 +17,7 @@ pub enum Fault {
 }
 
 // A line of text, at the front of its bytes; those past it are 0.
-#[derive(Drop)]
+#[derive(Clone, Copy)]
 pub struct Line {
     pub bytes: [u8; LONGEST_LINE],
     pub count: usize,

@@ -1,18 +1,20 @@
 // The two forms of a setup image, which differ in the form byte, in a record's head, and in the fields that they have.
+#![tactic(auto)]
+
 ghost use Rattle.std.specs.Prelude.{◌≡◌, ◌<◌, length};
 ghost use Rattle.settings.specs.Settings.{row_count, value_count};
 ghost use Rattle.image_forms.specs.Forms.{form_byte, form_with, head_size, holds, has_field, is_fresh, keeps};
 
 use settings::{KIND_ROW, Profile, TILING_ROW};
 
-#[derive(Drop)]
+#[derive(Clone, Copy)]
 pub enum Form {
     One,
     Two,
 }
 
 // The form that has a form byte, if one does.
-#[derive(Drop)]
+#[derive(Clone, Copy)]
 pub enum Numbered {
     Known(Form),
     Unknown,

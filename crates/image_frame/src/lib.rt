@@ -1,4 +1,6 @@
 // A setup image as a whole: why one is refused, 11 to 15, and where its records begin and end.
+#![tactic(auto)]
+
 ghost use Rattle.std.specs.Prelude.{◌≡◌, ◌+◌, ◌*◌, ◌≤◌, ◌<◌, length};
 ghost use Rattle.image_frame.specs.Frame.{form_of, count_of, edge, starts_fit, frame_refusal};
 

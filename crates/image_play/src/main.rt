@@ -1,5 +1,7 @@
 // Reads setup images of either form and prints each as the writer makes it of the table read, in form 2 and in form 1.
 // Standard input has for each image its length as two bytes, high byte first, and then that many bytes.
+#![tactic(auto)]
+
 ghost use Rattle.std.specs.Prelude.{◌≤◌, ◌<◌, length};
 ghost use Rattle.panels.specs.WellFormed.{WellFormed};
 
@@ -11,7 +13,7 @@ use panels::Table;
 const MOST_DIGITS: usize = 2 * LARGEST;
 
 // An image of the input, which stands at the front of the buffer; or the input stopped inside one; or it was at its end.
-#[derive(Drop)]
+#[derive(Clone, Copy)]
 enum Item {
     Image(usize),
     Cut,

@@ -1,4 +1,6 @@
 // The setup image read: the table that it holds, or the first refusal.
+#![tactic(auto)]
+
 mod records;
 mod walk;
 
@@ -10,21 +12,21 @@ use refusals::Refusal;
 use settings::VALUE_COUNT;
 
 // The table that was read; on a refusal it is empty.
-#[derive(Drop)]
+#[derive(Clone, Copy)]
 pub struct Read {
     pub refusal: Refusal,
     pub table: Table,
 }
 
 // A panel's values with its record's fields taken, and why the walk over them stopped.
-#[derive(Drop)]
+#[derive(Clone, Copy)]
 struct Fields {
     refusal: Refusal,
     values: [u8; VALUE_COUNT],
 }
 
 // A record's panel, and why it was refused, if it was.
-#[derive(Drop)]
+#[derive(Clone, Copy)]
 struct ReadPanel {
     refusal: Refusal,
     panel: Panel,

@@ -1,4 +1,6 @@
 // One record of a setup image of either form: its head, and its fields, taken up to one that cannot be.
+#![tactic(auto)]
+
 mod fields;
 
 ghost use Rattle.std.specs.Prelude.{◌≡◌, ◌≤◌, length};
@@ -12,7 +14,7 @@ use profiles::Numbered;
 use settings::{Profile, ROW_COUNT, VALUE_COUNT};
 
 // What stands at the front of a record's bytes: a field of a row, one whose values are not allowed, a broken one, or the end.
-#[derive(Drop)]
+#[derive(Clone, Copy)]
 pub enum Step {
     Field(usize),
     NotAllowed(usize),
@@ -21,7 +23,7 @@ pub enum Step {
 }
 
 // How many bytes of fields were taken, and what stands behind them.
-#[derive(Drop)]
+#[derive(Clone, Copy)]
 pub struct Stop {
     pub step: Step,
     pub taken: usize,

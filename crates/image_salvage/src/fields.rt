@@ -20,7 +20,7 @@ pub fn tell(number: u8, fault: Fault, lines: &mut [u8], at: usize) -> usize
     let line = image_faults::line_of(number, fault);
     let text = line.bytes;
     let n = line.count;
-    bytes::copy(&text[..n], &mut lines[at..]);
+    lists::copy(&text[..n], &mut lines[at..]);
     at + n
 }
 

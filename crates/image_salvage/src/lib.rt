@@ -1,4 +1,6 @@
 // What can be kept of a setup image that the reader refuses, and the lines that tell what could not.
+#![tactic(auto)]
+
 mod fields;
 mod records;
 
@@ -18,7 +20,7 @@ pub const MOST_FAULTS: usize = ROW_COUNT + 1;
 pub const LINES_CAP: usize = MOST_PANELS * MOST_FAULTS * LONGEST_LINE;
 
 // The table that is kept, and how many bytes of text its lines have; or why the image as a whole was refused, and neither.
-#[derive(Drop)]
+#[derive(Clone, Copy)]
 pub struct Salvaged {
     pub refusal: Refusal,
     pub table: Table,
@@ -26,14 +28,14 @@ pub struct Salvaged {
 }
 
 // What is kept of a record's fields, and where the next line begins.
-#[derive(Drop)]
+#[derive(Clone, Copy)]
 struct KeptFields {
     values: [u8; VALUE_COUNT],
     next: usize,
 }
 
 // What is kept of a record, if anything, and where the next line begins.
-#[derive(Drop)]
+#[derive(Clone, Copy)]
 struct KeptRecord {
     kept: bool,
     panel: Panel,

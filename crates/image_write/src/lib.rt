@@ -1,4 +1,6 @@
 // The setup image written, in either form: a table laid out in the bytes that the box keeps across updates.
+#![tactic(auto)]
+
 mod write;
 
 ghost use Rattle.std.specs.Prelude.{◌≡◌, replicate};
@@ -31,7 +33,7 @@ const TRAILER_SIZE: usize = 2;
 pub const LARGEST: usize = (3 + ALL_FIELDS + START_SIZE) * MOST_PANELS + TRAILER_SIZE;
 
 // An image's size, once it is written; or the form would lose something; or the output has no room for it.
-#[derive(Drop)]
+#[derive(Clone, Copy)]
 pub enum Written {
     Bytes(usize),
     WouldLose,

@@ -23,7 +23,7 @@ fn one_field(out: &mut [u8], at: usize, row: usize, values: [u8; VALUE_COUNT])
     let first = settings::place_of(row);
     out[at] = settings::set_code(row);
     out[at + 1] = count as u8;
-    bytes::copy(&values[first..first + count], &mut out[at + FIELD_HEAD..]);
+    lists::copy(&values[first..first + count], &mut out[at + FIELD_HEAD..]);
 }
 
 // A row's field where the form has one, and where the next begins.

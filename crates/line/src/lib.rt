@@ -1,4 +1,6 @@
 // The receiver of one serial line. It takes one byte or one quiet mark at a time and answers at the mark.
+#![tactic(auto)]
+
 ghost use Rattle.std.specs.Prelude.{◌≡◌};
 ghost use mathlib.Core.List.{[], foldl};
 ghost use Rattle.packet.specs.Reading.{reading_of};
@@ -15,7 +17,7 @@ const PAST_LONGEST: usize = LONGEST + 1;
 
 // The line's edition; the first bytes since the last quiet mark, as many as a packet may have, and how many there were, up to one
 // more.
-#[derive(Drop)]
+#[derive(Clone, Copy)]
 pub struct Receiver {
     edition: Edition,
     bytes: [u8; LONGEST],
@@ -23,7 +25,7 @@ pub struct Receiver {
 }
 
 // What a quiet mark leaves, and what was wrong with the burst before it.
-#[derive(Drop)]
+#[derive(Clone, Copy)]
 pub struct Heard {
     pub receiver: Receiver,
     pub table: Table,

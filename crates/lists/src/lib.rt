@@ -1,1 +1,15 @@
-// Lists hold no code: specs/ defines what the crates above say of lists, and proofs/ has its laws.
+// What is said of lists in specs/, their laws in proofs/, and the copying of bytes.
+#![tactic(auto)]
+
+ghost use Rattle.std.specs.Prelude.{◌≡◌, ◌≤◌, ◌++◌, length, drop};
+
+// Copies bytes to the front of out, of which the rest stays as it was, and answers how many.
+pub fn copy(bytes: &[u8], out: &mut [u8]) -> usize
+    requires { length bytes.now ≤ length out.old }
+    ensures count { result ≡ length bytes.now }
+    ensures laid { out.new ≡ bytes.now ++ drop (length bytes.now) out.old }
+{
+    let n = bytes.len();
+    out[..n].copy_from_slice(bytes);
+    n
+}

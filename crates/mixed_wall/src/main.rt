@@ -1,6 +1,8 @@
 // An example on a 2.01 line, a wall of both profiles and both kinds: panel 1 is general and of the 5 by 5 kind, panel 2 Phoenix and of the 15 by
 // 10 kind, both in group 9. Each packet is printed with the answer behind it, and at the end panel 2's tint and its place in
 // the wall as a caller sees them.
+#![tactic(auto)]
+
 ghost use Rattle.std.specs.Prelude.{◌≡◌, ◌<◌};
 ghost use Rattle.panels.specs.Wall.{table_of, panels_of};
 ghost use Rattle.panels.specs.WellFormed.{WellFormed};

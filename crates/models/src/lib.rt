@@ -1,4 +1,6 @@
 // What a panel may hold, by its profile and its kind.
+#![tactic(auto)]
+
 ghost use Rattle.std.specs.Prelude.{◌≡◌, ◌<◌, length};
 ghost use Rattle.settings.specs.Settings.{row_count, value_count};
 ghost use Rattle.models.specs.Models.{kind_for, model_in, allowed_for, filled};
@@ -7,7 +9,7 @@ use settings::{KIND_ROW, Profile, TILING_ROW};
 use tiling::{Kind, Numbered};
 
 // What a panel's ranges go by.
-#[derive(Drop)]
+#[derive(Clone, Copy)]
 pub struct Model {
     pub profile: Profile,
     pub kind: Kind,

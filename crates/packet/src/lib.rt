@@ -1,4 +1,6 @@
 // One burst of the line: what it is and what it says; and a packet written out.
+#![tactic(auto)]
+
 mod editions;
 mod reading;
 
@@ -14,27 +16,27 @@ pub use reading::{data_by, data_of, seems_for, verdict_by, verdict_of};
 pub const LONGEST: usize = 40;
 
 // An edition of the protocol, 1.85 or 2.01, by which a line's packets are read and written.
-#[derive(Drop)]
+#[derive(Clone, Copy)]
 pub enum Edition {
     Sicp185,
     Sicp201,
 }
 
 // The edition that has a number, if one does.
-#[derive(Drop)]
+#[derive(Clone, Copy)]
 pub enum Numbered {
     Known(Edition),
     Unknown,
 }
 
-#[derive(Drop)]
+#[derive(Clone, Copy)]
 pub struct MonitorId(pub u8);
 
-#[derive(Drop)]
+#[derive(Clone, Copy)]
 pub struct GroupId(pub u8);
 
 // What is wrong with a burst.
-#[derive(Drop)]
+#[derive(Clone, Copy)]
 pub enum Damage {
     Nothing,
     TooShort,
@@ -44,7 +46,7 @@ pub enum Damage {
 }
 
 // What the bytes between two quiet marks are. An intact burst has an ID, a group and a count of data bytes.
-#[derive(Drop)]
+#[derive(Clone, Copy)]
 pub enum Verdict {
     Empty,
     Damaged(Damage),
@@ -56,14 +58,14 @@ pub enum Verdict {
 }
 
 // Whom a damaged burst seems to be for.
-#[derive(Drop)]
+#[derive(Clone, Copy)]
 pub enum Addressee {
     Nobody,
     One(MonitorId),
 }
 
 // A packet's size, once it is written; or the data fits no packet; or the output has no room for any packet.
-#[derive(Drop)]
+#[derive(Clone, Copy)]
 pub enum Written {
     Bytes(usize),
     TooLong,
@@ -71,7 +73,7 @@ pub enum Written {
 }
 
 // The control words, which box and host exchange.
-#[derive(Drop)]
+#[derive(Clone, Copy)]
 pub enum Control {
     Ack,
     Nack,
@@ -149,7 +151,7 @@ pub fn write_packet(
     out[0] = size;
     out[1] = id.0;
     out[2] = third;
-    bytes::copy(d, &mut out[head..]);
+    lists::copy(d, &mut out[head..]);
     out[n + head] = size ^ id.0 ^ third ^ xor::xor_all(d);
     Written::Bytes(size as usize)
 }

@@ -1,4 +1,6 @@
 // The panels of a line: a panel, the table of them, and who is addressed.
+#![tactic(auto)]
+
 ghost use Rattle.std.specs.Prelude.{◌≡◌, [], ◌≤◌, length, get_or, take};
 ghost use Rattle.panels.specs.Wall.{most_panels, blank, in_places, table_of, panels_of, place_of, video_of};
 ghost use Rattle.panels.specs.Addressed.{reaches};
@@ -20,7 +22,7 @@ pub const GROUP_COUNT: usize = 256;
 // What the index has for an ID that no panel has.
 const NOWHERE: u8 = MOST_PANELS as u8;
 
-#[derive(Drop)]
+#[derive(Clone, Copy)]
 pub struct Panel {
     pub id: MonitorId,
     pub group: GroupId,
@@ -30,7 +32,7 @@ pub struct Panel {
 
 // The panels in their places, and the index: the place of each ID, which is MOST_PANELS where no panel has it, and how many
 // panels each group has. A table that is passed on is copied, so who holds one looks at its places and its index in it.
-#[derive(Drop)]
+#[derive(Clone, Copy)]
 pub struct Table {
     pub panels: [Panel; MOST_PANELS],
     pub places: [u8; ID_COUNT],
@@ -39,14 +41,14 @@ pub struct Table {
 }
 
 // The place of an ID in the table.
-#[derive(Drop)]
+#[derive(Clone, Copy)]
 pub enum Place {
     At(usize),
     Nowhere,
 }
 
 // A panel's video as a caller sees it: with the tint's sign, if it is a Phoenix panel's.
-#[derive(Drop)]
+#[derive(Clone, Copy)]
 pub enum Seen {
     Phoenix(Video),
     General,

@@ -1,4 +1,6 @@
 // The play program: standard input played on the sample wall.
+#![tactic(auto)]
+
 use play_line::Through;
 
 fn main() {

@@ -1,5 +1,7 @@
 // What the programs play and repeater share: the bursts of standard input, played on the sample wall through a receiver of a 2.01
 // line. Standard input has for each burst a count byte and then that many bytes; each answer is printed behind its burst's number.
+#![tactic(auto)]
+
 ghost use Rattle.std.specs.Prelude.{◌≡◌};
 ghost use Rattle.panels.specs.WellFormed.{WellFormed};
 ghost use Rattle.play_line.specs.Played.{Ends};
@@ -13,14 +15,14 @@ use small_receiver::SmallReceiver;
 use text::{LONGEST_STEP, Read};
 
 // The receiver that keeps a whole packet, or the one that keeps its front.
-#[derive(Drop)]
+#[derive(Clone, Copy)]
 pub enum Through {
     First,
     Small,
 }
 
 // A line that has both, of which one is in use.
-#[derive(Drop)]
+#[derive(Clone, Copy)]
 struct Line {
     through: Through,
     first: Receiver,
@@ -28,7 +30,7 @@ struct Line {
 }
 
 // What a burst leaves.
-#[derive(Drop)]
+#[derive(Clone, Copy)]
 struct Heard {
     line: Line,
     table: Table,

@@ -1,4 +1,6 @@
 // The profiles by number, and a Phoenix panel's video: the seven bytes on the line, and what a caller sees and sets.
+#![tactic(auto)]
+
 ghost use Rattle.std.specs.Prelude.{◌≡◌};
 ghost use Rattle.profiles.specs.Numbers.{profile_number, profile_with};
 ghost use Rattle.profiles.specs.Video.{tint_of, tint_byte, video_in, bytes_of};
@@ -6,14 +8,14 @@ ghost use Rattle.profiles.specs.Video.{tint_of, tint_byte, video_in, bytes_of};
 use settings::{MOST_VALUES, Profile};
 
 // The profile that has a number, if one does.
-#[derive(Drop)]
+#[derive(Clone, Copy)]
 pub enum Numbered {
     Known(Profile),
     Unknown,
 }
 
 // A Phoenix panel's seven video values, of which the tint has a sign.
-#[derive(Drop)]
+#[derive(Clone, Copy)]
 pub struct Video {
     pub brightness: u8,
     pub colour: u8,

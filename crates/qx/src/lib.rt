@@ -1,4 +1,6 @@
 // A request for a QX panel: the packets that it becomes, and what the answers to them say.
+#![tactic(auto)]
+
 mod asking;
 mod hearing;
 mod message;
@@ -16,7 +18,7 @@ use requests::Request;
 pub const MOST_PACKETS: usize = 3;
 
 // What a request asks of a QX panel; nothing where it has no packet for it.
-#[derive(Drop)]
+#[derive(Clone, Copy)]
 enum Asked {
     Nothing,
     GetPower,
@@ -25,7 +27,7 @@ enum Asked {
 }
 
 // Why a request has no packets, if it has none.
-#[derive(Drop)]
+#[derive(Clone, Copy)]
 pub enum Refusal {
     Nothing,
     NoRoom,
@@ -34,7 +36,7 @@ pub enum Refusal {
 }
 
 // How many packets a request became, and the size of each; none where it was refused.
-#[derive(Drop)]
+#[derive(Clone, Copy)]
 pub struct Packets {
     pub count: usize,
     pub sizes: [usize; MOST_PACKETS],
@@ -42,7 +44,7 @@ pub struct Packets {
 }
 
 // What an answer says, or all of a request's answers say.
-#[derive(Drop)]
+#[derive(Clone, Copy)]
 pub enum Reply {
     Ack,
     Nack,
@@ -52,7 +54,7 @@ pub enum Reply {
 }
 
 // What the answers in a list say, where there is one to each packet.
-#[derive(Drop)]
+#[derive(Clone, Copy)]
 pub enum Heard {
     Said(Reply),
     Unknown,

@@ -29,7 +29,7 @@ fn put(packet: &[u8], at: usize, out: &mut [u8])
     requires { at + length packet.now ≤ length out.old }
     ensures { out.new ≡ laid_at at packet.now out.old }
 {
-    bytes::copy(packet, &mut out[at..]);
+    lists::copy(packet, &mut out[at..]);
 }
 
 // The three packets of a picture.

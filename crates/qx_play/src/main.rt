@@ -1,4 +1,6 @@
 // Translates the requests of standard input's steps for QX panels, and prints what the answers to their packets say.
+#![tactic(auto)]
+
 use packet::LONGEST;
 use qx::{Heard, Packets, Reply};
 use request_steps::Told;

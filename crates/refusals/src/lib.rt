@@ -1,4 +1,6 @@
 // Why a setup image is refused, and the numbers of refusals that several rooms give.
+#![tactic(auto)]
+
 ghost use Rattle.std.specs.Prelude.{◌≡◌};
 ghost use Rattle.refusals.specs.Refusals.{refusal_number};
 
@@ -12,7 +14,7 @@ pub const UNKNOWN_EDITION: u8 = 23;
 pub const WOULD_LOSE: u8 = 31;
 
 // Why an image was refused, if it was: as a whole, or for a record, a field or a value.
-#[derive(Drop)]
+#[derive(Clone, Copy)]
 pub enum Refusal {
     Nothing,
     TooShort,

@@ -1,4 +1,6 @@
 // The repeater: the play program, through the small receiver.
+#![tactic(auto)]
+
 use play_line::Through;
 
 fn main() {

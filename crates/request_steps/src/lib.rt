@@ -1,4 +1,6 @@
 // A request as the programs' steps tell it.
+#![tactic(auto)]
+
 ghost use Rattle.std.specs.Prelude.{◌≡◌};
 ghost use Rattle.request_steps.specs.Steps.{nothing, told_for, told_with_model};
 
@@ -12,7 +14,7 @@ use tiling::Kind;
 const HEAD: usize = 3;
 
 // The request that a step tells; where it tells none, one of zeros.
-#[derive(Drop)]
+#[derive(Clone, Copy)]
 pub struct Told {
     pub request: Request,
     pub known: bool,
@@ -49,7 +51,7 @@ pub fn told_for(model: Model, step: &[u8]) -> Told
         return nothing();
     }
     let mut values = [0u8; MOST_VALUES];
-    bytes::copy(text::front(&step[HEAD..], MOST_VALUES), &mut values);
+    lists::copy(text::front(&step[HEAD..], MOST_VALUES), &mut values);
     let request = Request {
         model,
         id: MonitorId(step[0]),

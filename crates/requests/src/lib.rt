@@ -1,4 +1,6 @@
 // A request of the host, its packet, and what data says in answer to it.
+#![tactic(auto)]
+
 ghost use Rattle.std.specs.Prelude.{◌≡◌, ◌≤◌, ◌<◌, min, ◌∷◌, take};
 ghost use Rattle.settings.specs.Settings.{row_count, most_values};
 ghost use Rattle.packet.specs.Packet.{written_of, output_of};
@@ -14,7 +16,7 @@ use tiling::Kind;
 
 // A set with its values or a get, and the profile and kind of the panel that it is for, by the caller's word. The first count of the
 // values are the request's; the others mean nothing.
-#[derive(Drop)]
+#[derive(Clone, Copy)]
 pub struct Request {
     pub model: Model,
     pub id: MonitorId,
@@ -25,7 +27,7 @@ pub struct Request {
 }
 
 // What data says to the host that waits.
-#[derive(Drop)]
+#[derive(Clone, Copy)]
 pub enum Said {
     Ack,
     Nack,

@@ -1,5 +1,7 @@
 // Salvages the setup image on standard input. The lines that tell its faults go to standard output and, where a file is named,
 // what was kept goes there as an image of form 2. What fails is told on standard error.
+#![tactic(auto)]
+
 ghost use Rattle.std.specs.Prelude.{◌≡◌, ◌≤◌, length};
 ghost use Rattle.lists.specs.Lists.{laid_over};
 ghost use Rattle.panels.specs.Wall.{panels_of};
@@ -18,7 +20,7 @@ const LONGEST: usize = 4096;
 const ROOM: usize = LONGEST + 1;
 
 // A file's name, which stands at the front of the buffer; or none is given; or the arguments are not what the program takes.
-#[derive(Drop)]
+#[derive(Clone, Copy)]
 enum Name {
     Given(usize),
     Missing,
@@ -26,7 +28,7 @@ enum Name {
 }
 
 // The input, which stands at the front of the buffer; or it could not be read.
-#[derive(Drop)]
+#[derive(Clone, Copy)]
 enum Input {
     Bytes(usize),
     Failed,

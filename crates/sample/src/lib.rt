@@ -1,4 +1,6 @@
 // What the programs over the box share: the sample wall of panels 1 and 2, both in group 9, and bytes as they print them.
+#![tactic(auto)]
+
 ghost use Rattle.std.specs.Prelude.{◌≡◌};
 ghost use Rattle.panels.specs.Wall.{table_of};
 ghost use Rattle.panels.specs.WellFormed.{WellFormed};

@@ -33,9 +33,9 @@ alike_by f g n e d Profile.General h = alike (f Profile.General) (g Profile.Gene
 alike_by f g n e d Profile.Phoenix h = alike (f Profile.Phoenix) (g Profile.Phoenix) n d h
 
 -- The sizes that the table is named by are its own.
-pub row_count : length settings ≡ row_count
+pub row_count_lem : length settings ≡ row_count
 unfolding settings
-row_count = refl
+row_count_lem = refl
 
 pub value_count_lem : length allowed_values ≡ value_count
 unfolding settings allowed_by_row allowed_values flatten

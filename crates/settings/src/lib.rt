@@ -1,4 +1,6 @@
 // The nine settings and the kind as one fixed table of numbers, which box, host and image all read.
+#![tactic(auto)]
+
 mod numbers;
 mod ranges;
 
@@ -51,30 +53,30 @@ const NO_CODE: u8 = 0x00;
 const MORE_COUNT: usize = 3;
 
 // What a panel's ranges and fresh values go by: of any year, or of 2015.
-#[derive(Drop)]
+#[derive(Clone, Copy)]
 pub enum Profile {
     General,
     Phoenix,
 }
 
 // A setting's set code and its get code.
-#[derive(Drop)]
+#[derive(Clone, Copy)]
 struct Codes(u8, u8);
 
 // A setting's value bytes: how many there are, and the place of the first among all value bytes.
-#[derive(Drop)]
+#[derive(Clone, Copy)]
 struct Values(u8, u8);
 
 // The values from the lowest to the highest that a range allows.
-#[derive(Drop)]
+#[derive(Clone, Copy)]
 struct Span(u8, u8);
 
 // One more range of a value byte that has several: the byte's place, the lowest value and the highest.
-#[derive(Drop)]
+#[derive(Clone, Copy)]
 struct More(u8, u8, u8);
 
 // What is other for a Phoenix panel, its video: for each value its first range, the tint's range below 0, and the fresh values.
-#[derive(Drop)]
+#[derive(Clone, Copy)]
 struct Video {
     ranges: [Span; MOST_VALUES],
     below: More,
@@ -83,7 +85,7 @@ struct Video {
 
 // For each setting its codes and its value bytes; for each value byte its first range, more where it has several, and its
 // fresh value; and what is other for a Phoenix panel.
-#[derive(Drop)]
+#[derive(Clone, Copy)]
 struct Table {
     codes: [Codes; ROW_COUNT],
     values: [Values; ROW_COUNT],
@@ -153,10 +155,10 @@ pub fn store(row: usize, vs: &[u8], values: &mut [u8])
         return;
     }
     if vs.len() == MOST_VALUES {
-        bytes::copy(vs, &mut values[at..at + MOST_VALUES]);
+        lists::copy(vs, &mut values[at..at + MOST_VALUES]);
         return;
     }
-    bytes::copy(vs, &mut values[at..]);
+    lists::copy(vs, &mut values[at..]);
 }
 
 // A panel's values before anything is set.

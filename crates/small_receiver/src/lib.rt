@@ -1,4 +1,6 @@
 // The receiver of a small repeater's line, which is of 2.01. It has no room for a packet, and needs none.
+#![tactic(auto)]
+
 ghost use Rattle.std.specs.Prelude.{◌≡◌, ◌+◌, min};
 ghost use mathlib.Core.List.{[], foldl};
 ghost use Rattle.packet.specs.declared.Edition.{Edition};
@@ -21,7 +23,7 @@ const PAST_LONGEST: u8 = LONGEST as u8 + 1;
 
 // The first bytes since the last quiet mark, as many as the longest command has; how many came, up to one more than a packet may
 // have; and the XOR of all.
-#[derive(Drop)]
+#[derive(Clone, Copy)]
 pub struct SmallReceiver {
     bytes: [u8; LONGEST_COMMAND],
     count: u8,
@@ -29,7 +31,7 @@ pub struct SmallReceiver {
 }
 
 // What a quiet mark leaves, and what was wrong with the burst before it.
-#[derive(Drop)]
+#[derive(Clone, Copy)]
 pub struct Heard {
     pub receiver: SmallReceiver,
     pub table: Table,

@@ -1,4 +1,6 @@
 // The table calls: a panel added, a panel removed.
+#![tactic(auto)]
+
 ghost use Rattle.std.specs.Prelude.{◌≡◌, ◌<◌, length};
 ghost use Rattle.panels.specs.Wall.{fresh_panel, table_of, panels_of};
 ghost use Rattle.panels.specs.WellFormed.{WellFormed};
@@ -11,7 +13,7 @@ use settings::{KIND_ROW, Profile};
 use tiling::Kind;
 
 // What a table call refused, if anything.
-#[derive(Drop)]
+#[derive(Clone, Copy)]
 pub enum Refusal {
     Nothing,
     Full,
@@ -23,7 +25,7 @@ pub enum Refusal {
     UnknownKind,
 }
 
-#[derive(Drop)]
+#[derive(Clone, Copy)]
 pub struct Changed {
     pub refusal: Refusal,
     pub table: Table,

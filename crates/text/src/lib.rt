@@ -1,4 +1,6 @@
 // What the programs read and print: steps of standard input, and bytes in upper-case hex.
+#![tactic(auto)]
+
 ghost use Rattle.std.specs.Prelude.{◌≡◌, ◌≤◌, length, take};
 ghost use Rattle.io.specs.Counts.{IsPrefixLen};
 ghost use Rattle.text.specs.Hex.{hex_count, hex_over};
@@ -8,7 +10,7 @@ ghost use Rattle.text.specs.Steps.{StepIn, longest_step};
 pub const LONGEST_STEP: usize = 255;
 
 // A step of the input, which stands at the front of the buffer; or the input stopped inside one; or it was at its end.
-#[derive(Drop)]
+#[derive(Clone, Copy)]
 pub enum Read {
     Step(usize),
     Cut,

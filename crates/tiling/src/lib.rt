@@ -1,31 +1,33 @@
 // Where a panel sits in a wall: a wall's height and width in one byte, by the kind of panel.
+#![tactic(auto)]
+
 ghost use Rattle.std.specs.Prelude.{◌≡◌};
 ghost use Rattle.tiling.specs.Walls.{up_to};
 ghost use Rattle.tiling.specs.Kinds.{kind_number, kind_with, widest, highest, largest, coded_as, size_in, in_wall};
 
 // The walls that a panel can stand in: up to 5 wide and 5 high, or up to 15 wide and 10 high.
-#[derive(Drop)]
+#[derive(Clone, Copy)]
 pub enum Kind {
     FiveByFive,
     FifteenByTen,
 }
 
 // The kind that has a number, if one does.
-#[derive(Drop)]
+#[derive(Clone, Copy)]
 pub enum Numbered {
     Known(Kind),
     Unknown,
 }
 
 // The byte of a height and a width, if the kind has such a wall.
-#[derive(Drop)]
+#[derive(Clone, Copy)]
 pub enum Coded {
     Byte(u8),
     NoWall,
 }
 
 // The height and the width that a byte says, if it is a wall's.
-#[derive(Drop)]
+#[derive(Clone, Copy)]
 pub enum Size {
     HighWide(u8, u8),
     Nothing,

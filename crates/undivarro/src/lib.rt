@@ -1,5 +1,7 @@
 // The exported functions, for C: a setup image read, a burst or a list of them played on it, and the setup written out again; or
 // what can be kept of an image that the reader refuses.
+#![tactic(auto)]
+
 mod batching;
 mod parts;
 mod playing;
@@ -14,7 +16,7 @@ use packet::{Edition, LONGEST, SICP_201};
 // What comes back: 0 or the refusal's number, the number of what was wrong with the burst, and how many bytes the answer and the
 // image written have.
 #[repr(C)]
-#[derive(Drop)]
+#[derive(Clone, Copy)]
 pub struct Outcome {
     pub refusal: u32,
     pub damage: u32,
@@ -23,7 +25,7 @@ pub struct Outcome {
 }
 
 // A line that is opened for a call, or what the call is refused by.
-#[derive(Drop)]
+#[derive(Clone, Copy)]
 struct Opened {
     refusal: u32,
     edition: Edition,

@@ -89,5 +89,5 @@ pub(crate) fn put_text(text: &[u8], told: usize, out: &mut [u8])
     requires { (told ≤ length text.now) × (told ≤ length out.old) }
     ensures { out.new ≡ laid_over (take told text.now) out.old }
 {
-    bytes::copy(&text[..told], out);
+    lists::copy(&text[..told], out);
 }

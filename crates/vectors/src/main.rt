@@ -1,5 +1,7 @@
 // Each step of standard input is the number of a line's edition and then a burst. Plays the burst on such a line with a fresh
 // sample wall, and once more, and prints the number, the burst and its two answers.
+#![tactic(auto)]
+
 use answers::Reply;
 use packet::{Edition, LONGEST, Numbered};
 use text::{LONGEST_STEP, Read};

@@ -1,4 +1,6 @@
 // The XOR of bytes, which is a packet's checksum.
+#![tactic(auto)]
+
 ghost use Rattle.std.specs.Prelude.{◌≡◌};
 ghost use Rattle.xor.specs.Xor.{xor_all};
 

@@ -1,0 +1,51 @@
+use mathlib.Core.Path.{◌≡◌, refl, sym, ◌∙◌}
+use mathlib.Core.Bool.{Bool, true, false, cond, ◌&&◌}
+use Prim.Native.Nat.{ℕ, ◌*◌}
+use native.Mathlib.Omega.{arith}
+use borrow.Author.Rules.{rules}
+use Rattle.tiling.specs.declared.Kind.{Kind}
+use Rattle.tiling.specs.declared.Size.{Size}
+use Rattle.tiling.specs.Walls.{height_of, width_of, up_to}
+use Rattle.tiling.specs.Kinds.{size_in, in_wall, widest, largest}
+use Rattle.tiling.proofs.Sizes.{panels_few}
+use Rattle.std.proofs.Common.{◌+◌, ◌-◌, ◌<◌, ◌≤◌, length, ◌/◌, ◌%◌, nat_eq, nat_lt, List, [], ◌∷◌, ◌++◌, slice_index_or, slice_set, bit_and, bit_or, Fits, w8, w32, w64, Bor, MutBor}
+use Rattle.tiling.specs.Kinds.{kind_number, kind_with, highest, coded_as}
+use Rattle.tiling.proofs.in_wall.Goals as goal
+
+-- The wall's height and width are asked, and then the position. Assumes nothing.
+-- the wall that a byte's size is of
+wall_of : (kind : Kind) (byte v h : ℕ) → Size.HighWide v h ≡ size_in kind byte
+    → (up_to (largest kind) byte ≡ true) × (v ≡ height_of (widest kind) byte) × (h ≡ width_of (widest kind) byte)
+unfolding size_in
+wall_of kind byte v h e = go (up_to (largest kind) byte) refl e
+  where
+    go : (t : Bool) → up_to (largest kind) byte ≡ t → Size.HighWide v h ≡ cond t (Size.HighWide (height_of (widest kind) byte) (width_of (widest kind) byte)) Size.Nothing
+        → (up_to (largest kind) byte ≡ true) × (v ≡ height_of (widest kind) byte) × (h ≡ width_of (widest kind) byte)
+    go true f e = (f, cc, cc)
+    go false f e = let z : ◌≡◌ {A = ℕ} 0 1 = cc in absurd (omega arith)
+
+none_of : (kind : Kind) (position byte : ℕ) → Size.Nothing ≡ size_in kind byte → false ≡ in_wall kind position byte
+unfolding size_in in_wall
+none_of kind position byte e = go (up_to (largest kind) byte) e
+  where
+    go : (t : Bool) → Size.Nothing ≡ cond t (Size.HighWide (height_of (widest kind) byte) (width_of (widest kind) byte)) Size.Nothing
+        → false ≡ (t && up_to (height_of (widest kind) byte * width_of (widest kind) byte) position)
+    go true e = let z : ◌≡◌ {A = ℕ} 0 1 = cc in absurd (omega arith)
+    go false e = refl
+
+pub returns-in_default : goal.returns-in_default
+returns-in_default c =
+    none_of _ _ _ (sym c.enum_told-1.given.1 ∙ c.size_in-size.ensures)
+
+pub overflow_mul-height : goal.overflow_mul-height
+overflow_mul-height c =
+    let wall : let a = c.args in (up_to (largest a.kind) a.byte ≡ true) × (c.size-1.given.0.0 ≡ height_of (widest a.kind) a.byte) × (c.size-1.given.0.1.0 ≡ width_of (widest a.kind) a.byte) = let a = c.args in wall_of a.kind a.byte _ _ (sym c.size-1.given.1 ∙ c.size_in-size.ensures) in
+    let a = c.args in
+    let (is, high, wide) = wall in
+    rw (high, wide) (omega (arith, panels_few a.kind a.byte is))
+
+pub returns : goal.returns
+unfolding in_wall
+returns c =
+    let wall : let a = c.args in (up_to (largest a.kind) a.byte ≡ true) × (c.size-1.given.0.0 ≡ height_of (widest a.kind) a.byte) × (c.size-1.given.0.1.0 ≡ width_of (widest a.kind) a.byte) = let a = c.args in wall_of a.kind a.byte _ _ (sym c.size-1.given.1 ∙ c.size_in-size.ensures) in
+    let (is, high, wide) = wall in c.up_to.ensures ∙ rw (high, wide, is)
