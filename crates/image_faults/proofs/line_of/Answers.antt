@@ -8,8 +8,8 @@ use Rattle.image_faults.proofs.line_of.Goals as goal
 
 pub returns-in-Broken : goal.returns-in-Broken
 unfolding line_of coded_line
-returns-in-Broken c = c.coded.ensures ∙ sym (rw c.fault-1.given.1)
+returns-in-Broken c = c.coded.ensures ∙ sym (rw c.in-Broken.is)
 
 pub returns-in-NotAllowed : goal.returns-in-NotAllowed
 unfolding line_of coded_line
-returns-in-NotAllowed c = c.coded-in-NotAllowed.ensures ∙ sym (rw c.fault-in-NotAllowed-1.given.1)
+returns-in-NotAllowed c = c.coded-in-NotAllowed.ensures ∙ sym (rw c.in-NotAllowed.is)

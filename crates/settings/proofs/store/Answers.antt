@@ -46,8 +46,8 @@ returns-then-vs-eq-MOST_VALUES c =
     let a = c.args in
     let first = c.place_of-at.result in
     let whole : first + 7 - first ≡ length a.vs.now = omega (arith, c.if-vs-eq-MOST_VALUES.true) in
-    let copied : c.copy.new.out ≡ take (length a.vs.now) a.vs.now ++ drop (length a.vs.now) (mid_of first (length a.vs.now) a.values.now) =
-    c.copy.ensures.laid ∙ ap (λ (n : ℕ). take (length a.vs.now) a.vs.now ++ drop (length a.vs.now) (mid_of first n a.values.now)) whole in
+    let copied : c.copy.new.out ≡ a.vs.now ++ drop (length a.vs.now) (mid_of first (length a.vs.now) a.values.now) =
+    c.copy.ensures.laid ∙ ap (λ (n : ℕ). a.vs.now ++ drop (length a.vs.now) (mid_of first n a.values.now)) whole in
     ap₂ (λ (n : ℕ) (m : List ℕ). put_mid first n a.values.now m) whole copied
     ∙ laid_part first a.vs.now a.values.now inside ∙ ap (λ (at : ℕ). laid_at at a.vs.now a.values.now) c.place_of-at.ensures
 

@@ -18,12 +18,6 @@ use Rattle.settings.proofs.ranges.general_allowed.Given as goal
 abbrev pub rest : ℕ → List ℕ → ℕ → Bool
 rest row vs k = allowed_after ((setting row).allowed Profile.General) vs k
 
-abbrev pub row : Ready → ℕ
-row c = (looked c).before.before.args.row
-
-abbrev pub values : Ready → List ℕ
-values c = (looked c).before.before.args.values.now
-
 abbrev pub invariant-loop-k : goal.invariant-loop-k
 invariant-loop-k l = (l.k ≤ byte_count l.row) × (rest l.row l.values 0 ≡ rest l.row l.values l.k)
 
