@@ -1,16 +1,15 @@
 -- What a burst has and what is wrong with it, by its first byte, the count of its bytes and the XOR of all; and the verdict on it by its
 -- front. Assumes nothing.
-use mathlib.Core.Path.{◌≡◌, refl, sym, ap, subst, ◌∙◌}
-use mathlib.Core.Bool.{Bool, true, false, cond, not, and-false}
-use mathlib.Core.List.{List, [], ◌∷◌}
+use mathlib.Core.Path.{◌≡◌, refl, ap, ◌∙◌}
+use mathlib.Core.Bool.{Bool, true, false, and-false}
+use mathlib.Core.List.{List}
 use Prim.Native.Nat.{ℕ, ◌-◌, ◌≤◌, ◌<◌}
 use native.Mathlib.Omega.{arith}
 use borrow.Author.Tests.{leb-true, le-leb, lt-leb, le-ltb, lt-ltb, ltb-false, eq-eqb, ne_eqb, eqb-true}
-use lib.Dec.{eqb, ltb}
 use lib.ListN.{get_or}
 use Rattle.packet.specs.Edition.{group_on}
 use Rattle.packet.specs.Packet.{monitor_id, group_id, shortest, longest}
-use Rattle.packet.specs.Front.{intact_by, damage_by, verdict_by, data_by}
+use Rattle.packet.specs.Front.{intact_by, damage_by, verdict_by}
 use Rattle.packet.specs.declared.Edition.{Edition}
 use Rattle.packet.specs.declared.Damage.{Damage}
 use Rattle.packet.specs.declared.Verdict.{Verdict}

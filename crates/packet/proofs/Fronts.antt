@@ -10,8 +10,8 @@ use lib.ListN.{length, get_or, take, drop, length-take, take-append-drop}
 use lib.Seq.{take_all, take-nil, get_or-take}
 use Rattle.lists.proofs.Sizes.{by_size}
 use Rattle.xor.specs.Xor.{xor_all}
-use Rattle.packet.specs.Edition.{group_on, head_size}
-use Rattle.packet.specs.Packet.{monitor_id, group_id, shortest, longest, is_intact, damage_of, verdict_of, data_of}
+use Rattle.packet.specs.Edition.{head_size}
+use Rattle.packet.specs.Packet.{longest, is_intact, damage_of, verdict_of, data_of}
 use Rattle.packet.specs.Reading.{seems_for, reading_of}
 use Rattle.packet.specs.Front.{damage_by, verdict_by, data_by, reading_by}
 use Rattle.packet.specs.declared.Edition.{Edition}
