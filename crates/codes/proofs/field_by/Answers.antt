@@ -1,10 +1,7 @@
 use mathlib.Core.Path.{◌∙◌}
-use borrow.Author.Rules.{rules}
 use borrow.Author.Tests.{eq-eqb, ne_eqb}
 use Rattle.settings.specs.Settings.{settings}
 use Rattle.codes.specs.Found.{field_by}
-use Rattle.std.proofs.Common.{◌≡◌, ℕ, ◌+◌, ◌-◌, ◌*◌, ◌<◌, ◌≤◌, length, ◌/◌, ◌%◌, Bool, true, false, nat_eq, nat_lt, List, [], ◌∷◌, ◌++◌, slice_index_or, slice_set, bit_and, bit_or, Fits, w8, w32, w64, Bor, MutBor}
-use Rattle.codes.specs.Found.{found_by}
 use Rattle.codes.proofs.field_by.Goals as goal
 
 pub returns-then-code-eq-KIND_CODE : goal.returns-then-code-eq-KIND_CODE

@@ -8,8 +8,7 @@ use Rattle.codes.specs.declared.Found.{Found}
 use Rattle.settings.specs.Settings.{settings}
 use Rattle.codes.specs.Found.{found_from, found_by}
 use Rattle.settings.proofs.Laws.{listed}
-use Rattle.std.proofs.Common.{rules, ◌+◌, ◌-◌, ◌*◌, ◌≤◌, length, ◌/◌, ◌%◌, Bool, true, nat_eq, nat_lt, ◌++◌, slice_index_or, slice_set, bit_and, bit_or, Fits, w8, w32, w64, Bor, MutBor}
-use Rattle.codes.specs.Found.{field_by}
+use Rattle.std.proofs.Common.{rules}
 use Rattle.codes.proofs.found_by.Goals as goal
 
 -- Each arm says what `found_by` computes of its code, and `found_by` finds no code that is in no arm. Assumes nothing.
@@ -36,58 +35,76 @@ unfolding settings found_from listed
 no_more {code} h none = sym (rw (none_listed code codes none) at (alike (λ k. cond (listed k codes) Found.Nothing (found_by k)) (λ k. Found.Nothing) 256 refl h))
 
 pub returns-in-25 : goal.returns-in-25
-returns-in-25 c = ?
+unfolding settings found_from
+returns-in-25 c = arm c.in-25.is
 
 pub returns-in-24 : goal.returns-in-24
-returns-in-24 c = ?
+unfolding settings found_from
+returns-in-24 c = arm c.in-24.is
 
 pub returns-in-164 : goal.returns-in-164
-returns-in-164 c = ?
+unfolding settings found_from
+returns-in-164 c = arm c.in-164.is
 
 pub returns-in-163 : goal.returns-in-163
-returns-in-163 c = ?
+unfolding settings found_from
+returns-in-163 c = arm c.in-163.is
 
 pub returns-in-51 : goal.returns-in-51
-returns-in-51 c = ?
+unfolding settings found_from
+returns-in-51 c = arm c.in-51.is
 
 pub returns-in-50 : goal.returns-in-50
-returns-in-50 c = ?
+unfolding settings found_from
+returns-in-50 c = arm c.in-50.is
 
 pub returns-in-53 : goal.returns-in-53
-returns-in-53 c = ?
+unfolding settings found_from
+returns-in-53 c = arm c.in-53.is
 
 pub returns-in-52 : goal.returns-in-52
-returns-in-52 c = ?
+unfolding settings found_from
+returns-in-52 c = arm c.in-52.is
 
 pub returns-in-67 : goal.returns-in-67
-returns-in-67 c = ?
+unfolding settings found_from
+returns-in-67 c = arm c.in-67.is
 
 pub returns-in-66 : goal.returns-in-66
-returns-in-66 c = ?
+unfolding settings found_from
+returns-in-66 c = arm c.in-66.is
 
 pub returns-in-222 : goal.returns-in-222
-returns-in-222 c = ?
+unfolding settings found_from
+returns-in-222 c = arm c.in-222.is
 
 pub returns-in-221 : goal.returns-in-221
-returns-in-221 c = ?
+unfolding settings found_from
+returns-in-221 c = arm c.in-221.is
 
 pub returns-in-35 : goal.returns-in-35
-returns-in-35 c = ?
+unfolding settings found_from
+returns-in-35 c = arm c.in-35.is
 
 pub returns-in-34 : goal.returns-in-34
-returns-in-34 c = ?
+unfolding settings found_from
+returns-in-34 c = arm c.in-34.is
 
 pub returns-in-98 : goal.returns-in-98
-returns-in-98 c = ?
+unfolding settings found_from
+returns-in-98 c = arm c.in-98.is
 
 pub returns-in-97 : goal.returns-in-97
-returns-in-97 c = ?
+unfolding settings found_from
+returns-in-97 c = arm c.in-97.is
 
 pub returns-in-209 : goal.returns-in-209
-returns-in-209 c = ?
+unfolding settings found_from
+returns-in-209 c = arm c.in-209.is
 
 pub returns-in-208 : goal.returns-in-208
-returns-in-208 c = ?
+unfolding settings found_from
+returns-in-208 c = arm c.in-208.is
 
 pub returns-in_default : goal.returns-in_default
-returns-in_default c = ?
+returns-in_default c = no_more c.ranges.code.fits (search rules)

@@ -1,15 +1,12 @@
 use mathlib.Core.Path.{◌≡◌, refl, sym, ap, ap₂, ◌∙◌}
 use mathlib.Core.List.{flatten}
 use native.Mathlib.Omega.{arith}
-use borrow.Author.Rules.{rules}
 use lib.ListN.{length}
 use Rattle.lists.specs.Lists.{laid_at}
 use Rattle.settings.specs.declared.Profile.{Profile}
 use Rattle.settings.specs.declared.Table.{Table}
 use Rattle.settings.specs.Settings.{settings, allowed_by_row, video_fresh, fresh_values, values_with, video_row}
 use Rattle.settings.specs.Private.Numbers.{paper_table}
-use Rattle.std.proofs.Common.{◌<◌, ℕ, ◌+◌, ◌-◌, ◌*◌, ◌≤◌, ◌/◌, ◌%◌, Bool, true, false, nat_eq, nat_lt, List, [], ◌∷◌, ◌++◌, slice_index_or, slice_set, bit_and, bit_or, Fits, w8, w32, w64, Bor, MutBor}
-use Rattle.settings.specs.Settings.{set_code, get_code, byte_count, place, row_count, value_count}
 use Rattle.settings.proofs.Laws.{is_general}
 use Rattle.settings.proofs.fresh.Goals as goal
 

@@ -2,14 +2,11 @@ use mathlib.Core.Path.{◌≡◌, refl, sym, ◌∙◌}
 use mathlib.Core.Bool.{Bool, true, false, cond, ◌&&◌}
 use Prim.Native.Nat.{ℕ, ◌*◌}
 use native.Mathlib.Omega.{arith}
-use borrow.Author.Rules.{rules}
 use Rattle.tiling.specs.declared.Kind.{Kind}
 use Rattle.tiling.specs.declared.Size.{Size}
 use Rattle.tiling.specs.Walls.{height_of, width_of, up_to}
 use Rattle.tiling.specs.Kinds.{size_in, in_wall, widest, largest}
 use Rattle.tiling.proofs.Sizes.{panels_few}
-use Rattle.std.proofs.Common.{◌+◌, ◌-◌, ◌<◌, ◌≤◌, length, ◌/◌, ◌%◌, nat_eq, nat_lt, List, [], ◌∷◌, ◌++◌, slice_index_or, slice_set, bit_and, bit_or, Fits, w8, w32, w64, Bor, MutBor}
-use Rattle.tiling.specs.Kinds.{kind_number, kind_with, highest, coded_as}
 use Rattle.tiling.proofs.in_wall.Goals as goal
 
 -- The wall's height and width are asked, and then the position. Assumes nothing.

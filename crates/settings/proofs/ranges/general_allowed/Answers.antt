@@ -5,7 +5,7 @@ use Prim.Native.Nat.{ℕ, ◌+◌, ◌<◌}
 use native.Mathlib.Omega.{arith}
 use lib.ListN.{length, get_or}
 use Rattle.settings.specs.declared.Profile.{Profile}
-use Rattle.settings.specs.Settings.{setting, byte_count, place, within, value_count, row_count}
+use Rattle.settings.specs.Settings.{setting, byte_count, place, within, value_count}
 use Rattle.settings.specs.Private.Numbers.{ranges_of, first_range, range_of, span_of, paper_table}
 use Rattle.settings.specs.declared.Span.{Span}
 use Rattle.settings.specs.declared.Table.{Table}

@@ -1,18 +1,10 @@
-use mathlib.Core.Path.{◌≡◌, refl, sym, ap, ◌∙◌}
-use mathlib.Core.Bool.{Bool, ◌&&◌}
+use mathlib.Core.Path.{◌≡◌}
+use mathlib.Core.Bool.{Bool}
 use mathlib.Core.List.{List}
-use Prim.Native.Nat.{ℕ, ◌+◌, ◌-◌, ◌≤◌, ◌<◌}
-use native.Mathlib.Omega.{arith}
-use borrow.Author.Rules.{rules}
-use borrow.Author.Tests.{not-true, not-false}
-use lib.ListN.{length, get_or}
+use Prim.Native.Nat.{ℕ, ◌-◌, ◌≤◌}
 use Rattle.settings.specs.declared.Profile.{Profile}
-use Rattle.settings.specs.Settings.{setting, byte_count, place, within, value_count}
-use Rattle.settings.specs.Private.Numbers.{ranges_of, first_range, range_of, span_of, paper_table}
-use Rattle.settings.specs.declared.Span.{Span}
-use Rattle.settings.specs.declared.Table.{Table}
-use Rattle.lists.proofs.Each.{in_each}
-use Rattle.settings.proofs.Laws.{place_fits, at_place, other_many, byte-count_some, allowed_after, allowed-step, allowed_end}
+use Rattle.settings.specs.Settings.{setting, byte_count}
+use Rattle.settings.proofs.Laws.{allowed_after}
 use Rattle.settings.proofs.ranges.general_allowed.Given as goal
 
 abbrev pub rest : ℕ → List ℕ → ℕ → Bool
