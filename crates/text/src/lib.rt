@@ -49,7 +49,8 @@ pub fn front(bytes: &[u8], n: usize) -> &[u8]
 
 // The number that a count byte stands for.
 fn count_of(b: u8) -> usize
-    ensures { result ≤ longest_step }
+    ensures bound { result ≤ longest_step }
+    ensures value { result ≡ b }
 {
     b as usize
 }
