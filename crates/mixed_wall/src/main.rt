@@ -122,7 +122,11 @@ fn print_place(rt: &impl Print, position: u8, width: u8) -> io::Result<()> {
     }
     let before = wide(position) - 1;
     let w = wide(width);
-    println!(rt; "panel 2: column {}, row {}", before % w + 1, before / w + 1)
+    println!(rt;
+        "panel 2: column {}, row {}",
+        before % w + 1,
+        before / w + 1
+    )
 }
 
 fn show_place(rt: &impl Print, p: Panel) -> io::Result<()> {

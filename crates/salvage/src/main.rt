@@ -12,10 +12,10 @@ use image_forms::Form;
 use image_salvage::LINES_CAP;
 use image_write::Written;
 use panels::Table;
+use std::fmt::Display;
 use std::fs::{File, OpenFile};
 use std::io::Write;
 use std::rt::{Env, Files};
-use std::fmt::Display;
 use std::{env, fs, io};
 
 // The longest image that is taken, and room for one byte more, which tells that the input is longer.
@@ -94,7 +94,10 @@ fn print_lines(
 }
 
 // A line of its own, as a refusal's number.
-fn print_line(rt: &(impl Print + Eprint + AllocGlobal), line: impl Display + Drop) -> io::Result<()> {
+fn print_line(
+    rt: &(impl Print + Eprint + AllocGlobal),
+    line: impl Display + Drop,
+) -> io::Result<()> {
     is_printed(rt, rt.println(line))?;
     Ok(())
 }
