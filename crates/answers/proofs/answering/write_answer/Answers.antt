@@ -1,0 +1,69 @@
+use mathlib.Core.Path.{◌≡◌, sym, ap, ◌∙◌}
+use mathlib.Core.List.{List, [], ◌∷◌}
+use Prim.Native.Nat.{ℕ, ◌+◌, ◌≤◌}
+use native.Mathlib.Omega.{arith}
+use borrow.Author.Tests.{le-leb, lt-leb}
+use lib.ListN.{length, take, length-take}
+use lib.Seq.{take_all, length-take-le}
+use Rattle.packet.specs.Packet.{group_id, packet_of, shortest, most_data, longest}
+use Rattle.lists.specs.Lists.{laid_over}
+use Rattle.packet.specs.declared.Edition.{Edition}
+use Rattle.packet.proofs.EachEdition.{head_few}
+use Rattle.packet.proofs.Packets.{packet_length}
+use Rattle.answers.specs.declared.Answer.{Answer}
+use Rattle.answers.specs.declared.Reply.{Reply}
+use Rattle.answers.specs.declared.Sent.{Sent}
+use Rattle.answers.specs.Reply.{sent_by, sent_bytes, sent_of, output_of, most_reported}
+use borrow.Author.Rules.{rules}
+use Rattle.std.proofs.Common.{◌-◌, ◌*◌, ◌<◌, ◌/◌, ◌%◌, Bool, true, false, nat_eq, nat_lt, ◌++◌, slice_index_or, slice_set, bit_and, bit_or, Fits, w8, w32, w64, Bor, MutBor}
+use Rattle.answers.specs.Reply.{silence, word_from}
+use Rattle.answers.proofs.answering.write_answer.Goals as goal
+
+-- The data that the answer has is sent. Assumes nothing.
+by_answer : (edition : Edition) (r : Reply) (a : Answer) → r.answer ≡ a → sent_bytes edition r ≡ sent_by edition a r.id (take r.count r.bytes)
+unfolding sent_bytes
+by_answer edition r a e = ap (λ (x : Answer). sent_by edition x r.id (take r.count r.bytes)) e
+
+-- data that is sent is the answer
+answered : (edition : Edition) (out : List ℕ) (r : Reply) (d : List ℕ) → longest ≤ length out → length d ≤ most_data edition
+    → sent_bytes edition r ≡ packet_of edition r.id (group_id 0) d
+    → (Sent.Bytes (length d + shortest edition) ≡ sent_of edition out r) × (laid_over (packet_of edition r.id (group_id 0) d) out ≡ output_of edition out r)
+unfolding sent_of output_of
+answered edition out r d h m e =
+    (simp (le-leb _ _ h, e, packet_length edition r.id (group_id 0) d m), simp (le-leb _ _ h, e))
+
+pub returns-then-out-lt-LONGEST-clause-value : goal.returns-then-out-lt-LONGEST-clause-value
+unfolding sent_of output_of
+returns-then-out-lt-LONGEST-clause-value c = (simp (lt-leb _ _ c.if-out-lt-LONGEST.true), simp (lt-leb _ _ c.if-out-lt-LONGEST.true))  -- CLAUSE value
+
+pub returns-in-Silence-clause-value : goal.returns-in-Silence-clause-value
+unfolding sent_of output_of laid_over
+returns-in-Silence-clause-value c =
+    let a = c.args in
+    let room = le-leb longest (length a.out.now) (omega arith) in
+    let e = by_answer a.edition a.reply _ c.in-Silence.is in
+    (simp (room, e), simp (room, e))  -- CLAUSE value
+
+pub returns-in-Silence-clause-out_after : goal.returns-in-Silence-clause-out_after
+unfolding sent_of output_of laid_over
+returns-in-Silence-clause-out_after c =
+    let a = c.args in
+    let room = le-leb longest (length a.out.now) (omega arith) in
+    let e = by_answer a.edition a.reply _ c.in-Silence.is in
+    (simp (room, e), simp (room, e))  -- CLAUSE out_after
+
+pub returns-in-Word-clause-value : goal.returns-in-Word-clause-value
+returns-in-Word-clause-value c =
+    let a = c.args in
+    let byte = c.control_byte in
+    let e = by_answer a.edition a.reply _ c.in-Word.is ∙ ap (λ (b : ℕ). packet_of a.edition a.reply.id (group_id 0) (0 ∷ b ∷ [])) (sym byte.ensures) in
+    let r = answered a.edition a.out.now a.reply (0 ∷ byte.result ∷ []) (omega arith) (omega (arith, head_few a.edition)) e in
+    (c.send.ensures.value ∙ r.0, c.send.ensures.out_after ∙ r.1)  -- CLAUSE value
+
+pub returns-in-Word-clause-out_after : goal.returns-in-Word-clause-out_after
+returns-in-Word-clause-out_after c =
+    let a = c.args in
+    let byte = c.control_byte in
+    let e = by_answer a.edition a.reply _ c.in-Word.is ∙ ap (λ (b : ℕ). packet_of a.edition a.reply.id (group_id 0) (0 ∷ b ∷ [])) (sym byte.ensures) in
+    let r = answered a.edition a.out.now a.reply (0 ∷ byte.result ∷ []) (omega arith) (omega (arith, head_few a.edition)) e in
+    (c.send.ensures.value ∙ r.0, c.send.ensures.out_after ∙ r.1)  -- CLAUSE out_after
