@@ -14,7 +14,7 @@ salvage:
 	@tools/prove salvage
 	@tools/bytes <tests/flooded.hex | tools/run salvage
 
-# every day: the layout, all proofs and the programs; after a change only what it touches
+# every day: the house, all proofs and the programs; after a change only what it touches
 check:
 	@tools/layout
 	@tools/prove

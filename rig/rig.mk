@@ -1,6 +1,6 @@
 # The bench rig. All that links the proved library is x86-64, as the library is; on another processor it is
 # cross-compiled and run under qemu.
-UNDIVARRO_LIB ?= target/staticlib/libundivarro.a
+UNDIVARRO_LIB ?= crates/undivarro/out/libundivarro.a
 CASES ?= 1000000
 SEED ?=
 
@@ -47,8 +47,8 @@ $(rig_out)/rig: $(rig_out)/bin/rig
 	printf '#!/bin/sh\nexec $(RUN) "$$(dirname "$$(readlink -f "$$0")")/bin/rig" "$$@"\n' >$@
 	chmod +x $@
 
-target/staticlib/libundivarro.a: $(wildcard crates/*/src/*.rt crates/*/src/*/*.rt)
-	rt staticlib undivarro
+crates/undivarro/out/libundivarro.a: crates.txt $(wildcard crates/*/src/*.rt crates/*/src/*/*.rt)
+	tools/prove undivarro
 
 $(rig_out)/bin/rig: $(rig_sources)
 $(rig_out)/bin/rig-stopped: $(rig_sources) rig/stops.c

@@ -8,7 +8,7 @@ use native.Mathlib.Numerals.{add-one}
 use native.Mathlib.Omega.{arith}
 use borrow.Rule.Slice.PartMut.{mid_of, put_mid}
 use lib.ListN.{length, get_or, take, drop, set, length-append, length-drop, take-append-drop}
-use lib.Seq.{length-take-le, take_all, take-suc, take-length, drop-length, take_at, drop_at, take-take, take-add, drop-drop, set_at, set_split, append_snoc, drop-append-add}
+use lib.Seq.{length-take-le, take_all, take-suc, drop-length, take_at, drop_at, take-take, take-add, drop-drop, set_at, set_split, append_snoc, drop-append-add}
 use Rattle.lists.specs.Lists.{laid_at, laid_over}
 use Rattle.lists.proofs.Flat.{flat_more}
 
@@ -69,24 +69,24 @@ ahead_of_laid at a n b l h g =
 
 -- a slice copied into the rest of the list from `at` on
 pub laid_copy : (at : ℕ) (s l : List ℕ) → at + length s ≤ length l
-    → put_mid at (length l - at) l (take (length s) s ++ drop (length s) (mid_of at (length l - at) l)) ≡ laid_at at s l
+    → put_mid at (length l - at) l (s ++ drop (length s) (mid_of at (length l - at) l)) ≡ laid_at at s l
 unfolding laid_at
 laid_copy at s l h =
     let d = drop at l in
     let short : length d ≤ length l - at = rw length-drop (omega arith) in
     let all : mid_of at (length l - at) l ≡ d = take_all (length l - at) d short in
     let none : drop (length l - at) d ≡ [] = rw (drop-drop (length l - at) at l) (let e : at + (length l - at) ≡ length l = omega arith in rw e (drop-length l)) in
-    rw (all, none, take-length, append-nil, drop-drop (length s) at l) (sym (append_assoc (take at l) s _))
+    rw (all, none, append-nil, drop-drop (length s) at l) (sym (append_assoc (take at l) s _))
 
 -- and into a part that is as long
 pub laid_part : (at : ℕ) (s l : List ℕ) → at + length s ≤ length l
-    → put_mid at (length s) l (take (length s) s ++ drop (length s) (mid_of at (length s) l)) ≡ laid_at at s l
+    → put_mid at (length s) l (s ++ drop (length s) (mid_of at (length s) l)) ≡ laid_at at s l
 unfolding laid_at
 laid_part at s l h =
     let mid = mid_of at (length s) l in
     let many : length mid ≡ length s = length-take-le (length s) (drop at l) (rw length-drop (omega arith)) in
     let none : drop (length s) mid ≡ [] = ap (λ (n : ℕ). drop n mid) (sym many) ∙ drop-length mid in
-    rw (none, take-length, append-nil, drop-drop (length s) at l) (sym (append_assoc (take at l) s _))
+    rw (none, append-nil, drop-drop (length s) at l) (sym (append_assoc (take at l) s _))
 
 -- nothing laid, and bytes laid over the front
 pub laid_none : (at : ℕ) (l : List ℕ) → laid_at at [] l ≡ l

@@ -12,72 +12,46 @@ use Rattle.packet.specs.declared.Written.{Written}
 use Rattle.lists.specs.Lists.{laid_over}
 use Rattle.xor.specs.Xor.{xor_all}
 use Rattle.packet.specs.Edition.{group_bytes, group_on, head_size}
-use Rattle.packet.specs.Packet.{monitor_id, group_id, intact_by, is_intact, damage_by, verdict_by, verdict_of, data_of, packet_of, most_data, longest, shortest, written_of, output_of}
+use Rattle.packet.specs.Packet.{monitor_id, group_id, is_intact, damage_of, verdict_of, data_of, packet_of, most_data, longest, shortest, written_of, output_of}
 use Rattle.packet.specs.declared.Edition.{Edition}
 use Rattle.packet.specs.declared.MonitorId.{MonitorId}
 use Rattle.packet.specs.declared.GroupId.{GroupId}
-use Rattle.packet.specs.declared.Damage.{Damage}
 use Rattle.packet.specs.declared.Verdict.{Verdict}
 use Rattle.packet.proofs.EachEdition.{head_few}
 use Rattle.xor.proofs.Laws.{summed-zero}
 
--- what an intact burst has, by its first byte, the count of its bytes and the XOR of all
-pub record Whole (edition : Edition) (first count total : ℕ) : Type 0 where
-  pub least : shortest edition ≤ count
-  pub most : count ≤ longest
-  pub size : first ≡ count
-  pub sum : total ≡ 0
+pub record Sound (edition : Edition) (burst : List ℕ) : Type 0 where
+  pub least : shortest edition ≤ length burst
+  pub most : length burst ≤ longest
+  pub size : get_or burst 0 0 ≡ length burst
+  pub sum : xor_all burst ≡ 0
 
--- a whole burst
-abbrev pub damage_of : Edition → List ℕ → Damage
-damage_of edition burst = damage_by edition (get_or burst 0 0) (length burst) (xor_all burst)
-
-abbrev pub Sound : Edition → List ℕ → Type 0
-Sound edition burst = Whole edition (get_or burst 0 0) (length burst) (xor_all burst)
-
-four : (a b c d : Bool) → (a && b && c && d) ≡ true → (a ≡ true) × (b ≡ true) × (c ≡ true) × (d ≡ true)
+pub four : (a b c d : Bool) → (a && b && c && d) ≡ true → (a ≡ true) × (b ≡ true) × (c ≡ true) × (d ≡ true)
 four true true true true e = (refl, refl, refl, refl)
 four true true true false e = absurd (false≢true e)
 four true true false d e = absurd (false≢true e)
 four true false c d e = absurd (false≢true e)
 four false b c d e = absurd (false≢true e)
 
-module _ (edition : Edition) (first count total : ℕ) where
-  pub whole_by : intact_by edition first count total ≡ true → Whole edition first count total
-  whole_by e =
-      let t = four _ _ _ _ e in
-      record { least = leb-true _ _ t.0; most = leb-true _ _ t.1; size = eqb-true _ _ t.2; sum = eqb-true _ _ t.3 }
-
-  pub intact_by_lem : Whole edition first count total → intact_by edition first count total ≡ true
-  intact_by_lem s = rw (le-leb _ _ s.least, le-leb _ _ s.most, eq-eqb _ _ s.size, eq-eqb _ _ s.sum)
-
--- the verdict on a burst of which this is the front
-module _ (edition : Edition) (front : List ℕ) (count total : ℕ) where
-  pub intact-verdict_by : Whole edition (get_or front 0 0) count total
-      → verdict_by edition front count total ≡ Verdict.Intact (monitor_id (get_or front 1 0)) (group_id (group_on edition (get_or front 2 0))) (count - shortest edition)
-  intact-verdict_by s = rw (ne_eqb count 0 (λ z. omega arith), intact_by_lem edition (get_or front 0 0) count total s)
-
-  pub damaged_verdict_by : (count ≡ 0 → ⊥) → intact_by edition (get_or front 0 0) count total ≡ false
-      → verdict_by edition front count total ≡ Verdict.Damaged (damage_by edition (get_or front 0 0) count total)
-  damaged_verdict_by some e = rw (ne_eqb _ _ some, e)
-
 module _ (edition : Edition) (burst : List ℕ) where
   pub sound : is_intact edition burst ≡ true → Sound edition burst
   unfolding is_intact
-  sound e = whole_by edition _ _ _ e
+  sound e =
+      let t = four _ _ _ _ e in
+      record { least = leb-true _ _ t.0; most = leb-true _ _ t.1; size = eqb-true _ _ t.2; sum = eqb-true _ _ t.3 }
 
   pub intact : Sound edition burst → is_intact edition burst ≡ true
   unfolding is_intact
-  intact s = intact_by_lem edition _ _ _ s
+  intact s = rw (le-leb _ _ s.least, le-leb _ _ s.most, eq-eqb _ _ s.size, eq-eqb _ _ s.sum)
 
   pub intact-verdict : is_intact edition burst ≡ true
       → verdict_of edition burst ≡ Verdict.Intact (monitor_id (get_or burst 1 0)) (group_id (group_on edition (get_or burst 2 0))) (length burst - shortest edition)
   unfolding verdict_of
-  intact-verdict e = intact-verdict_by edition burst _ _ (sound e)
+  intact-verdict e = let s = sound e in rw (ne_eqb (length burst) 0 (λ z. omega arith), e)
 
   -- no other burst has such a verdict
   pub verdict-intact : (i : MonitorId) (g : GroupId) (n : ℕ) → verdict_of edition burst ≡ Verdict.Intact i g n → is_intact edition burst ≡ true
-  unfolding verdict_of is_intact
+  unfolding verdict_of
   verdict-intact i g n e = go (eqb (length burst) 0) (is_intact edition burst) refl e
     where
       packet : Verdict
@@ -129,7 +103,10 @@ module _ (edition : Edition) (id : MonitorId) (group : GroupId) (d : List ℕ) (
 
   pub packet_data_lem : data_of edition (packet_of edition id group d) ≡ d
   unfolding packet_of data_of
-  packet_data_lem = rw (packet_verdict, head-dropped edition (length d + shortest edition) id.0 group.0 d (xor_all head ∷ [])) (take-append_seam d _)
+  packet_data_lem =
+      let n : length d + shortest edition - shortest edition ≡ length d = omega arith in
+      let behind = head-dropped edition (length d + shortest edition) id.0 group.0 d (xor_all head ∷ []) in
+      rw (packet_intact, packet_length, n, behind) (take-append_seam d _)
 
 -- An output with room for any packet gets it, where its data fits.
 module _ (edition : Edition) (out : List ℕ) (id : MonitorId) (group : GroupId) (d : List ℕ) (room : longest ≤ length out) (short : length d ≤ most_data edition) where

@@ -1,20 +1,20 @@
 -- An intact burst with one byte changed, lost or added anywhere is damaged. A changed byte spoils the XOR. A lost or added
 -- one spoils the count, unless it is the size itself: then the XOR is the size, which is not 0. Assumes nothing.
-use mathlib.Core.Path.{◌≡◌, refl, sym, ap, ◌∙◌}
+use mathlib.Core.Path.{◌≡◌, refl}
 use mathlib.Core.Bool.{Bool, true, false}
-use mathlib.Core.List.{List, [], ◌∷◌, ◌++◌}
+use mathlib.Core.List.{List, [], ◌∷◌}
 use Prim.Native.Nat.{ℕ, zero, suc, ◌≤◌}
 use native.Mathlib.Omega.{arith}
-use lib.ListN.{length, get_or, take, drop, length-append, length-take, length-drop, length-set}
-use Rattle.xor.specs.Xor.{◌⊕◌, xor_all}
-use Rattle.packet.specs.Packet.{is_intact, verdict_of}
+use lib.ListN.{length, length-append, length-take, length-drop, length-set}
+use Rattle.xor.specs.Xor.{xor_all}
+use Rattle.packet.specs.Packet.{is_intact, damage_of, verdict_of}
 use Rattle.packet.specs.Spoiled.{Spoiling, changed, lost, added, spoiled, Spoils}
 use Rattle.packet.specs.declared.Edition.{Edition}
 use Rattle.packet.specs.declared.Damage.{Damage}
 use Rattle.packet.specs.declared.Verdict.{Verdict}
 use Rattle.xor.proofs.Laws.{⊕_zero_eq, one-changed}
 use Rattle.packet.proofs.EachEdition.{head_few}
-use Rattle.packet.proofs.Packets.{damage_of, Sound, sound}
+use Rattle.packet.proofs.Packets.{Sound, sound}
 use Rattle.packet.proofs.Damages.{passed, damaged_verdict}
 
 -- on no edition

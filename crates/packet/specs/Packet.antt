@@ -29,19 +29,16 @@ longest = 40
 abbrev pub most_data : Edition → ℕ
 most_data edition = longest - shortest edition
 
--- A burst goes by its first byte, the count of its bytes and the XOR of all: it is intact with 3 to 40 bytes on 1.85 and 4 to 40 on
--- 2.01, if the first byte equals their count, and the XOR is 0.
-abbrev pub intact_by : Edition → ℕ → ℕ → ℕ → Bool
-intact_by edition first count sum = leb (shortest edition) count && leb count longest && eqb first count && eqb sum 0
-
+-- 3 to 40 bytes on 1.85 and 4 to 40 on 2.01, the first byte equals their count, and the XOR of all is 0
 unfoldable pub is_intact : Edition → List ℕ → Bool
-is_intact edition burst = intact_by edition (get_or burst 0 0) (length burst) (xor_all burst)
+is_intact edition burst = leb (shortest edition) (length burst) && leb (length burst) longest && eqb (get_or burst 0 0) (length burst) && eqb (xor_all burst) 0
 
--- What is wrong with it: the first that holds, in 02's order (A3). An empty burst has no damage.
-abbrev pub damage_by : Edition → ℕ → ℕ → ℕ → Damage
-damage_by edition first count sum = cond (eqb count 0) Damage.Nothing
-    (cond (ltb count (shortest edition)) Damage.TooShort
-    (cond (ltb longest count) Damage.TooLong (cond (not (eqb first count)) Damage.Size (cond (not (eqb sum 0)) Damage.Checksum Damage.Nothing))))
+-- What is wrong with a burst: the first that holds, in 02's order (A3). An empty burst has no damage.
+unfoldable pub damage_of : Edition → List ℕ → Damage
+damage_of edition burst = cond (eqb (length burst) 0) Damage.Nothing
+    (cond (ltb (length burst) (shortest edition)) Damage.TooShort
+    (cond (ltb longest (length burst)) Damage.TooLong
+    (cond (not (eqb (get_or burst 0 0) (length burst))) Damage.Size (cond (not (eqb (xor_all burst) 0)) Damage.Checksum Damage.Nothing))))
 
 -- its number, 0 for none
 abbrev pub damage_number : Damage → ℕ
@@ -52,15 +49,11 @@ damage_number Damage.Size = 3
 damage_number Damage.Checksum = 4
 
 -- size, monitor ID, on 2.01 group, data, checksum: of an intact burst the ID, the group and the count of its data bytes; of a damaged
--- one what is wrong. Of its bytes the first three count, so that its front stands for it (02, A14),
-abbrev pub verdict_by : Edition → List ℕ → ℕ → ℕ → Verdict
-verdict_by edition front count sum = cond (eqb count 0) Verdict.Empty
-    (cond (intact_by edition (get_or front 0 0) count sum) (Verdict.Intact (monitor_id (get_or front 1 0)) (group_id (group_on edition (get_or front 2 0))) (count - shortest edition))
-    (Verdict.Damaged (damage_by edition (get_or front 0 0) count sum)))
-
--- and a whole burst is its own front
+-- one what is wrong
 unfoldable pub verdict_of : Edition → List ℕ → Verdict
-verdict_of edition burst = verdict_by edition burst (length burst) (xor_all burst)
+verdict_of edition burst = cond (eqb (length burst) 0) Verdict.Empty
+    (cond (is_intact edition burst) (Verdict.Intact (monitor_id (get_or burst 1 0)) (group_id (group_on edition (get_or burst 2 0))) (length burst - shortest edition))
+    (Verdict.Damaged (damage_of edition burst)))
 
 -- the damage that a verdict says
 abbrev pub damage_in : Verdict → Damage
@@ -68,14 +61,9 @@ damage_in Verdict.Empty = Damage.Nothing
 damage_in (Verdict.Damaged damage) = damage
 damage_in (Verdict.Intact id group n) = Damage.Nothing
 
--- the bytes from behind the head to the one before the checksum, of an intact burst, as far as its front has them; otherwise none
-abbrev pub data_by : Edition → List ℕ → Verdict → List ℕ
-data_by edition front Verdict.Empty = []
-data_by edition front (Verdict.Damaged damage) = []
-data_by edition front (Verdict.Intact id group n) = take n (drop (head_size edition) front)
-
+-- the bytes from behind the head to the one before the checksum, of an intact burst; otherwise none
 unfoldable pub data_of : Edition → List ℕ → List ℕ
-data_of edition burst = data_by edition burst (verdict_of edition burst)
+data_of edition burst = cond (is_intact edition burst) (take (length burst - shortest edition) (drop (head_size edition) burst)) []
 
 -- a packet written out: size and checksum are computed
 unfoldable pub packet_of : Edition → MonitorId → GroupId → List ℕ → List ℕ

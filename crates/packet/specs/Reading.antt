@@ -4,7 +4,7 @@ use Rattle.packet.specs.declared.Edition.{Edition}
 use Rattle.packet.specs.declared.Addressee.{Addressee}
 use Rattle.packet.specs.declared.Verdict.{Verdict}
 use Rattle.packet.specs.Edition.{group_on, head_size}
-use Rattle.packet.specs.Packet.{monitor_id, verdict_by, verdict_of, data_by, data_of}
+use Rattle.packet.specs.Packet.{monitor_id, verdict_of, data_of}
 
 -- whom a damaged burst seems to be for: it has a head, which on 2.01 says group 0, and then the second byte is the ID
 unfoldable pub seems_for : Edition → List ℕ → Addressee
@@ -16,10 +16,5 @@ pub record Reading : Type 0 where
   pub part : List ℕ
   pub seems : Addressee
 
--- by its front, the count of its bytes and the XOR of all (02, A14),
-abbrev pub reading_by : Edition → List ℕ → ℕ → ℕ → Reading
-reading_by edition front count sum = let verdict = verdict_by edition front count sum in record { verdict = verdict; part = data_by edition front verdict; seems = seems_for edition front }
-
--- and of a whole burst
 abbrev pub reading_of : Edition → List ℕ → Reading
 reading_of edition burst = record { verdict = verdict_of edition burst; part = data_of edition burst; seems = seems_for edition burst }

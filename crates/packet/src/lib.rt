@@ -1,16 +1,17 @@
-// One burst of the line: what it is and what it says; and a packet written out.
+// One burst of the line: the verdict on it and what is wrong with it, its data bytes, and a packet written out.
 #![tactic(auto)]
 
+mod by_front;
 mod editions;
-mod reading;
 
 ghost use Rattle.std.specs.Prelude.{◌≡◌};
 ghost use Rattle.packet.specs.Control.{control_byte};
 ghost use Rattle.packet.specs.Answered.{is_heard};
-ghost use Rattle.packet.specs.Packet.{damage_number, damage_in, written_of, output_of};
+ghost use Rattle.packet.specs.Packet.{damage_of, damage_number, verdict_of, damage_in, data_of, written_of, output_of};
+ghost use Rattle.packet.specs.Reading.{seems_for};
 
+pub use by_front::{data_by, verdict_by};
 pub use editions::{HEAD_201, SICP_201, carries, edition_number, edition_with, open_refusal};
-pub use reading::{data_by, data_of, seems_for, verdict_by, verdict_of};
 
 // The bytes of the longest packet.
 pub const LONGEST: usize = 40;
@@ -98,6 +99,29 @@ pub fn control_byte(word: Control) -> u8
     }
 }
 
+// The first damage that holds.
+fn damage_of(edition: Edition, burst: &[u8]) -> Damage
+    ensures { result ≡ damage_of edition burst.now }
+{
+    let n = burst.len();
+    if n == 0 {
+        return Damage::Nothing;
+    }
+    if n <= editions::head_size(edition) {
+        return Damage::TooShort;
+    }
+    if LONGEST < n {
+        return Damage::TooLong;
+    }
+    if burst[0] as usize != n {
+        return Damage::Size;
+    }
+    if xor::xor_all(burst) != 0 {
+        return Damage::Checksum;
+    }
+    Damage::Nothing
+}
+
 // The paper's number for a damage.
 pub fn damage_number(damage: Damage) -> u8
     ensures { result ≡ damage_number damage }
@@ -108,6 +132,24 @@ pub fn damage_number(damage: Damage) -> u8
         Damage::TooLong => 2,
         Damage::Size => 3,
         Damage::Checksum => 4,
+    }
+}
+
+pub fn verdict_of(edition: Edition, burst: &[u8]) -> Verdict
+    ensures { result ≡ verdict_of edition burst.now }
+{
+    let n = burst.len();
+    if n == 0 {
+        return Verdict::Empty;
+    }
+    let damage = damage_of(edition, burst);
+    let Damage::Nothing = damage else {
+        return Verdict::Damaged(damage);
+    };
+    Verdict::Intact {
+        id: MonitorId(burst[1]),
+        group: GroupId(editions::group_in(edition, burst)),
+        count: n - editions::head_size(edition) - 1,
     }
 }
 
@@ -124,6 +166,36 @@ pub fn damage_in(verdict: Verdict) -> Damage
             count: _,
         } => Damage::Nothing,
     }
+}
+
+// The data bytes of a burst whose verdict this is, from behind the head to the one before the checksum; none unless it is
+// intact.
+pub fn data_of(edition: Edition, burst: &[u8], verdict: Verdict) -> &[u8]
+    requires { verdict ≡ verdict_of edition burst.now }
+    ensures { result.now ≡ data_of edition burst.now }
+{
+    let Verdict::Intact {
+        id: _,
+        group: _,
+        count: _,
+    } = verdict
+    else {
+        return &burst[..0];
+    };
+    &burst[editions::head_size(edition)..burst.len() - 1]
+}
+
+// Whom a burst seems to be for, if it is damaged.
+pub fn seems_for(edition: Edition, burst: &[u8]) -> Addressee
+    ensures { result ≡ seems_for edition burst.now }
+{
+    if burst.len() < editions::head_size(edition) {
+        return Addressee::Nobody;
+    }
+    if editions::group_in(edition, burst) != 0 {
+        return Addressee::Nobody;
+    }
+    Addressee::One(MonitorId(burst[1]))
 }
 
 // A packet at the front of out, of which the rest stays as it was. Where there is no group byte, the data or the checksum stands

@@ -138,3 +138,8 @@ ranges_many profile row vs e = allowed-count ((setting row).allowed profile) vs 
 
 pub other_many : (profile : Profile) (row : ℕ) (vs : List ℕ) → (length vs ≡ byte_count row → ⊥) → in_ranges profile row vs ≡ false
 other_many profile row vs h = other-count ((setting row).allowed profile) vs (λ e. h (e ∙ as_many profile row))
+
+-- a profile that is not Phoenix is general
+pub is_general : (profile : Profile) → (profile ≡ Profile.Phoenix → ⊥) → profile ≡ Profile.General
+is_general Profile.General h = refl
+is_general Profile.Phoenix h = absurd (h refl)

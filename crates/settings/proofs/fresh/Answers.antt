@@ -1,15 +1,13 @@
 use mathlib.Core.Path.{◌≡◌, refl, sym, ap, ap₂, ◌∙◌}
 use mathlib.Core.List.{flatten}
 use native.Mathlib.Omega.{arith}
-use borrow.Author.Rules.{rules}
 use lib.ListN.{length}
 use Rattle.lists.specs.Lists.{laid_at}
 use Rattle.settings.specs.declared.Profile.{Profile}
 use Rattle.settings.specs.declared.Table.{Table}
 use Rattle.settings.specs.Settings.{settings, allowed_by_row, video_fresh, fresh_values, values_with, video_row}
 use Rattle.settings.specs.Private.Numbers.{paper_table}
-use Rattle.std.proofs.Common.{◌<◌, ℕ, ◌+◌, ◌-◌, ◌*◌, ◌≤◌, ◌/◌, ◌%◌, Bool, true, false, nat_eq, nat_lt, List, [], ◌∷◌, ◌++◌, slice_index_or, slice_set, bit_and, bit_or, Fits, w8, w32, w64, Bor, MutBor}
-use Rattle.settings.specs.Settings.{set_code, get_code, byte_count, place, row_count, value_count}
+use Rattle.settings.proofs.Laws.{is_general}
 use Rattle.settings.proofs.fresh.Goals as goal
 
 phoenix_fresh : values_with video_row (video_fresh Profile.Phoenix) (fresh_values Profile.General) ≡ fresh_values Profile.Phoenix
@@ -29,8 +27,8 @@ unfolding paper_table
 returns-in-Phoenix c =
     c.store.ensures
     ∙ ap₂ (λ (t u : Table). values_with video_row t.phoenix.fresh u.fresh) c.the_table-in-Phoenix.ensures c.the_table.ensures
-    ∙ phoenix_fresh ∙ ap fresh_values (sym c.enum_told-1.given.1)
+    ∙ phoenix_fresh ∙ ap fresh_values (sym c.in-Phoenix.is)
 
 pub returns-in_default : goal.returns-in_default
 unfolding paper_table
-returns-in_default c = ap (λ (t : Table). t.fresh) c.the_table.ensures ∙ ap fresh_values (sym c.enum_told-in_default-1.given.1)
+returns-in_default c = ap (λ (t : Table). t.fresh) c.the_table.ensures ∙ ap fresh_values (sym (is_general c.args.profile c.in_default.not-Phoenix))

@@ -3,13 +3,10 @@ use mathlib.Core.List.{List, [], ◌∷◌, ◌++◌}
 use Prim.Native.Nat.{ℕ, ◌+◌, ◌-◌, ◌≤◌}
 use native.Mathlib.Omega.{arith}
 use borrow.Rule.Slice.PartMut.{put_mid, mid_of}
-use borrow.Author.Rules.{rules}
-use lib.ListN.{length, get_or, take, drop, length-take, length-drop}
+use lib.ListN.{length, get_or, drop, length-take, length-drop}
 use Rattle.settings.proofs.Laws.{place_fits}
 use Rattle.lists.specs.Lists.{laid_at}
 use Rattle.lists.proofs.Laid.{laid_set, laid_copy, laid_part}
-use Rattle.std.proofs.Common.{◌<◌, ◌*◌, ◌/◌, ◌%◌, Bool, true, false, nat_eq, nat_lt, slice_index_or, slice_set, bit_and, bit_or, Fits, w8, w32, w64, Bor, MutBor}
-use Rattle.settings.specs.Settings.{set_code, get_code, byte_count, place, fresh_values, values_with, row_count, value_count}
 use Rattle.settings.proofs.store.Goals as goal
 
 -- The one value is set at the row's place, or the values are copied there. Assumes nothing.
@@ -46,8 +43,8 @@ returns-then-vs-eq-MOST_VALUES c =
     let a = c.args in
     let first = c.place_of-at.result in
     let whole : first + 7 - first ≡ length a.vs.now = omega (arith, c.if-vs-eq-MOST_VALUES.true) in
-    let copied : c.copy.new.out ≡ take (length a.vs.now) a.vs.now ++ drop (length a.vs.now) (mid_of first (length a.vs.now) a.values.now) =
-    c.copy.ensures.laid ∙ ap (λ (n : ℕ). take (length a.vs.now) a.vs.now ++ drop (length a.vs.now) (mid_of first n a.values.now)) whole in
+    let copied : c.copy.new.out ≡ a.vs.now ++ drop (length a.vs.now) (mid_of first (length a.vs.now) a.values.now) =
+    c.copy.ensures.laid ∙ ap (λ (n : ℕ). a.vs.now ++ drop (length a.vs.now) (mid_of first n a.values.now)) whole in
     ap₂ (λ (n : ℕ) (m : List ℕ). put_mid first n a.values.now m) whole copied
     ∙ laid_part first a.vs.now a.values.now inside ∙ ap (λ (at : ℕ). laid_at at a.vs.now a.values.now) c.place_of-at.ensures
 

@@ -2,14 +2,11 @@ use mathlib.Core.Path.{◌≡◌, refl, sym, ◌∙◌}
 use mathlib.Core.Bool.{Bool, true, false, cond, ◌&&◌}
 use Prim.Native.Nat.{ℕ, ◌*◌}
 use native.Mathlib.Omega.{arith}
-use borrow.Author.Rules.{rules}
 use Rattle.tiling.specs.declared.Kind.{Kind}
 use Rattle.tiling.specs.declared.Size.{Size}
 use Rattle.tiling.specs.Walls.{height_of, width_of, up_to}
 use Rattle.tiling.specs.Kinds.{size_in, in_wall, widest, largest}
 use Rattle.tiling.proofs.Sizes.{panels_few}
-use Rattle.std.proofs.Common.{◌+◌, ◌-◌, ◌<◌, ◌≤◌, length, ◌/◌, ◌%◌, nat_eq, nat_lt, List, [], ◌∷◌, ◌++◌, slice_index_or, slice_set, bit_and, bit_or, Fits, w8, w32, w64, Bor, MutBor}
-use Rattle.tiling.specs.Kinds.{kind_number, kind_with, highest, coded_as}
 use Rattle.tiling.proofs.in_wall.Goals as goal
 
 -- The wall's height and width are asked, and then the position. Assumes nothing.
@@ -34,18 +31,15 @@ none_of kind position byte e = go (up_to (largest kind) byte) e
     go false e = refl
 
 pub returns-in_default : goal.returns-in_default
-returns-in_default c =
-    none_of _ _ _ (sym c.enum_told-1.given.1 ∙ c.size_in-size.ensures)
+returns-in_default c = none_of _ _ _ (sym c.in_default.is ∙ c.size_in-size.ensures)
 
 pub overflow_mul-height : goal.overflow_mul-height
 overflow_mul-height c =
-    let wall : let a = c.args in (up_to (largest a.kind) a.byte ≡ true) × (c.size-1.given.0.0 ≡ height_of (widest a.kind) a.byte) × (c.size-1.given.0.1.0 ≡ width_of (widest a.kind) a.byte) = let a = c.args in wall_of a.kind a.byte _ _ (sym c.size-1.given.1 ∙ c.size_in-size.ensures) in
-    let a = c.args in
-    let (is, high, wide) = wall in
-    rw (high, wide) (omega (arith, panels_few a.kind a.byte is))
+    let w = wall_of c.args.kind c.args.byte _ _ c.in-HighWide.ensures in
+    rw (w.1, w.2) (omega (arith, panels_few c.args.kind c.args.byte w.0))
 
 pub returns : goal.returns
 unfolding in_wall
 returns c =
-    let wall : let a = c.args in (up_to (largest a.kind) a.byte ≡ true) × (c.size-1.given.0.0 ≡ height_of (widest a.kind) a.byte) × (c.size-1.given.0.1.0 ≡ width_of (widest a.kind) a.byte) = let a = c.args in wall_of a.kind a.byte _ _ (sym c.size-1.given.1 ∙ c.size_in-size.ensures) in
-    let (is, high, wide) = wall in c.up_to.ensures ∙ rw (high, wide, is)
+    let w = wall_of c.args.kind c.args.byte _ _ c.in-HighWide.ensures in
+    c.up_to.ensures ∙ rw (w.1, w.2, w.0)

@@ -46,8 +46,7 @@ step p v k ms d h = rw (drop-cons ms k d h, add-one)
 pub loop-k-init : goal.loop-k-init
 unfolding paper_table
 loop-k-init c =
-    let table = c.the_table.ensures in
-    (
+    let table = c.the_table.ensures in (
       omega arith,
       ap (λ (t : Table). length t.more) table ∙ three,
       sym (ap (λ (t : Table). any_more c.args.p c.args.v t.more) table ∙ right c.args.v c.requires),

@@ -1,15 +1,11 @@
 use mathlib.Core.Path.{◌≡◌, refl, sym, ap, ◌∙◌}
-use mathlib.Core.Logic.{⊎_elim}
 use mathlib.Core.List.{List}
 use Prim.Native.Nat.{ℕ, ◌<◌}
-use borrow.Author.Rules.{rules}
 use Rattle.settings.specs.declared.Profile.{Profile}
 use Rattle.settings.specs.Settings.{Range, all_allowed, in_ranges, row_count, video_row}
-use Rattle.settings.proofs.Laws.{all_else}
-use Rattle.std.proofs.Common.{drop, ◌||◌, ◌+◌, ◌-◌, ◌*◌, ◌≤◌, length, ◌/◌, ◌%◌, Bool, true, false, nat_eq, nat_lt, [], ◌∷◌, ◌++◌, slice_index_or, slice_set, bit_and, bit_or, Fits, w8, w32, w64, Bor, MutBor}
-use Rattle.settings.specs.Settings.{value_count}
-use Rattle.settings.specs.Private.Numbers.{in_range, range_of, ranges_of, first_range, is_more}
+use Rattle.settings.proofs.Laws.{all_else, is_general}
 use Rattle.settings.proofs.ranges.in_ranges.Goals as goal
+use Rattle.settings.proofs.ranges.in_ranges.Goals.{in-Phoenix+else-row-eq-VIDEO_ROW, in_default}
 
 -- All but the video of a Phoenix panel is as general. Assumes nothing.
 as_general : (profile : Profile) {row : ℕ} (vs : List ℕ) → row < row_count → (row ≡ video_row → ⊥) → in_ranges Profile.General row vs ≡ in_ranges profile row vs
@@ -19,7 +15,7 @@ as_general Profile.Phoenix vs h ne = ap (λ (rs : List (List Range)). all_allowe
 pub returns : goal.returns
 returns c =
     c.general_allowed.ensures
-    ∙ ⊎_elim
-    (λ w. as_general _ _ c.requires w.2.left)
-    (λ w. ap (λ (profile : Profile). in_ranges profile c.args.row c.args.values.now) (sym w.1.given.1))
-    c.in-Phoenix.came
+    ∙ elim c.match-profile.branch [
+      | in-Phoenix+else-row-eq-VIDEO_ROW w ↦ as_general _ _ c.requires w.if-row-eq-VIDEO_ROW.false
+      | in_default w ↦ ap (λ (profile : Profile). in_ranges profile c.args.row c.args.values.now) (sym (is_general c.args.profile w.in_default.not-Phoenix))
+    ]

@@ -1,10 +1,8 @@
 use mathlib.Core.Path.{◌≡◌, refl, sym, ap, ap₂, ◌∙◌}
 use mathlib.Core.Bool.{Bool, true, false, cond, or-false, ◌&&◌, ◌||◌}
 use mathlib.Core.List.{List, [], ◌∷◌}
-use Prim.Native.Nat.{ℕ, ◌+◌, ◌-◌, ◌≤◌, ◌<◌}
+use Prim.Native.Nat.{ℕ, ◌+◌, ◌<◌}
 use native.Mathlib.Omega.{arith}
-use borrow.Author.Rules.{rules}
-use borrow.Author.Tests.{not-true, not-false}
 use lib.Dec.{eqb}
 use lib.ListN.{length, get_or}
 use Rattle.settings.specs.declared.Profile.{Profile}
@@ -15,9 +13,6 @@ use Rattle.settings.specs.Settings.{Range, settings, within, video_allowed, vide
 use Rattle.settings.specs.Private.Numbers.{in_range, video_range, span_of, range_of, is_more, tint_below, paper_table}
 use Rattle.lists.proofs.Each.{alike, in_each}
 use Rattle.settings.proofs.Laws.{other_many, allowed_after, allowed-step, allowed_end}
-use Rattle.std.proofs.Common.{drop, ◌*◌, ◌/◌, ◌%◌, nat_eq, nat_lt, ◌++◌, slice_index_or, slice_set, bit_and, bit_or, Fits, w8, w32, w64, Bor, MutBor}
-use Rattle.settings.specs.Settings.{in_ranges, row_count, value_count}
-use Rattle.settings.specs.Private.Numbers.{ranges_of, first_range}
 use Rattle.settings.proofs.ranges.video_allowed.Goals as goal
 use Rattle.settings.proofs.ranges.video_allowed.Invariants.{rest}
 
@@ -57,14 +52,14 @@ unfolding allowed_after settings
 returns-then-not-video_allowed_at c =
     let tried : let v = get_or c.args.values.now c.loop-k.k 0 in (in_range (video_range c.loop-k.k) v || is_more c.loop-k.k v tint_below) ≡ c.video_allowed_at.result = let k = c.loop-k.k in let v = get_or c.args.values.now k 0 in let first = first_in {k = k} _ c.the_table.ensures (omega arith) in sym (c.video_allowed_at.ensures ∙ ap₂ (λ (r : Range) (m : More). in_range r v || is_more k v m) first (below_in c.the_table-2.ensures)) in
     let values = c.args.values.now in
-    let here = tried ∙ not-true _ c.if-not-video_allowed_at.true in
+    let here = tried ∙ c.if-not-video_allowed_at.true in
     sym (c.loop-k.invariant.1 ∙ step c.loop-k.k values (omega arith) (omega arith) ∙ simp here)
 
 pub loop-k-preserved : goal.loop-k-preserved
 loop-k-preserved c =
     let tried : let v = get_or c.args.values.now c.loop-k.k 0 in (in_range (video_range c.loop-k.k) v || is_more c.loop-k.k v tint_below) ≡ c.video_allowed_at.result = let k = c.loop-k.k in let v = get_or c.args.values.now k 0 in let first = first_in {k = k} _ c.the_table.ensures (omega arith) in sym (c.video_allowed_at.ensures ∙ ap₂ (λ (r : Range) (m : More). in_range r v || is_more k v m) first (below_in c.the_table-2.ensures)) in
     let values = c.args.values.now in
-    let here = tried ∙ not-false _ c.if-not-video_allowed_at.false in
+    let here = tried ∙ c.if-not-video_allowed_at.false in
     (omega arith, c.loop-k.invariant.1 ∙ step c.loop-k.k values (omega arith) (omega arith) ∙ simp here)
 
 pub returns : goal.returns
