@@ -8,6 +8,10 @@ ghost use Rattle.panels.specs.WellFormed.{WellFormed};
 use image_forms::Form;
 use image_write::{LARGEST, Written};
 use panels::Table;
+use std::io;
+
+// The longest image of the input, whose length is two bytes, fits in it.
+const ROOM: usize = 65536;
 
 // The hex digits of the largest image.
 const MOST_DIGITS: usize = 2 * LARGEST;
@@ -26,92 +30,79 @@ fn size_of(high: u8, low: u8) -> usize
     256 * (high as usize) + low as usize
 }
 
-fn read_item(buf: &mut [u8]) -> Item
+fn read_item<R: io::Read>(reader: &mut R, buf: &mut [u8]) -> io::Result<Item>
     requires { 65536 ≤ length buf.old }
 {
     let mut two = [0u8; 2];
-    let got = io::read_full(0, &mut two);
+    let got = text::read_full(reader, &mut two)?;
     if got == 0 {
-        return Item::End;
+        return Ok(Item::End);
     }
     if got < 2 {
-        return Item::Cut;
+        return Ok(Item::Cut);
     }
     let size = size_of(two[0], two[1]);
-    if io::read_full(0, &mut buf[..size]) < size {
-        return Item::Cut;
+    if text::read_full(reader, &mut buf[..size])? < size {
+        return Ok(Item::Cut);
     }
-    Item::Image(size)
+    Ok(Item::Image(size))
 }
 
-fn print_hex(bytes: &[u8]) {
+fn print_hex(rt: &impl Print, bytes: &[u8]) -> io::Result<()> {
     let mut digits = [0u8; MOST_DIGITS];
     let count = text::hex(bytes, &mut digits);
-    io::write_all(1, text::front(&digits, count));
+    rt.write_all(text::front(&digits, count))
 }
 
-fn print_refusal(number: u8) {
-    io::write_all(1, b"refused ");
-    io::print_decimal(1, number as u64);
+fn print_refusal(rt: &impl Print, number: u8) -> io::Result<()> {
+    print!(rt; "refused {number}")
 }
 
 // The table's image in a form, in upper-case hex, or the refusal.
-fn print_image(form: Form, t: Table)
+fn print_image(rt: &impl Print, form: Form, t: Table) -> io::Result<()>
     requires { WellFormed t }
 {
     let mut out = image_write::room();
     let written = image_write::write_image(form, t, &mut out);
     match written {
-        Written::Bytes(n) => print_hex(text::front(&out, n)),
-        _ => print_refusal(image_write::refusal_number(written)),
+        Written::Bytes(n) => print_hex(rt, text::front(&out, n)),
+        _ => print_refusal(rt, image_write::refusal_number(written)),
     }
 }
 
-fn print_reading(bytes: &[u8]) {
+fn print_reading(rt: &impl Print, bytes: &[u8]) -> io::Result<()> {
     if 4096 < bytes.len() {
-        io::write_all(1, b"too-long");
-        return;
+        return print!(rt; "too-long");
     }
     let read = image_read::read_image(bytes);
     let refusal = read.refusal;
     let number = refusals::refusal_number(refusal);
     if number != 0 {
-        print_refusal(number);
-        return;
+        return print_refusal(rt, number);
     }
     let table = read.table;
-    print_image(Form::Two, table);
-    io::write_all(1, b" ");
-    print_image(Form::One, table);
+    print_image(rt, Form::Two, table)?;
+    print!(rt; " ")?;
+    print_image(rt, Form::One, table)
 }
 
-fn print_last(word: &[u8], number: u64) {
-    io::write_all(1, word);
-    io::print_decimal(1, number);
-    io::write_all(1, b"\n");
-}
-
-fn main() {
-    let mut buffer = io::large_buffer();
-    let mut number = 0u64;
-    while number < u64::MAX {
-        let item = read_item(&mut buffer);
-        match item {
+fn run(rt: &(impl Print + Input)) -> io::Result<()> {
+    let mut buffer = [0u8; ROOM];
+    let mut reader = rt.reader();
+    for number in 0..u64::MAX {
+        match read_item(&mut reader, &mut buffer)? {
             Item::Image(n) => {
-                number += 1;
-                io::print_decimal(1, number);
-                io::write_all(1, b" ");
-                print_reading(text::front(&buffer, n));
-                io::write_all(1, b"\n");
+                print!(rt; "{} ", number + 1)?;
+                print_reading(rt, text::front(&buffer, n))?;
+                println!(rt)?;
             }
-            Item::Cut => {
-                print_last(b"cut ", number);
-                return;
-            }
-            Item::End => {
-                print_last(b"end ", number);
-                return;
-            }
+            Item::Cut => return println!(rt; "cut {number}"),
+            Item::End => return println!(rt; "end {number}"),
         }
     }
+    Ok(())
+}
+
+fn main(rt: HostRuntime) -> io::Result<()> {
+    run(&rt)
 }

@@ -3,7 +3,7 @@
 // the wall as a caller sees them.
 #![tactic(auto)]
 
-ghost use Rattle.std.specs.Prelude.{◌≡◌, ◌<◌};
+ghost use Rattle.std.specs.Prelude.{◌≡◌, ◌<◌, IfOk};
 ghost use Rattle.panels.specs.Wall.{table_of, panels_of};
 ghost use Rattle.panels.specs.WellFormed.{WellFormed};
 ghost use Rattle.packet.specs.declared.Edition.{Edition};
@@ -15,42 +15,44 @@ use panels::{Panel, Place, Seen, Table};
 use profiles::Video;
 use requests::Request;
 use settings::{Profile, TILING_ROW};
+use std::io;
 use tiling::{Coded, Kind, Size};
 
 // Plays a packet, and prints it and its answer.
-fn send(t: Table, burst: &[u8]) -> Table
+fn send(rt: &impl Print, t: Table, burst: &[u8]) -> io::Result<Table>
     requires { WellFormed t }
-    ensures { (result ≡ table_of (played Edition.Sicp201 (panels_of t) burst.now).wall) × WellFormed result }
+    ensures { IfOk result
+        (λ after. (after ≡ table_of (played Edition.Sicp201 (panels_of t) burst.now).wall) × WellFormed after) }
 {
     let played = answers::play(Edition::Sicp201, t, burst);
     let mut digits = [0u8; 2 * LONGEST];
     let sent = sample::shown(burst, &mut digits);
-    io::write_all(1, text::front(&digits, sent));
-    io::write_all(1, b" ");
+    rt.write_all(text::front(&digits, sent))?;
+    print!(rt; " ")?;
     let reply = played.reply;
     let answered = sample::shown_answer(Edition::Sicp201, reply, &mut digits);
-    io::write_all(1, text::front(&digits, answered));
-    io::write_all(1, b"\n");
-    played.table
+    rt.write_all(text::front(&digits, answered))?;
+    println!(rt)?;
+    Ok(played.table)
 }
 
 // Plays a request's packet.
-fn send_request(t: Table, request: Request) -> Table
+fn send_request(rt: &impl Print, t: Table, request: Request) -> io::Result<Table>
     requires { WellFormed t }
-    ensures { WellFormed result }
+    ensures { IfOk result WellFormed }
 {
     let mut out = [0u8; LONGEST];
     let written = requests::write_request(Edition::Sicp201, request, &mut out);
     let Written::Bytes(n) = written else {
-        return t;
+        return Ok(t);
     };
-    send(t, text::front(&out, n))
+    send(rt, t, text::front(&out, n))
 }
 
 // Panel 2 gets a video with this tint.
-fn set_tint(t: Table, tint: i8) -> Table
+fn set_tint(rt: &impl Print, t: Table, tint: i8) -> io::Result<Table>
     requires { WellFormed t }
-    ensures { WellFormed result }
+    ensures { IfOk result WellFormed }
 {
     let video = Video {
         brightness: 50,
@@ -61,17 +63,21 @@ fn set_tint(t: Table, tint: i8) -> Table
         black: 50,
         gamma: 3,
     };
-    send_request(t, requests::video_request(MonitorId(2), GroupId(0), video))
+    send_request(
+        rt,
+        t,
+        requests::video_request(MonitorId(2), GroupId(0), video),
+    )
 }
 
 // Panel 2 gets its place in a wall of this height and width.
-fn set_place(t: Table, position: u8, height: u8, width: u8) -> Table
+fn set_place(rt: &impl Print, t: Table, position: u8, height: u8, width: u8) -> io::Result<Table>
     requires { WellFormed t }
-    ensures { WellFormed result }
+    ensures { IfOk result WellFormed }
 {
     let coded = tiling::coded_as(Kind::FifteenByTen, height, width);
     let Coded::Byte(byte) = coded else {
-        return t;
+        return Ok(t);
     };
     let model = Model {
         profile: Profile::Phoenix,
@@ -85,26 +91,19 @@ fn set_place(t: Table, position: u8, height: u8, width: u8) -> Table
         values: [1, 0, position, byte, 0, 0, 0],
         count: settings::byte_count(TILING_ROW),
     };
-    send_request(t, request)
+    send_request(rt, t, request)
 }
 
-fn print_tint(tint: i8) {
-    let byte = profiles::tint_byte(tint) as u64;
-    io::write_all(1, b"panel 2: tint ");
-    if tint < 0 {
-        io::write_all(1, b"-");
-        io::print_decimal(1, 256 - byte);
-    } else {
-        io::print_decimal(1, byte);
-    }
-    io::write_all(1, b"\n");
+fn print_tint(rt: &impl Print, tint: i8) -> io::Result<()> {
+    println!(rt; "panel 2: tint {tint}")
 }
 
-fn show_tint(p: Panel) {
+fn show_tint(rt: &impl Print, p: Panel) -> io::Result<()> {
     let seen = panels::video_of(p);
     if let Seen::Phoenix(video) = seen {
-        print_tint(video.tint);
+        print_tint(rt, video.tint)?;
     }
+    Ok(())
 }
 
 fn wide(x: u8) -> u64
@@ -114,45 +113,46 @@ fn wide(x: u8) -> u64
 }
 
 // The column and the row of a position in a wall of this width.
-fn print_place(position: u8, width: u8) {
+fn print_place(rt: &impl Print, position: u8, width: u8) -> io::Result<()> {
     if position == 0 {
-        return;
+        return Ok(());
     }
     if width == 0 {
-        return;
+        return Ok(());
     }
     let before = wide(position) - 1;
     let w = wide(width);
-    io::write_all(1, b"panel 2: column ");
-    io::print_decimal(1, before % w + 1);
-    io::write_all(1, b", row ");
-    io::print_decimal(1, before / w + 1);
-    io::write_all(1, b"\n");
+    println!(rt;
+        "panel 2: column {}, row {}",
+        before % w + 1,
+        before / w + 1
+    )
 }
 
-fn show_place(p: Panel) {
+fn show_place(rt: &impl Print, p: Panel) -> io::Result<()> {
     let values = p.values;
     let first = settings::place_of(TILING_ROW);
     let size = tiling::size_in(Kind::FifteenByTen, values[first + 3]);
     if let Size::HighWide(_, width) = size {
-        print_place(values[first + 2], width);
+        print_place(rt, values[first + 2], width)?;
     }
+    Ok(())
 }
 
 // Panel 2 as a caller sees it.
-fn show(t: Table)
+fn show(rt: &impl Print, t: Table) -> io::Result<()>
     requires { WellFormed t }
 {
     let place = panels::place_of(t, MonitorId(2));
     let Place::At(k) = place else {
-        return;
+        return Ok(());
     };
     let p = panels::panel_at(t, k);
-    show_tint(p);
-    show_place(p);
+    show_tint(rt, p)?;
+    show_place(rt, p)
 }
 
-fn main() {
+fn run(rt: &impl Print) -> io::Result<()> {
     let empty = panels::empty_table();
     let one = table_calls::add(empty, MonitorId(1), GroupId(9), 0, 0);
     let general = one.table;
@@ -160,28 +160,36 @@ fn main() {
     let mut wall = two.table;
     // group 9: video with sharpness 60; then both panels: video?
     wall = send(
+        rt,
         wall,
         &[0x0C, 0x00, 0x09, 0x32, 50, 50, 50, 60, 50, 50, 3, 0x3A],
-    );
-    wall = send(wall, &[0x05, 0x01, 0x00, 0x33, 0x37]);
-    wall = send(wall, &[0x05, 0x02, 0x00, 0x33, 0x34]);
-    wall = set_tint(wall, -20);
-    wall = send(wall, &[0x05, 0x02, 0x00, 0x33, 0x34]);
+    )?;
+    wall = send(rt, wall, &[0x05, 0x01, 0x00, 0x33, 0x37])?;
+    wall = send(rt, wall, &[0x05, 0x02, 0x00, 0x33, 0x34])?;
+    wall = set_tint(rt, wall, -20)?;
+    wall = send(rt, wall, &[0x05, 0x02, 0x00, 0x33, 0x34])?;
     // group 9: the tiling of 002, position 2 and byte 0x12, which is 3 wide and 4 high for panel 1, 3 wide and 2 high for panel 2
     wall = send(
+        rt,
         wall,
         &[0x09, 0x00, 0x09, 0x22, 0x01, 0x00, 0x02, 0x12, 0x33],
-    );
+    )?;
     // position 7: of 12 for panel 1, and of 6 for panel 2
     wall = send(
+        rt,
         wall,
         &[0x09, 0x01, 0x00, 0x22, 0x01, 0x00, 0x07, 0x00, 0x2C],
-    );
+    )?;
     wall = send(
+        rt,
         wall,
         &[0x09, 0x02, 0x00, 0x22, 0x01, 0x00, 0x07, 0x00, 0x2F],
-    );
-    wall = set_place(wall, 20, 2, 15);
-    wall = send(wall, &[0x05, 0x02, 0x00, 0x23, 0x24]);
-    show(wall);
+    )?;
+    wall = set_place(rt, wall, 20, 2, 15)?;
+    wall = send(rt, wall, &[0x05, 0x02, 0x00, 0x23, 0x24])?;
+    show(rt, wall)
+}
+
+fn main(rt: HostRuntime) -> io::Result<()> {
+    run(&rt)
 }

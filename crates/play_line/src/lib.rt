@@ -2,7 +2,7 @@
 // line. Standard input has for each burst a count byte and then that many bytes; each answer is printed behind its burst's number.
 #![tactic(auto)]
 
-ghost use Rattle.std.specs.Prelude.{◌≡◌};
+ghost use Rattle.std.specs.Prelude.{◌≡◌, IfOk};
 ghost use Rattle.panels.specs.WellFormed.{WellFormed};
 ghost use Rattle.play_line.specs.Played.{Ends};
 ghost use Rattle.play_line.specs.Private.Lines.{line_of, heard_on};
@@ -12,6 +12,7 @@ use line::Receiver;
 use packet::{Edition, LONGEST};
 use panels::Table;
 use small_receiver::SmallReceiver;
+use std::io;
 use text::{LONGEST_STEP, Read};
 
 // The receiver that keeps a whole packet, or the one that keeps its front.
@@ -86,50 +87,45 @@ fn hear(line: Line, t: Table, burst: &[u8]) -> Heard
 }
 
 // A burst's number, a space, and the answer.
-fn print_answer(number: u64, reply: Reply) {
-    io::print_decimal(1, number);
-    io::write_all(1, b" ");
+fn print_answer(rt: &impl Print, number: u64, reply: Reply) -> io::Result<()> {
+    print!(rt; "{number} ")?;
     let mut digits = [0u8; 2 * LONGEST];
     let n = sample::shown_answer(Edition::Sicp201, reply, &mut digits);
-    io::write_all(1, text::front(&digits, n));
-    io::write_all(1, b"\n");
+    rt.write_all(text::front(&digits, n))?;
+    println!(rt)
 }
 
 // The last line: `end` or `cut`, and how many bursts were played.
-fn print_last(word: &[u8], number: u64) {
-    io::write_all(1, word);
-    io::print_decimal(1, number);
-    io::write_all(1, b"\n");
+fn print_last(rt: &impl Print, word: &str, number: u64) -> io::Result<()> {
+    println!(rt; "{word} {number}")
 }
 
 // Plays to the end of the input, and hands out the table.
-pub fn run(through: Through) -> Table
-    ensures { Ends result }
+pub fn run(rt: &(impl Print + Input), through: Through) -> io::Result<Table>
+    ensures { IfOk result Ends }
 {
     let mut line = open(through);
     let mut table = sample::two_panels();
-    let mut number = 0u64;
-    while number < u64::MAX {
+    let mut reader = rt.reader();
+    for number in 0..u64::MAX {
         let mut buffer = [0u8; LONGEST_STEP];
-        let read = text::read_step(&mut buffer);
-        match read {
+        match text::read_step(&mut reader, &mut buffer)? {
             Read::Step(n) => {
-                number += 1;
                 let heard = hear(line, table, text::front(&buffer, n));
                 line = heard.line;
                 table = heard.table;
                 let reply = heard.reply;
-                print_answer(number, reply);
+                print_answer(rt, number + 1, reply)?;
             }
             Read::Cut => {
-                print_last(b"cut ", number);
-                return table;
+                print_last(rt, "cut", number)?;
+                return Ok(table);
             }
             Read::End => {
-                print_last(b"end ", number);
-                return table;
+                print_last(rt, "end", number)?;
+                return Ok(table);
             }
         }
     }
-    table
+    Ok(table)
 }

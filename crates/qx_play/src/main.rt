@@ -4,21 +4,14 @@
 use packet::LONGEST;
 use qx::{Heard, Packets, Reply};
 use request_steps::Told;
+use std::io;
 use text::{LONGEST_STEP, Read};
 
 // Prints the bytes of a packet in hex.
-fn print_hex(bytes: &[u8]) {
+fn print_hex(rt: &impl Print, bytes: &[u8]) -> io::Result<()> {
     let mut digits = [0u8; 2 * LONGEST];
     let n = text::hex(bytes, &mut digits);
-    io::write_all(1, &digits[..n]);
-}
-
-// Prints a word and a number.
-fn print_counted(word: &[u8], n: u64) {
-    io::write_all(1, word);
-    io::write_all(1, b" ");
-    io::print_decimal(1, n);
-    io::write_all(1, b"\n");
+    rt.write_all(&digits[..n])
 }
 
 // The bytes behind the first n.
@@ -31,33 +24,34 @@ fn behind(bytes: &[u8], n: usize) -> &[u8] {
 }
 
 // Prints a space and the packet of this size, where there is one.
-fn print_next(out: &[u8], size: usize) {
+fn print_next(rt: &impl Print, out: &[u8], size: usize) -> io::Result<()> {
     if size != 0 {
-        io::write_all(1, b" ");
-        print_hex(text::front(out, size));
+        print!(rt; " ")?;
+        print_hex(rt, text::front(out, size))?;
     }
+    Ok(())
 }
 
 // Prints the packets that stand one behind the other, a space between two.
-fn print_packets(packets: Packets, out: &[u8]) {
+fn print_packets(rt: &impl Print, packets: Packets, out: &[u8]) -> io::Result<()> {
     let sizes = packets.sizes;
-    print_hex(text::front(out, sizes[0]));
+    print_hex(rt, text::front(out, sizes[0]))?;
     let out = behind(out, sizes[0]);
-    print_next(out, sizes[1]);
-    print_next(behind(out, sizes[1]), sizes[2]);
-    io::write_all(1, b"\n");
+    print_next(rt, out, sizes[1])?;
+    print_next(rt, behind(out, sizes[1]), sizes[2])?;
+    println!(rt)
 }
 
 // Says that a step is neither of the two, or is cut short.
-fn unknown() {
-    io::write_all(1, b"unknown\n");
+fn unknown(rt: &impl Print) -> io::Result<()> {
+    println!(rt; "unknown")
 }
 
 // Translates the request that a step tells; it is then the last.
-fn play_request(last: Told, told: Told) -> Told {
+fn play_request(rt: &impl Print, last: Told, told: Told) -> io::Result<Told> {
     if !told.known {
-        unknown();
-        return last;
+        unknown(rt)?;
+        return Ok(last);
     }
     let mut out = [0u8; LONGEST];
     let request = told.request;
@@ -65,84 +59,75 @@ fn play_request(last: Told, told: Told) -> Told {
     let refusal = packets.refusal;
     let number = qx::refusal_number(refusal);
     if number != 0 {
-        print_counted(b"refused", number as u64);
-        return last;
+        println!(rt; "refused {number}")?;
+        return Ok(last);
     }
-    print_packets(packets, &out);
-    told
+    print_packets(rt, packets, &out)?;
+    Ok(told)
 }
 
 // Prints what a panel says.
-fn print_reply(reply: Reply) {
+fn print_reply(rt: &impl Print, reply: Reply) -> io::Result<()> {
     match reply {
-        Reply::Ack => {
-            io::write_all(1, b"ack\n");
-        }
-        Reply::Nack => {
-            io::write_all(1, b"nack\n");
-        }
-        Reply::Nav => {
-            io::write_all(1, b"nav\n");
-        }
-        Reply::Report(value) => {
-            io::write_all(1, b"report ");
-            let one = [value];
-            print_hex(&one);
-            io::write_all(1, b"\n");
-        }
-        Reply::Wrong => print_counted(b"refused", qx::reply_number(reply) as u64),
+        Reply::Ack => println!(rt; "ack"),
+        Reply::Nack => println!(rt; "nack"),
+        Reply::Nav => println!(rt; "nav"),
+        Reply::Report(value) => println!(rt; "report {value:02X}"),
+        Reply::Wrong => println!(rt; "refused {}", qx::reply_number(reply)),
     }
 }
 
 // Tells what the answers to the last request that was translated say.
-fn play_answers(last: Told, answers: &[u8]) {
+fn play_answers(rt: &impl Print, last: Told, answers: &[u8]) -> io::Result<()> {
     if !last.known {
-        return unknown();
+        return unknown(rt);
     }
     let request = last.request;
     let heard = qx::hear(request, answers);
     match heard {
-        Heard::Said(reply) => print_reply(reply),
-        Heard::Unknown => unknown(),
+        Heard::Said(reply) => print_reply(rt, reply),
+        Heard::Unknown => unknown(rt),
     }
 }
 
 // One step: its kind, 1 for a request and 2 for answers, and what stands behind it.
-fn play(last: Told, step: &[u8]) -> Told {
+fn play(rt: &impl Print, last: Told, step: &[u8]) -> io::Result<Told> {
     if step.len() == 0 {
-        unknown();
-        return last;
+        unknown(rt)?;
+        return Ok(last);
     }
     match step[0] {
-        1 => play_request(last, request_steps::told_with_model(&step[1..])),
+        1 => play_request(rt, last, request_steps::told_with_model(&step[1..])),
         2 => {
-            play_answers(last, &step[1..]);
-            last
+            play_answers(rt, last, &step[1..])?;
+            Ok(last)
         }
         _ => {
-            unknown();
-            last
+            unknown(rt)?;
+            Ok(last)
         }
     }
 }
 
 // Every step of standard input, in order. The loop counts its turns, since a proved loop has to end and nothing says that the
 // input does.
-fn main() {
+fn run(rt: &(impl Print + Input)) -> io::Result<()> {
     let mut last = request_steps::told_with_model(b"");
-    let mut number = 0u64;
-    while number < u64::MAX {
+    let mut reader = rt.reader();
+    for number in 0..u64::MAX {
         let mut buffer = [0u8; LONGEST_STEP];
-        let read = text::read_step(&mut buffer);
-        match read {
+        match text::read_step(&mut reader, &mut buffer)? {
             Read::Step(n) => {
-                number += 1;
-                io::print_decimal(1, number);
-                io::write_all(1, b" ");
-                last = play(last, text::front(&buffer, n));
+                print!(rt; "{} ", number + 1)?;
+                last = play(rt, last, text::front(&buffer, n))?;
             }
-            Read::Cut => return print_counted(b"cut", number),
-            Read::End => return print_counted(b"end", number),
+            Read::Cut => return println!(rt; "cut {number}"),
+            Read::End => return println!(rt; "end {number}"),
         }
     }
+    Ok(())
+}
+
+fn main(rt: HostRuntime) -> io::Result<()> {
+    run(&rt)
 }

@@ -2,7 +2,9 @@
 #![tactic(auto)]
 
 use play_line::Through;
+use std::io;
 
-fn main() {
-    play_line::run(Through::Small);
+fn main(rt: HostRuntime) -> io::Result<()> {
+    play_line::run(&rt, Through::Small)?;
+    Ok(())
 }

@@ -11,97 +11,95 @@ ghost use Rattle.image_write.specs.Written.{setup_of, size_of, largest};
 use image_forms::Form;
 use image_salvage::LINES_CAP;
 use image_write::Written;
-use libc::{STDERR_FILENO, STDIN_FILENO, STDOUT_FILENO};
 use panels::Table;
+use std::fmt::Display;
+use std::fs::{File, OpenFile};
+use std::io::Write;
+use std::rt::{Env, Files};
+use std::{env, fs, io};
 
 // The longest image that is taken, and room for one byte more, which tells that the input is longer.
 const LONGEST: usize = 4096;
 
 const ROOM: usize = LONGEST + 1;
 
-// A file's name, which stands at the front of the buffer; or none is given; or the arguments are not what the program takes.
-#[derive(Clone, Copy)]
+// The longest name of a file that is taken.
+const LONGEST_NAME: usize = 4096;
+
+// A file's name; or none is given; or the arguments are not what the program takes.
+#[derive(Drop)]
 enum Name {
-    Given(usize),
+    Given(String),
     Missing,
     Wrong,
 }
 
-// The input, which stands at the front of the buffer; or it could not be read.
-#[derive(Clone, Copy)]
-enum Input {
-    Bytes(usize),
-    Failed,
-}
-
 // What the program takes.
-fn print_usage() {
-    io::write_all(STDERR_FILENO, b"usage: salvage [FILE] < IMAGE\n");
-    io::write_all(
-        STDERR_FILENO,
-        b"The faults of the setup image go to standard output, ",
-    );
-    io::write_all(
-        STDERR_FILENO,
-        b"and what is kept goes to FILE, which must not exist.\n",
-    );
+fn print_usage(rt: &impl Eprint) -> io::Result<()> {
+    eprintln!(rt; "usage: salvage [FILE] < IMAGE")?;
+    eprint!(rt; "The faults of the setup image go to standard output, ")?;
+    eprintln!(rt; "and what is kept goes to FILE, which must not exist.")
 }
 
 // The name is the one argument behind the program's own.
-fn read_name(buf: &mut [u8]) -> Name {
-    if 2 < os::arg_count() {
-        return Name::Wrong;
+fn read_name(rt: &(impl Env + AllocGlobal)) -> io::Result<Name> {
+    let mut arguments = match env::args(rt) {
+        Ok(arguments) => arguments,
+        // One of them is not text, and a file's name is.
+        Err(error) if error.kind() == io::ErrorKind::InvalidData => return Ok(Name::Wrong),
+        Err(error) => return Err(error),
+    };
+    let _program = arguments.next();
+    let Some(name) = arguments.next() else {
+        return Ok(Name::Missing);
+    };
+    if arguments.next().is_some() || LONGEST_NAME < name.len() {
+        return Ok(Name::Wrong);
     }
-    let n = os::arg(1, buf);
-    let error = os::errno();
-    if error == 0 {
-        return Name::Given(n);
-    }
-    if error == libc::EINVAL {
-        return Name::Missing;
-    }
-    Name::Wrong
+    Ok(Name::Given(name))
 }
 
-// Reads until the input ends or the buffer is full. A part of an image that could not be read whole is never taken for one.
-fn read_input(buf: &mut [u8]) -> Input {
-    let mut n = 0;
-    while n < buf.len() {
-        let rest = &mut buf[n..];
-        let got = libc::read(STDIN_FILENO, rest);
-        if got < 0 {
-            return Input::Failed;
+// What the system says of an error, without the error's number, which stands behind it.
+fn reason(text: &str) -> &str {
+    match text.split_once(" (os error ") {
+        Some((reason, _)) => reason,
+        None => text,
+    }
+}
+
+// Tells on standard error what failed, and why.
+fn tell(rt: &(impl Eprint + AllocGlobal), what: &str, error: &io::Error) -> io::Result<()> {
+    let text = format!(in rt.alloc(); "{error}")?;
+    eprintln!(rt; "{what}: {}", reason(text.as_str()))
+}
+
+// Answers whether standard output took all that was written, and says why where it did not.
+fn is_printed(rt: &(impl Eprint + AllocGlobal), written: io::Result<()>) -> io::Result<bool> {
+    match written {
+        Ok(()) => Ok(true),
+        Err(error) => {
+            tell(rt, "standard output", &error)?;
+            Ok(false)
         }
-        let more = io::count(got, rest);
-        if more == 0 {
-            return Input::Bytes(n);
-        }
-        n += more;
     }
-    Input::Bytes(n)
 }
 
-// Writes to standard output, and answers whether it took all.
-fn print(bytes: &[u8]) -> bool {
-    let is_printed = io::write_all(STDOUT_FILENO, bytes);
-    if !is_printed {
-        os::fail(b"standard output");
-    }
-    is_printed
+// The text of the lines, at the front of its room; answers whether standard output took it.
+fn print_lines(
+    rt: &(impl Print + Eprint + AllocGlobal),
+    lines: &[u8; LINES_CAP],
+    told: usize,
+) -> io::Result<bool> {
+    is_printed(rt, rt.write_all(text::front(lines, told)))
 }
 
-// The text of the lines, at the front of its room.
-fn print_lines(lines: &[u8; LINES_CAP], told: usize) -> bool {
-    print(text::front(lines, told))
-}
-
-// A refusal's number, alone on its line.
-fn print_refusal(number: u8) {
-    let mut digits = [0u8; 20];
-    let n = io::decimal(number as u64, &mut digits);
-    if print(&digits[..n]) {
-        print(b"\n");
-    }
+// A line of its own, as a refusal's number.
+fn print_line(
+    rt: &(impl Print + Eprint + AllocGlobal),
+    line: impl Display + Drop,
+) -> io::Result<()> {
+    is_printed(rt, rt.println(line))?;
+    Ok(())
 }
 
 // The image of what was kept, at the front of out, which has room for any.
@@ -118,77 +116,81 @@ fn write_kept(t: Table, out: &mut [u8]) -> usize
     }
 }
 
-// Fills a file that was made and closes it; answers whether all of it is on the disk, and says why where it is not.
-fn is_filled(fd: i32, path: &[u8], bytes: &[u8]) -> bool {
-    let is_kept = io::write_all(fd, bytes) && libc::fsync(fd) == 0;
-    if !is_kept {
-        os::fail(path);
-    }
-    libc::close(fd);
-    is_kept
+// Fills a file that was made and closes it; it is well where all of it is on the disk.
+fn fill(mut file: impl Write + OpenFile + Drop, bytes: &[u8]) -> io::Result<()> {
+    file.write_all(bytes)?;
+    file.sync_all()
 }
 
 // Makes a file of these bytes. One that could not be filled is removed, so that no part of a setup is left.
-fn make_file(path: &[u8], bytes: &[u8]) {
-    let fd = os::create(path);
-    if fd < 0 {
-        os::fail(path);
-        return;
-    }
-    if is_filled(fd, path, bytes) {
-        return;
-    }
-    if os::unlink(path) < 0 {
-        os::fail(path);
+fn make_file(rt: &(impl Files + Eprint + AllocGlobal), path: &str, bytes: &[u8]) -> io::Result<()> {
+    let file = match File::create_new(rt, path) {
+        Ok(file) => file,
+        Err(error) => return tell(rt, path, &error),
+    };
+    let Err(error) = fill(file, bytes) else {
+        return Ok(());
+    };
+    let told = tell(rt, path, &error);
+    let removed = fs::remove_file(rt, path);
+    told?;
+    match removed {
+        Ok(()) => Ok(()),
+        Err(error) => tell(rt, path, &error),
     }
 }
 
 // Keeps a table in a new file.
-fn keep(t: Table, path: &[u8])
+fn keep(rt: &(impl Files + Eprint + AllocGlobal), t: Table, path: &str) -> io::Result<()>
     requires { WellFormed t }
 {
     let mut out = image_write::room();
     let n = write_kept(t, &mut out);
-    make_file(path, text::front(&out, n));
+    make_file(rt, path, text::front(&out, n))
 }
 
 // The lines come first, and where they are lost no file is made: a setup without them does not tell what is from the image.
-fn salvage(image: &[u8], name: Name, names: &[u8]) {
+fn salvage(
+    rt: &(impl Files + Print + Eprint + AllocGlobal),
+    image: &[u8],
+    name: Name,
+) -> io::Result<()> {
     let mut lines = [0u8; LINES_CAP];
     let salvaged = image_salvage::salvage(image, &mut lines);
     let refusal = salvaged.refusal;
     let number = refusals::refusal_number(refusal);
     if number != 0 {
-        print_refusal(number);
-        return;
+        return print_line(rt, number);
     }
-    if !print_lines(&lines, salvaged.told) {
-        return;
+    if !print_lines(rt, &lines, salvaged.told)? {
+        return Ok(());
     }
     let table = salvaged.table;
-    if let Name::Given(n) = name {
-        keep(table, text::front(names, n));
+    match name {
+        Name::Given(path) => keep(rt, table, path.as_str()),
+        _ => Ok(()),
     }
 }
 
-// The arguments are judged before anything is read.
-fn main() {
-    let mut names = io::buffer();
-    let name = read_name(&mut names);
-    if let Name::Wrong = name {
-        print_usage();
-        return;
+// The arguments are judged before anything is read. A part of an image that could not be read whole is never taken for one.
+fn run(rt: &(impl Files + Env + Input + Print + Eprint + AllocGlobal)) -> io::Result<()> {
+    let name = read_name(rt)?;
+    if let Name::Wrong = &name {
+        return print_usage(rt);
     }
     let mut image = [0u8; ROOM];
-    let input = read_input(&mut image);
-    match input {
-        Input::Bytes(n) => {
+    let mut reader = rt.reader();
+    match text::read_full(&mut reader, &mut image) {
+        Ok(n) => {
             if LONGEST < n {
-                print(b"too-long\n");
-                return;
+                return print_line(rt, "too-long");
             }
-            salvage(text::front(&image, n), name, &names);
+            salvage(rt, text::front(&image, n), name)
         }
-        Input::Failed => os::fail(b"standard input"),
+        Err(error) => tell(rt, "standard input", &error),
     }
+}
+
+fn main(rt: HostRuntime) -> io::Result<()> {
+    run(&rt)
 }

@@ -1,3 +1,5 @@
--- What the programs read and print. `Hex` is bytes as upper-case hex digits, `Steps` what is known of a step that was read.
+-- What the programs read and print. `Hex` is bytes as upper-case hex digits, `Steps` what is known of a step that was read,
+-- `Counts` a count of what stands at the front.
+pub mod Counts
 pub mod Hex
 pub mod Steps

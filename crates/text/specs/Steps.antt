@@ -1,7 +1,9 @@
 -- A step that was read into a buffer. 01, "The play program". No contract can say which bytes standard input has; of those that
--- were read, with their count before them, it says that they are one burst of that form, or the start of one.
-use Rattle.std.specs.Prelude.{ℕ, ◌≤◌, ◌<◌, true, false, ◌≡◌, List, [], ◌∷◌, take, drop}
-use Rattle.io.specs.Counts.{IsPrefixLen}
+-- were read, with their count before them, it says that they are one burst of that form, or the start of one. Of a reader whose
+-- bytes are known it says that they are the next of those.
+use Rattle.std.specs.Prelude.{ℕ, Option, ◌≤◌, ◌<◌, true, false, ◌≡◌, List, [], ◌∷◌, take, drop}
+use Rattle.std.specs.Io.KnownBytes.{Consumes, IsAtEnd}
+use Rattle.text.specs.Counts.{IsPrefixLen}
 use Rattle.bursts.specs.Bursts.{bursts_in}
 use Rattle.text.specs.declared.Read.{Read}
 
@@ -16,3 +18,9 @@ StepIn before (Read.Step n) after =
 StepIn before Read.Cut after =
     (n r : ℕ) × (r < n) × (n ≤ longest_step) × (drop n after ≡ drop n before) × (bursts_in (n ∷ take r after) ≡ record { whole = []; cut = true })
 StepIn before Read.End after = after ≡ before
+
+-- what a reader gave for it, where its bytes are known: `old` before and `new` after; the input stopped inside it, or before it
+abbrev pub TakesStep : Option (List ℕ) → Option (List ℕ) → Read → List ℕ → Type 0
+TakesStep old new (Read.Step n) after = Consumes old new (n ∷ take n after)
+TakesStep old new Read.Cut after = (n r : ℕ) × (r < n) × Consumes old new (n ∷ take r after) × IsAtEnd new
+TakesStep old new Read.End after = Consumes old new [] × IsAtEnd new

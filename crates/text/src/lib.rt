@@ -1,10 +1,13 @@
 // What the programs read and print: steps of standard input, and bytes in upper-case hex.
 #![tactic(auto)]
 
-ghost use Rattle.std.specs.Prelude.{◌≡◌, ◌≤◌, length, take};
-ghost use Rattle.io.specs.Counts.{IsPrefixLen};
+ghost use Rattle.std.specs.Prelude.{◌≡◌, ◌≤◌, ◌<◌, IfOk, OnErr, length, take, drop};
+ghost use Rattle.std.specs.Io.KnownBytes.{Consumes, IsAtEnd};
+ghost use Rattle.text.specs.Counts.{IsPrefixLen};
 ghost use Rattle.text.specs.Hex.{hex_count, hex_over};
-ghost use Rattle.text.specs.Steps.{StepIn, longest_step};
+ghost use Rattle.text.specs.Steps.{StepIn, TakesStep, longest_step};
+
+use std::io;
 
 // A step's count is one byte.
 pub const LONGEST_STEP: usize = 255;
@@ -46,23 +49,44 @@ pub fn front(bytes: &[u8], n: usize) -> &[u8]
 
 // The number that a count byte stands for.
 fn count_of(b: u8) -> usize
-    ensures { result ≤ longest_step }
+    ensures bound { result ≤ longest_step }
+    ensures value { result ≡ b }
 {
     b as usize
 }
 
-// Reads a count byte from standard input, and that many bytes into the front of buf.
-pub fn read_step(buf: &mut [u8]) -> Read
+// Reads until the buffer is full or the input ends, and answers how many bytes were put at its front. What else a failed read
+// left in the buffer is not said.
+pub fn read_full<R: io::Read>(reader: &mut R, buf: &mut [u8]) -> io::Result<usize>
+    ensures prefix_len { IfOk result (λ n. IsPrefixLen n buf.new) }
+    ensures bytes { IfOk result (λ n. Consumes (R.remaining reader.old) (R.remaining reader.new) (take n buf.new)) }
+    ensures end { IfOk result (λ n. n < length buf.new → IsAtEnd (R.remaining reader.new)) }
+{
+    let mut done = 0;
+    while done < buf.len() {
+        let got = reader.read(&mut buf[done..])?;
+        if got == 0 {
+            return Ok(done);
+        }
+        done += got;
+    }
+    Ok(done)
+}
+
+// Reads a count byte, and that many bytes into the front of buf. Where a read failed, bytes past the longest step are untouched.
+pub fn read_step<R: io::Read>(reader: &mut R, buf: &mut [u8]) -> io::Result<Read>
     requires { longest_step ≤ length buf.old }
-    ensures { StepIn buf.old result buf.new }
+    ensures ok { IfOk result (λ read. StepIn buf.old read buf.new) }
+    ensures bytes { IfOk result (λ read. TakesStep (R.remaining reader.old) (R.remaining reader.new) read buf.new) }
+    ensures err { OnErr result (drop longest_step buf.new ≡ drop longest_step buf.old) }
 {
     let mut one = [0u8; 1];
-    if io::read_full(0, &mut one) == 0 {
-        return Read::End;
+    if read_full(reader, &mut one)? == 0 {
+        return Ok(Read::End);
     }
     let size = count_of(one[0]);
-    if io::read_full(0, &mut buf[..size]) < size {
-        return Read::Cut;
+    if read_full(reader, &mut buf[..size])? < size {
+        return Ok(Read::Cut);
     }
-    Read::Step(size)
+    Ok(Read::Step(size))
 }

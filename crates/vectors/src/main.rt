@@ -4,68 +4,56 @@
 
 use answers::Reply;
 use packet::{Edition, LONGEST, Numbered};
+use std::io;
 use text::{LONGEST_STEP, Read};
 
-fn print_counted(word: &[u8], number: u64) {
-    io::write_all(1, word);
-    io::print_decimal(1, number);
-    io::write_all(1, b"\n");
-}
-
-fn print_answer(edition: Edition, reply: Reply) {
+fn print_answer(rt: &impl Print, edition: Edition, reply: Reply) -> io::Result<()> {
     let mut digits = [0u8; 2 * LONGEST];
     let answered = sample::shown_answer(edition, reply, &mut digits);
-    io::write_all(1, b" ");
-    io::write_all(1, text::front(&digits, answered));
+    print!(rt; " ")?;
+    rt.write_all(text::front(&digits, answered))
 }
 
-fn answer(edition: Edition, burst: &[u8]) {
+fn answer(rt: &impl Print, edition: Edition, burst: &[u8]) -> io::Result<()> {
     let mut digits = [0u8; 2 * LONGEST_STEP];
     let shown = sample::shown(burst, &mut digits);
-    io::write_all(1, b" ");
-    io::write_all(1, text::front(&digits, shown));
-    print_answer(edition, sample::reply_to(edition, burst));
-    print_answer(edition, sample::reply_again(edition, burst));
-    io::write_all(1, b"\n");
+    print!(rt; " ")?;
+    rt.write_all(text::front(&digits, shown))?;
+    print_answer(rt, edition, sample::reply_to(edition, burst))?;
+    print_answer(rt, edition, sample::reply_again(edition, burst))?;
+    println!(rt)
 }
 
 // A burst on a line that is opened with this number.
-fn play_on(number: u8, burst: &[u8]) {
-    io::print_decimal(1, number as u64);
+fn play_on(rt: &impl Print, number: u8, burst: &[u8]) -> io::Result<()> {
+    print!(rt; "{number}")?;
     let numbered = packet::edition_with(number as u32);
     let Numbered::Known(edition) = numbered else {
-        print_counted(b" refused ", packet::open_refusal(numbered) as u64);
-        return;
+        return println!(rt; " refused {}", packet::open_refusal(numbered));
     };
-    answer(edition, burst);
+    answer(rt, edition, burst)
 }
 
-fn play(step: &[u8]) {
+fn play(rt: &impl Print, step: &[u8]) -> io::Result<()> {
     if step.len() == 0 {
-        io::write_all(1, b"unknown\n");
-        return;
+        return println!(rt; "unknown");
     }
-    play_on(step[0], &step[1..]);
+    play_on(rt, step[0], &step[1..])
 }
 
-fn main() {
-    let mut number = 0u64;
-    while number < u64::MAX {
+fn run(rt: &(impl Print + Input)) -> io::Result<()> {
+    let mut reader = rt.reader();
+    for number in 0..u64::MAX {
         let mut buffer = [0u8; LONGEST_STEP];
-        let read = text::read_step(&mut buffer);
-        match read {
-            Read::Step(n) => {
-                number += 1;
-                play(text::front(&buffer, n));
-            }
-            Read::Cut => {
-                print_counted(b"cut ", number);
-                return;
-            }
-            Read::End => {
-                print_counted(b"end ", number);
-                return;
-            }
+        match text::read_step(&mut reader, &mut buffer)? {
+            Read::Step(n) => play(rt, text::front(&buffer, n))?,
+            Read::Cut => return println!(rt; "cut {number}"),
+            Read::End => return println!(rt; "end {number}"),
         }
     }
+    Ok(())
+}
+
+fn main(rt: HostRuntime) -> io::Result<()> {
+    run(&rt)
 }

@@ -1,0 +1,11 @@
+-- The digits of the bytes passed stand at the front of the output, and the rest is as it was.
+use Rattle.std.proofs.Common.{◌≡◌, ◌*◌, ◌-◌, ◌≤◌, ◌++◌, length, take, drop}
+use Rattle.text.specs.Hex.{hex_of}
+use Rattle.text.proofs.hex.Given as goal
+
+abbrev pub invariant-loop-i : goal.invariant-loop-i
+invariant-loop-i l =
+    (l.i ≤ length l.bytes) × (length l.out ≡ length l.initial.out) × (l.out ≡ hex_of (take l.i l.bytes) ++ drop (2 * l.i) l.initial.out)
+
+abbrev pub decreases-loop-i : goal.decreases-loop-i
+decreases-loop-i l = l.n - l.i
