@@ -1,22 +1,18 @@
-use mathlib.Core.Path.{◌≡◌, refl, sym, ap, ◌∙◌}
-use mathlib.Core.Bool.{Bool, ◌&&◌}
+use mathlib.Core.Path.{◌≡◌, sym, ap, ◌∙◌}
+use mathlib.Core.Bool.{◌&&◌}
 use mathlib.Core.List.{List}
 use Prim.Native.Nat.{ℕ, suc, ◌+◌, ◌-◌, ◌≤◌, ◌<◌}
 use native.Mathlib.Numerals.{add-one}
 use native.Mathlib.Omega.{arith}
-use borrow.Author.Rules.{rules}
 use borrow.Author.Tests.{eq-eqb, ne_eqb}
 use lib.Dec.{eqb}
-use lib.ListN.{length, get_or, take, drop}
+use lib.ListN.{length, get_or}
 use lib.Seq.{drop-cons}
 use Rattle.lists.specs.Lists.{same}
 use Rattle.settings.specs.declared.Profile.{Profile}
 use Rattle.settings.specs.Settings.{byte_count, place, fresh_values, value_count}
 use Rattle.settings.proofs.Laws.{place_fits, fresh-count}
 use Rattle.image_forms.specs.Forms.{is_fresh}
-use Rattle.std.proofs.Common.{◌*◌, ◌/◌, ◌%◌, true, false, nat_eq, nat_lt, [], ◌∷◌, ◌++◌, slice_index_or, slice_set, bit_and, bit_or, Fits, w8, w32, w64, Bor, MutBor}
-use Rattle.settings.specs.Settings.{row_count}
-use Rattle.image_forms.specs.Forms.{form_byte, form_with, head_size, holds, has_field, keeps}
 use Rattle.image_forms.proofs.is_fresh.Goals as goal
 use Rattle.image_forms.proofs.is_fresh.Invariants.{rest}
 
@@ -48,7 +44,7 @@ pub returns-then-values-at : goal.returns-then-values-at
 returns-then-values-at c =
     let here : let a = c.args in is_fresh a.row a.values.now ≡ rest a.values.now c.fresh-fresh.result (c.place_of-at.result + c.byte_count.result) c.loop-at.at = whole _ _ _ _ _ c.place_of-at.ensures c.byte_count.ensures c.fresh-fresh.ensures ∙ c.loop-at.invariant.1 in
     let ends : (c.place_of-at.result + c.byte_count.result) ≤ value_count = omega (arith, place_fits c.args.row) in
-    let turn : let a = c.args.values.now in let b = c.fresh-fresh.result in let at = c.loop-at.at in rest a b (c.place_of-at.result + c.byte_count.result) at ≡ eqb (get_or a at 0) (get_or b at 0) && rest a b (c.place_of-at.result + c.byte_count.result) (at + 1) = step _ _ _ _ (omega arith) (omega (arith, ends)) (omega (arith, ends, ap length c.fresh-fresh.ensures, fresh-count Profile.General)) in
+    let turn : let a = c.args.values.now in let b = c.fresh-fresh.result in let at = c.loop-at.at in rest a b (c.place_of-at.result + c.byte_count.result) at ≡ eqb (get_or a at 0) (get_or b at 0) && rest a b (c.place_of-at.result + c.byte_count.result) (at + 1) = step c.args.values.now c.fresh-fresh.result (c.place_of-at.result + c.byte_count.result) c.loop-at.at (omega arith) (omega (arith, ends)) (omega (arith, ends, ap length c.fresh-fresh.ensures, fresh-count Profile.General)) in
     sym (here ∙ turn ∙ rw (ne_eqb _ _ c.if-values-at.true))
 
 pub overflow_add-at : goal.overflow_add-at
@@ -59,7 +55,7 @@ overflow_add-at c =
 pub loop-at-preserved : goal.loop-at-preserved
 loop-at-preserved c =
     let ends : (c.place_of-at.result + c.byte_count.result) ≤ value_count = omega (arith, place_fits c.args.row) in
-    let turn : let a = c.args.values.now in let b = c.fresh-fresh.result in let at = c.loop-at.at in rest a b (c.place_of-at.result + c.byte_count.result) at ≡ eqb (get_or a at 0) (get_or b at 0) && rest a b (c.place_of-at.result + c.byte_count.result) (at + 1) = step _ _ _ _ (omega arith) (omega (arith, ends)) (omega (arith, ends, ap length c.fresh-fresh.ensures, fresh-count Profile.General)) in
+    let turn : let a = c.args.values.now in let b = c.fresh-fresh.result in let at = c.loop-at.at in rest a b (c.place_of-at.result + c.byte_count.result) at ≡ eqb (get_or a at 0) (get_or b at 0) && rest a b (c.place_of-at.result + c.byte_count.result) (at + 1) = step c.args.values.now c.fresh-fresh.result (c.place_of-at.result + c.byte_count.result) c.loop-at.at (omega arith) (omega (arith, ends)) (omega (arith, ends, ap length c.fresh-fresh.ensures, fresh-count Profile.General)) in
     (omega arith, c.loop-at.invariant.1 ∙ turn ∙ rw (eq-eqb _ _ c.if-values-at.false))
 
 pub returns : goal.returns

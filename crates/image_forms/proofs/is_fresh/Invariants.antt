@@ -1,19 +1,9 @@
-use mathlib.Core.Path.{◌≡◌, refl, sym, ap, ◌∙◌}
-use mathlib.Core.Bool.{Bool, ◌&&◌}
+use mathlib.Core.Path.{◌≡◌}
+use mathlib.Core.Bool.{Bool}
 use mathlib.Core.List.{List}
-use Prim.Native.Nat.{ℕ, suc, ◌+◌, ◌-◌, ◌≤◌, ◌<◌}
-use native.Mathlib.Numerals.{add-one}
-use native.Mathlib.Omega.{arith}
-use borrow.Author.Rules.{rules}
-use borrow.Author.Tests.{eq-eqb, ne_eqb}
-use lib.Dec.{eqb}
-use lib.ListN.{length, get_or, take, drop}
-use lib.Seq.{drop-cons}
+use Prim.Native.Nat.{ℕ, ◌-◌, ◌≤◌}
+use lib.ListN.{take, drop}
 use Rattle.lists.specs.Lists.{same}
-use Rattle.settings.specs.declared.Profile.{Profile}
-use Rattle.settings.specs.Settings.{byte_count, place, fresh_values, value_count}
-use Rattle.settings.proofs.Laws.{place_fits, fresh-count}
-use Rattle.image_forms.specs.Forms.{is_fresh}
 use Rattle.image_forms.proofs.is_fresh.Given as goal
 
 abbrev pub rest : List ℕ → List ℕ → ℕ → ℕ → Bool

@@ -1,12 +1,7 @@
 use mathlib.Core.Path.{◌≡◌, sym, ◌∙◌}
 use mathlib.Core.Bool.{true, ◌&&◌}
-use borrow.Author.Rules.{rules}
-use borrow.Author.Tests.{not-true, not-false}
 use Rattle.settings.specs.Settings.{tiling_row}
 use Rattle.image_forms.specs.Forms.{holds, is_fresh, keeps}
-use Rattle.std.proofs.Common.{◌<◌, length, ℕ, ◌+◌, ◌-◌, ◌*◌, ◌≤◌, ◌/◌, ◌%◌, Bool, false, nat_eq, nat_lt, List, [], ◌∷◌, ◌++◌, slice_index_or, slice_set, bit_and, bit_or, Fits, w8, w32, w64, Bor, MutBor}
-use Rattle.settings.specs.Settings.{row_count, value_count}
-use Rattle.image_forms.specs.Forms.{form_byte, form_with, head_size, has_field}
 use Rattle.image_forms.proofs.keeps.Goals as goal
 
 pub returns-then-not-holds : goal.returns-then-not-holds

@@ -1,10 +1,7 @@
-use mathlib.Core.Path.{◌≡◌, sym, ap, ◌∙◌}
-use Prim.Native.Nat.{ℕ, ◌+◌, ◌-◌, ◌≤◌}
-use native.Mathlib.Omega.{arith}
-use borrow.Author.Rules.{rules}
-use lib.ListN.{length, take}
-use Rattle.panels.proofs.Laws.{first_many, in_first}
-use Rattle.panels.proofs.Index.{places_from, members_from, no_places, no_members, index_next, counted_few, table_is}
+use mathlib.Core.Path.{◌≡◌}
+use Prim.Native.Nat.{◌≤◌}
+use lib.ListN.{take}
+use Rattle.panels.proofs.Index.{places_from, members_from}
 use Rattle.panels.proofs.table_of.Given as goal
 
 -- The invariant: the index has the panels from place k on. Assumes nothing.
