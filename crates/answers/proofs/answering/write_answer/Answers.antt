@@ -4,7 +4,7 @@ use Prim.Native.Nat.{ℕ, ◌+◌, ◌≤◌}
 use native.Mathlib.Omega.{arith}
 use borrow.Author.Tests.{le-leb, lt-leb}
 use lib.ListN.{length, take, length-take}
-use lib.Seq.{take_all, length-take-le}
+use lib.Seq.{take_all}
 use Rattle.packet.specs.Packet.{group_id, packet_of, shortest, most_data, longest}
 use Rattle.lists.specs.Lists.{laid_over}
 use Rattle.packet.specs.declared.Edition.{Edition}
@@ -15,8 +15,6 @@ use Rattle.answers.specs.declared.Reply.{Reply}
 use Rattle.answers.specs.declared.Sent.{Sent}
 use Rattle.answers.specs.Reply.{sent_by, sent_bytes, sent_of, output_of, most_reported}
 use borrow.Author.Rules.{rules}
-use Rattle.std.proofs.Common.{◌-◌, ◌*◌, ◌<◌, ◌/◌, ◌%◌, Bool, true, false, nat_eq, nat_lt, ◌++◌, slice_index_or, slice_set, bit_and, bit_or, Fits, w8, w32, w64, Bor, MutBor}
-use Rattle.answers.specs.Reply.{silence, word_from}
 use Rattle.answers.proofs.answering.write_answer.Goals as goal
 
 -- The data that the answer has is sent. Assumes nothing.
@@ -34,7 +32,7 @@ answered edition out r d h m e =
 
 pub returns-then-out-lt-LONGEST-clause-value : goal.returns-then-out-lt-LONGEST-clause-value
 unfolding sent_of output_of
-returns-then-out-lt-LONGEST-clause-value c = (simp (lt-leb _ _ c.if-out-lt-LONGEST.true), simp (lt-leb _ _ c.if-out-lt-LONGEST.true))  -- CLAUSE value
+returns-then-out-lt-LONGEST-clause-value c = simp (lt-leb _ _ c.if-out-lt-LONGEST.true)
 
 pub returns-in-Silence-clause-value : goal.returns-in-Silence-clause-value
 unfolding sent_of output_of laid_over
@@ -42,7 +40,7 @@ returns-in-Silence-clause-value c =
     let a = c.args in
     let room = le-leb longest (length a.out.now) (omega arith) in
     let e = by_answer a.edition a.reply _ c.in-Silence.is in
-    (simp (room, e), simp (room, e))  -- CLAUSE value
+    simp (room, e)
 
 pub returns-in-Silence-clause-out_after : goal.returns-in-Silence-clause-out_after
 unfolding sent_of output_of laid_over
@@ -50,7 +48,7 @@ returns-in-Silence-clause-out_after c =
     let a = c.args in
     let room = le-leb longest (length a.out.now) (omega arith) in
     let e = by_answer a.edition a.reply _ c.in-Silence.is in
-    (simp (room, e), simp (room, e))  -- CLAUSE out_after
+    simp (room, e)
 
 pub returns-in-Word-clause-value : goal.returns-in-Word-clause-value
 returns-in-Word-clause-value c =
@@ -58,7 +56,7 @@ returns-in-Word-clause-value c =
     let byte = c.control_byte in
     let e = by_answer a.edition a.reply _ c.in-Word.is ∙ ap (λ (b : ℕ). packet_of a.edition a.reply.id (group_id 0) (0 ∷ b ∷ [])) (sym byte.ensures) in
     let r = answered a.edition a.out.now a.reply (0 ∷ byte.result ∷ []) (omega arith) (omega (arith, head_few a.edition)) e in
-    (c.send.ensures.value ∙ r.0, c.send.ensures.out_after ∙ r.1)  -- CLAUSE value
+    c.send.ensures.value ∙ r.0
 
 pub returns-in-Word-clause-out_after : goal.returns-in-Word-clause-out_after
 returns-in-Word-clause-out_after c =
@@ -66,4 +64,40 @@ returns-in-Word-clause-out_after c =
     let byte = c.control_byte in
     let e = by_answer a.edition a.reply _ c.in-Word.is ∙ ap (λ (b : ℕ). packet_of a.edition a.reply.id (group_id 0) (0 ∷ b ∷ [])) (sym byte.ensures) in
     let r = answered a.edition a.out.now a.reply (0 ∷ byte.result ∷ []) (omega arith) (omega (arith, head_few a.edition)) e in
-    (c.send.ensures.value ∙ r.0, c.send.ensures.out_after ∙ r.1)  -- CLAUSE out_after
+    c.send.ensures.out_after ∙ r.1
+
+pub returns-then-out-lt-LONGEST-clause-out_after : goal.returns-then-out-lt-LONGEST-clause-out_after
+unfolding sent_of output_of
+returns-then-out-lt-LONGEST-clause-out_after c = simp (lt-leb _ _ c.if-out-lt-LONGEST.true)
+
+pub returns-then-n-gt-MOST_REPORTED-clause-value : goal.returns-then-n-gt-MOST_REPORTED-clause-value
+returns-then-n-gt-MOST_REPORTED-clause-value c =
+    let a = c.args in
+    let n : length a.reply.bytes ≡ most_reported = search rules in
+    let e = by_answer a.edition a.reply _ c.in-Report.is ∙ ap (packet_of a.edition a.reply.id (group_id 0)) (take_all a.reply.count a.reply.bytes (omega arith)) in
+    let r = answered a.edition a.out.now a.reply a.reply.bytes (omega arith) (omega (arith, head_few a.edition)) e in
+    c.send-then-n-gt-MOST_REPORTED.ensures.value ∙ r.0
+
+pub returns-then-n-gt-MOST_REPORTED-clause-out_after : goal.returns-then-n-gt-MOST_REPORTED-clause-out_after
+returns-then-n-gt-MOST_REPORTED-clause-out_after c =
+    let a = c.args in
+    let n : length a.reply.bytes ≡ most_reported = search rules in
+    let e = by_answer a.edition a.reply _ c.in-Report.is ∙ ap (packet_of a.edition a.reply.id (group_id 0)) (take_all a.reply.count a.reply.bytes (omega arith)) in
+    let r = answered a.edition a.out.now a.reply a.reply.bytes (omega arith) (omega (arith, head_few a.edition)) e in
+    c.send-then-n-gt-MOST_REPORTED.ensures.out_after ∙ r.1
+
+pub returns-else-n-gt-MOST_REPORTED-clause-value : goal.returns-else-n-gt-MOST_REPORTED-clause-value
+returns-else-n-gt-MOST_REPORTED-clause-value c =
+    let a = c.args in
+    let n : length a.reply.bytes ≡ most_reported = search rules in
+    let d = take a.reply.count a.reply.bytes in
+    let r = answered a.edition a.out.now a.reply d (omega arith) (simp length-take (omega (arith, head_few a.edition))) (by_answer a.edition a.reply _ c.in-Report.is) in
+    c.send-in-Report.ensures.value ∙ r.0
+
+pub returns-else-n-gt-MOST_REPORTED-clause-out_after : goal.returns-else-n-gt-MOST_REPORTED-clause-out_after
+returns-else-n-gt-MOST_REPORTED-clause-out_after c =
+    let a = c.args in
+    let n : length a.reply.bytes ≡ most_reported = search rules in
+    let d = take a.reply.count a.reply.bytes in
+    let r = answered a.edition a.out.now a.reply d (omega arith) (simp length-take (omega (arith, head_few a.edition))) (by_answer a.edition a.reply _ c.in-Report.is) in
+    c.send-in-Report.ensures.out_after ∙ r.1

@@ -8,13 +8,6 @@ use Rattle.codes.specs.declared.Found.{Found}
 use Rattle.codes.specs.Found.{found_by}
 use Rattle.answers.specs.Judged.{get_of, unavailable, command, command_by}
 use Rattle.answers.specs.Private.Orders.{order_of}
-use borrow.Author.Rules.{rules}
-use Rattle.std.proofs.Common.{◌+◌, ◌-◌, ◌*◌, ◌≤◌, ◌/◌, ◌%◌, Bool, true, false, nat_eq, nat_lt, ◌++◌, slice_index_or, slice_set, bit_and, bit_or, Fits, w8, w32, w64, Bor, MutBor}
-use Rattle.settings.specs.Settings.{get_code, byte_count, values_of, values_with, row_count, tiling_row}
-use Rattle.answers.specs.Reply.{report_from}
-use Rattle.answers.specs.Judged.{stored, off_already, held_then, takes}
-use Rattle.answers.specs.Turn.{allowed_by, is_stored}
-use Rattle.answers.specs.Private.Orders.{stands_then}
 use Rattle.answers.proofs.judging.order_of.Goals as goal
 
 -- The code says which row is meant, and whether values may follow. Assumes nothing.
@@ -47,16 +40,14 @@ returns-in-Set c =
 pub returns-then-n-eq1 : goal.returns-then-n-eq1
 returns-then-n-eq1 c =
     let found : (f : Found) → c.found_by-found.result ≡ f → command c.args.d.now ≡ command_by f (drop 1 c.args.d.now) = λ f e. by_code c.args.d.now f (omega arith) (sym c.found_by-found.ensures ∙ e) in
-    let row = c.found-in-Get-1.given in
     let one : length (drop 1 c.args.d.now) ≡ 0 = simp length-drop (omega arith) in
-    sym (ap order_of (found _ row.1 ∙ alone row.0.0 (drop 1 c.args.d.now) one))
+    sym (ap order_of (found _ c.in-Get.is ∙ alone c.in-Get.row (drop 1 c.args.d.now) one))
 
 pub returns-else-n-eq1 : goal.returns-else-n-eq1
 returns-else-n-eq1 c =
     let found : (f : Found) → c.found_by-found.result ≡ f → command c.args.d.now ≡ command_by f (drop 1 c.args.d.now) = λ f e. by_code c.args.d.now f (omega arith) (sym c.found_by-found.ensures ∙ e) in
-    let row = c.found-in-Get-1.given in
     let more : length (drop 1 c.args.d.now) ≡ 0 → ⊥ = λ z. c.if-n-eq1.false (omega (arith, rw length-drop at z)) in
-    sym (ap order_of (found _ row.1 ∙ not_alone row.0.0 (drop 1 c.args.d.now) more))
+    sym (ap order_of (found _ c.in-Get.is ∙ not_alone c.in-Get.row (drop 1 c.args.d.now) more))
 
 pub returns-in-Nothing : goal.returns-in-Nothing
 returns-in-Nothing c =

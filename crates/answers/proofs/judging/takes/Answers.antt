@@ -3,7 +3,7 @@ use mathlib.Core.Bool.{Bool, true, false, not, ◌&&◌, and-true}
 use mathlib.Core.List.{List}
 use Prim.Native.Nat.{ℕ, ◌<◌}
 use native.Mathlib.Omega.{arith}
-use borrow.Author.Tests.{ne_eqb, eqb-true, eqb-false, not-true, not-false}
+use borrow.Author.Tests.{ne_eqb, eqb-true, eqb-false}
 use lib.Dec.{eqb}
 use lib.ListN.{get_or, drop, length-drop}
 use Rattle.settings.specs.declared.Profile.{Profile}
@@ -16,13 +16,6 @@ use Rattle.panels.specs.Wall.{model_of}
 use Rattle.answers.specs.Judged.{off_already, takes}
 use Rattle.answers.specs.Turn.{allowed_by}
 use Rattle.answers.specs.Private.Orders.{stands_then}
-use borrow.Author.Rules.{rules}
-use Rattle.std.proofs.Common.{◌∷◌, ◌+◌, length, ◌-◌, ◌*◌, ◌≤◌, ◌/◌, ◌%◌, nat_eq, nat_lt, [], ◌++◌, slice_index_or, slice_set, bit_and, bit_or, Fits, w8, w32, w64, Bor, MutBor}
-use Rattle.settings.specs.Settings.{get_code, byte_count, values_with, row_count}
-use Rattle.answers.specs.Reply.{report_from}
-use Rattle.answers.specs.Judged.{command, stored, held_then}
-use Rattle.answers.specs.Turn.{is_stored}
-use Rattle.answers.specs.Private.Orders.{order_of}
 use Rattle.answers.proofs.judging.takes.Goals as goal
 
 -- The panel's profile has its own place; what its ranges allow of a tiling stands in a wall or not. Assumes nothing.
@@ -55,13 +48,13 @@ not_taken row vs p e = go (eqb row tiling_row) refl
 
 pub returns-then-not-allowed-number : goal.returns-then-not-allowed-number
 returns-then-not-allowed-number c =
-    let here : let a = c.args in in_ranges a.p.profile a.row (drop 1 a.d.now) ≡ get_or a.t3 c.profile_number-number.result false = let a = c.args in sym (own a.p.profile a.row (drop 1 a.d.now)) ∙ ap₂ (λ (l : List Bool) (n : ℕ). get_or l n false) (sym c.requires) (sym c.profile_number-number.ensures) in
+    let here : let a = c.args in in_ranges a.p.profile a.row (drop 1 a.d.now) ≡ get_or a.allowed c.profile_number-number.result false = let a = c.args in sym (own a.p.profile a.row (drop 1 a.d.now)) ∙ ap₂ (λ (l : List Bool) (n : ℕ). get_or l n false) (sym c.requires) (sym c.profile_number-number.ensures) in
     sym (not_taken _ _ _ (here ∙ c.if-not-allowed-number.true))
 
 pub stands-requires : goal.stands-requires
 unfolding settings
 stands-requires c =
-    let here : let a = c.args in in_ranges a.p.profile a.row (drop 1 a.d.now) ≡ get_or a.t3 c.profile_number-number.result false = let a = c.args in sym (own a.p.profile a.row (drop 1 a.d.now)) ∙ ap₂ (λ (l : List Bool) (n : ℕ). get_or l n false) (sym c.requires) (sym c.profile_number-number.ensures) in
+    let here : let a = c.args in in_ranges a.p.profile a.row (drop 1 a.d.now) ≡ get_or a.allowed c.profile_number-number.result false = let a = c.args in sym (own a.p.profile a.row (drop 1 a.d.now)) ∙ ap₂ (λ (l : List Bool) (n : ℕ). get_or l n false) (sym c.requires) (sym c.profile_number-number.ensures) in
     let allowed : let a = c.args in in_ranges a.p.profile a.row (drop 1 a.d.now) ≡ true = here ∙ c.if-not-allowed-number.false in
     let a = c.args in
     let many = ranges_many a.p.profile tiling_row (drop 1 a.d.now) (ap (λ (r : ℕ). in_ranges a.p.profile r (drop 1 a.d.now)) (sym c.if-row-eq-TILING_ROW.true) ∙ allowed) in
@@ -69,7 +62,7 @@ stands-requires c =
 
 pub returns-then-row-eq-TILING_ROW : goal.returns-then-row-eq-TILING_ROW
 returns-then-row-eq-TILING_ROW c =
-    let here : let a = c.args in in_ranges a.p.profile a.row (drop 1 a.d.now) ≡ get_or a.t3 c.profile_number-number.result false = let a = c.args in sym (own a.p.profile a.row (drop 1 a.d.now)) ∙ ap₂ (λ (l : List Bool) (n : ℕ). get_or l n false) (sym c.requires) (sym c.profile_number-number.ensures) in
+    let here : let a = c.args in in_ranges a.p.profile a.row (drop 1 a.d.now) ≡ get_or a.allowed c.profile_number-number.result false = let a = c.args in sym (own a.p.profile a.row (drop 1 a.d.now)) ∙ ap₂ (λ (l : List Bool) (n : ℕ). get_or l n false) (sym c.requires) (sym c.profile_number-number.ensures) in
     let allowed : let a = c.args in in_ranges a.p.profile a.row (drop 1 a.d.now) ≡ true = here ∙ c.if-not-allowed-number.false in
     let a = c.args in
     let vs = drop 1 a.d.now in
@@ -79,6 +72,6 @@ returns-then-row-eq-TILING_ROW c =
 
 pub returns : goal.returns
 returns c =
-    let here : let a = c.args in in_ranges a.p.profile a.row (drop 1 a.d.now) ≡ get_or a.t3 c.profile_number-number.result false = let a = c.args in sym (own a.p.profile a.row (drop 1 a.d.now)) ∙ ap₂ (λ (l : List Bool) (n : ℕ). get_or l n false) (sym c.requires) (sym c.profile_number-number.ensures) in
+    let here : let a = c.args in in_ranges a.p.profile a.row (drop 1 a.d.now) ≡ get_or a.allowed c.profile_number-number.result false = let a = c.args in sym (own a.p.profile a.row (drop 1 a.d.now)) ∙ ap₂ (λ (l : List Bool) (n : ℕ). get_or l n false) (sym c.requires) (sym c.profile_number-number.ensures) in
     let allowed : let a = c.args in in_ranges a.p.profile a.row (drop 1 a.d.now) ≡ true = here ∙ c.if-not-allowed-number.false in
     ap not c.off_already.ensures ∙ sym (ranges_say _ _ _ c.if-row-eq-TILING_ROW.false ∙ rw allowed)

@@ -1,20 +1,13 @@
 use mathlib.Core.Path.{sym, ap, ◌∙◌}
 use mathlib.Core.List.{List}
-use Prim.Native.Nat.{ℕ, ◌+◌, ◌-◌}
+use Prim.Native.Nat.{ℕ, ◌-◌}
 use native.Mathlib.Omega.{arith}
 use lib.ListN.{length, get_or, drop, length-drop}
 use lib.Seq.{take_all}
-use Rattle.settings.specs.Settings.{byte_count, values_of, values_with, tiling_row}
+use Rattle.settings.specs.Settings.{values_of, values_with, tiling_row}
 use Rattle.models.proofs.Filled.{filled-other, length-filled}
 use Rattle.panels.specs.declared.Panel.{Panel}
 use Rattle.answers.specs.Judged.{stored, held_then}
-use borrow.Author.Rules.{rules}
-use Rattle.std.proofs.Common.{◌≡◌, ◌∷◌, ◌<◌, ◌*◌, ◌≤◌, ◌/◌, ◌%◌, Bool, true, false, nat_eq, nat_lt, [], ◌++◌, slice_index_or, slice_set, bit_and, bit_or, Fits, w8, w32, w64, Bor, MutBor}
-use Rattle.settings.specs.Settings.{get_code, row_count}
-use Rattle.answers.specs.Reply.{report_from}
-use Rattle.answers.specs.Judged.{command, off_already, takes}
-use Rattle.answers.specs.Turn.{allowed_by, is_stored}
-use Rattle.answers.specs.Private.Orders.{order_of, stands_then}
 use Rattle.answers.proofs.judging.with_values.Goals as goal
 
 -- The values behind the set code are stored, of a tiling those that the panel then holds. Assumes nothing.
@@ -30,8 +23,8 @@ pub returns-then-row-eq-TILING_ROW : goal.returns-then-row-eq-TILING_ROW
 unfolding stored
 returns-then-row-eq-TILING_ROW c =
     let a = c.args in
-    let held = c.tiling_then-held.ensures ∙ ap (λ (row : ℕ). held_then row (drop 1 a.d.now) a.t1) (sym c.if-row-eq-TILING_ROW.true) in
-    ap (with_these a.t1) (c.store.ensures ∙ ap (λ (vs : List ℕ). values_with a.row vs a.t1.values) held)
+    let held = c.tiling_then-held.ensures ∙ ap (λ (row : ℕ). held_then row (drop 1 a.d.now) a.p) (sym c.if-row-eq-TILING_ROW.true) in
+    ap (with_these a.p) (c.store.ensures ∙ ap (λ (vs : List ℕ). values_with a.row vs a.p.values) held)
 
 pub returns : goal.returns
 unfolding stored
@@ -39,5 +32,5 @@ returns c =
     let a = c.args in
     let d = a.d.now in
     let all = take_all (length d - 1) (drop 1 d) (rw length-drop (omega arith)) in
-    let held = all ∙ sym (filled-other a.row (get_or (values_of a.row a.t1.values) 3 0) (drop 1 d) c.if-row-eq-TILING_ROW.false) in
-    ap (with_these a.t1) (c.store-2.ensures ∙ ap (λ (vs : List ℕ). values_with a.row vs a.t1.values) held)
+    let held = all ∙ sym (filled-other a.row (get_or (values_of a.row a.p.values) 3 0) (drop 1 d) c.if-row-eq-TILING_ROW.false) in
+    ap (with_these a.p) (c.store-2.ensures ∙ ap (λ (vs : List ℕ). values_with a.row vs a.p.values) held)

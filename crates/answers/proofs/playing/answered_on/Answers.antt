@@ -9,15 +9,6 @@ use Rattle.answers.specs.Turn.{names_in, turn_by}
 use Rattle.answers.proofs.Turns.{entry_of}
 use Rattle.answers.proofs.Entries.{entry_is, nothing_left, fits, something_left}
 use borrow.Author.Rules.{rules}
-use Rattle.std.proofs.Common.{map, ◌≤◌, length, ℕ, ◌+◌, ◌-◌, ◌*◌, ◌<◌, ◌/◌, ◌%◌, Bool, true, false, nat_eq, nat_lt, List, [], ◌∷◌, ◌++◌, slice_index_or, slice_set, bit_and, bit_or, w8, w32, w64, Bor, MutBor}
-use Rattle.packet.specs.Reading.{reading_of}
-use Rattle.panels.specs.Wall.{table_of}
-use Rattle.panels.specs.WellFormed.{WellFormed}
-use Rattle.lists.specs.Lists.{laid_over}
-use Rattle.packet.specs.Packet.{longest}
-use Rattle.answers.specs.Reply.{sent_bytes}
-use Rattle.answers.specs.Turn.{heard_as, turned_by, Fits}
-use Rattle.answers.specs.Played.{answered_on}
 use Rattle.answers.proofs.playing.answered_on.Goals as goal
 
 -- The entry is the wall's, so the turn leaves what the definition says. Assumes nothing.
@@ -26,18 +17,18 @@ damaged t r d = record { table = t; reply = r; damage = d }
 
 pub returns-then-change : goal.returns-then-change
 returns-then-change c =
-    let turn_is : let a = c.args in c.turn_of-turn.result ≡ turn_by (entry_of (panels_of a.t1) (names_in a.verdict a.seems)) a.verdict a.d.now a.seems = let a = c.args in let f = c.requires in let there = entry_is f c.names_in-names.result (element-copy-out-at c) (element-copy-out-t17 c) _ c.count_of.ensures _ in c.turn_of-turn.ensures ∙ ap (λ (e : Entry). turn_by e a.verdict a.d.now a.seems) (there ∙ ap (entry_of (panels_of a.t1)) c.names_in-names.ensures) in
+    let turn_is : let a = c.args in c.turn_of-turn.result ≡ turn_by (entry_of (panels_of a.t) (names_in a.verdict a.seems)) a.verdict a.d.now a.seems = let a = c.args in let f = c.requires in let there = entry_is f c.names_in-names.result (search rules) (search rules) _ c.count_of.ensures _ in c.turn_of-turn.ensures ∙ ap (λ (e : Entry). turn_by e a.verdict a.d.now a.seems) (there ∙ ap (entry_of (panels_of a.t)) c.names_in-names.ensures) in
     let a = c.args in
     ap (damaged _ _) c.damage_in-damage.ensures ∙ nothing_left c.requires a.verdict a.d.now a.seems turn_is c.if-change.true
 
 pub stored-table-requires : goal.stored-table-requires
 stored-table-requires c =
-    let turn_is : let a = c.args in c.turn_of-turn.result ≡ turn_by (entry_of (panels_of a.t1) (names_in a.verdict a.seems)) a.verdict a.d.now a.seems = let a = c.args in let f = c.requires in let there = entry_is f c.names_in-names.result (element-copy-out-at c) (element-copy-out-t17 c) _ c.count_of.ensures _ in c.turn_of-turn.ensures ∙ ap (λ (e : Entry). turn_by e a.verdict a.d.now a.seems) (there ∙ ap (entry_of (panels_of a.t1)) c.names_in-names.ensures) in
+    let turn_is : let a = c.args in c.turn_of-turn.result ≡ turn_by (entry_of (panels_of a.t) (names_in a.verdict a.seems)) a.verdict a.d.now a.seems = let a = c.args in let f = c.requires in let there = entry_is f c.names_in-names.result (search rules) (search rules) _ c.count_of.ensures _ in c.turn_of-turn.ensures ∙ ap (λ (e : Entry). turn_by e a.verdict a.d.now a.seems) (there ∙ ap (entry_of (panels_of a.t)) c.names_in-names.ensures) in
     let a = c.args in
     (c.requires, fits c.requires a.verdict a.d.now a.seems turn_is c.if-change.false)
 
 pub returns : goal.returns
 returns c =
-    let turn_is : let a = c.args in c.turn_of-turn.result ≡ turn_by (entry_of (panels_of a.t1) (names_in a.verdict a.seems)) a.verdict a.d.now a.seems = let a = c.args in let f = c.requires in let there = entry_is f c.names_in-names.result (element-copy-out-at c) (element-copy-out-t17 c) _ c.count_of.ensures _ in c.turn_of-turn.ensures ∙ ap (λ (e : Entry). turn_by e a.verdict a.d.now a.seems) (there ∙ ap (entry_of (panels_of a.t1)) c.names_in-names.ensures) in
+    let turn_is : let a = c.args in c.turn_of-turn.result ≡ turn_by (entry_of (panels_of a.t) (names_in a.verdict a.seems)) a.verdict a.d.now a.seems = let a = c.args in let f = c.requires in let there = entry_is f c.names_in-names.result (search rules) (search rules) _ c.count_of.ensures _ in c.turn_of-turn.ensures ∙ ap (λ (e : Entry). turn_by e a.verdict a.d.now a.seems) (there ∙ ap (entry_of (panels_of a.t)) c.names_in-names.ensures) in
     let a = c.args in
     ap (damaged _ _) c.damage_in-damage.ensures ∙ something_left c.requires a.verdict a.d.now a.seems turn_is c.if-change.false c.stored-table.ensures

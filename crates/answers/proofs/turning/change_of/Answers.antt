@@ -7,11 +7,6 @@ use Rattle.answers.specs.Judged.{Command, get_of, set_of, unavailable}
 use Rattle.answers.specs.Private.Orders.{order_of}
 use Rattle.answers.specs.Turn.{no_change, change_of}
 use Rattle.answers.proofs.Orders.{OrderIs, order_right}
-use borrow.Author.Rules.{rules}
-use Rattle.std.proofs.Common.{drop, ℕ, ◌+◌, ◌-◌, ◌*◌, ◌<◌, ◌≤◌, length, ◌/◌, ◌%◌, Bool, true, false, nat_eq, nat_lt, List, [], ◌∷◌, ◌++◌, slice_index_or, slice_set, bit_and, bit_or, Fits, w8, w32, w64, Bor, MutBor}
-use Rattle.answers.specs.Judged.{command, reply_by, judge}
-use Rattle.answers.specs.Turn.{names_in, span_of, reply_to, nack_to, turn_by}
-use Rattle.answers.specs.Private.Orders.{allowed_in}
 use Rattle.answers.proofs.turning.change_of.Goals as goal
 
 -- Each order is a case of the definition; one that stores has a row and a set code. Assumes nothing.
@@ -40,7 +35,7 @@ unfolding change_of
 returns-in-Store c =
     let told : (o : Order) → c.args.order ≡ o → OrderIs c.args.d.now o = λ o e. subst (OrderIs _) (sym c.requires ∙ e) (order_right _) in
     let o = told _ c.in-Store.is in
-    rw (o.2, c.allowed_by-allowed.ensures, c.Span-of.ensures)
+    rw (o.2, c.allowed_by-allowed.ensures, c.span_of-span.ensures)
 
 pub returns-in-NotAvailable : goal.returns-in-NotAvailable
 returns-in-NotAvailable c = c.nothing-in-NotAvailable.ensures ∙ sym (not_stored _ _ _ _ (subst NotStore (sym c.in-NotAvailable.is ∙ c.requires) tt))

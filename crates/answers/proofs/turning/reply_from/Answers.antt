@@ -3,13 +3,7 @@ use lib.ListN.{drop}
 use Rattle.packet.specs.declared.MonitorId.{MonitorId}
 use Rattle.answers.specs.declared.Order.{Order}
 use Rattle.answers.specs.Judged.{Judged, set_of, command, reply_by}
-use Rattle.answers.specs.Private.Orders.{allowed_in}
 use Rattle.answers.proofs.Orders.{OrderIs, order_right, judge-get, judge-set, judge_not}
-use borrow.Author.Rules.{rules}
-use Rattle.std.proofs.Common.{ℕ, ◌+◌, ◌-◌, ◌*◌, ◌<◌, ◌≤◌, length, ◌/◌, ◌%◌, Bool, true, false, nat_eq, nat_lt, List, [], ◌∷◌, ◌++◌, slice_index_or, slice_set, bit_and, bit_or, Fits, w8, w32, w64, Bor, MutBor}
-use Rattle.answers.specs.Judged.{judge}
-use Rattle.answers.specs.Turn.{names_in, span_of, no_change, change_of, reply_to, nack_to, turn_by}
-use Rattle.answers.specs.Private.Orders.{order_of}
 use Rattle.answers.proofs.turning.reply_from.Goals as goal
 
 by_judge : (i : MonitorId) {j k : Judged} → j ≡ k → reply_by i k ≡ reply_by i j

@@ -2,15 +2,10 @@ use mathlib.Core.Path.{◌≡◌, sym, ◌∙◌}
 use mathlib.Core.Bool.{true}
 use Prim.Native.Nat.{◌<◌}
 use native.Mathlib.Omega.{arith}
-use borrow.Author.Tests.{not-true, not-false, lt-ltb, le-ltb}
+use borrow.Author.Tests.{lt-ltb, le-ltb}
 use Rattle.packet.specs.Answered.{is_heard}
 use Rattle.panels.specs.Wall.{most_panels}
 use Rattle.answers.specs.Turn.{reply_to}
-use borrow.Author.Rules.{rules}
-use Rattle.std.proofs.Common.{drop, ℕ, ◌+◌, ◌-◌, ◌*◌, ◌≤◌, length, ◌/◌, ◌%◌, Bool, false, nat_eq, nat_lt, List, [], ◌∷◌, ◌++◌, slice_index_or, slice_set, bit_and, bit_or, Fits, w8, w32, w64, Bor, MutBor}
-use Rattle.answers.specs.Judged.{command, reply_by, judge}
-use Rattle.answers.specs.Turn.{names_in, span_of, no_change, change_of, nack_to, turn_by}
-use Rattle.answers.specs.Private.Orders.{order_of, allowed_in}
 use Rattle.answers.proofs.turning.reply_to.Goals as goal
 
 pub returns-then-not-is_heard : goal.returns-then-not-is_heard

@@ -1,4 +1,4 @@
-use mathlib.Core.Path.{◌≡◌, refl, sym, ap, ap₂, ◌∙◌}
+use mathlib.Core.Path.{◌≡◌, refl, sym, ap, ◌∙◌}
 use mathlib.Core.List.{List, []}
 use Prim.Native.Nat.{ℕ}
 use lib.ListN.{drop}
@@ -7,16 +7,10 @@ use Rattle.packet.specs.declared.MonitorId.{MonitorId}
 use Rattle.answers.specs.declared.Change.{Change}
 use Rattle.answers.specs.declared.Entry.{Entry}
 use Rattle.answers.specs.declared.Order.{Order}
-use Rattle.answers.specs.declared.Reply.{Reply}
-use Rattle.answers.specs.declared.Turn.{Turn}
 use Rattle.answers.specs.Judged.{Command, get_of, set_of, unavailable, command}
 use Rattle.answers.specs.Turn.{allowed_by, no_change, change_of}
 use Rattle.answers.proofs.Orders.{OrderIs, order_right}
 use Rattle.answers.specs.Private.Orders.{order_of, allowed_in}
-use borrow.Author.Rules.{rules}
-use Rattle.std.proofs.Common.{◌+◌, ◌-◌, ◌*◌, ◌<◌, ◌≤◌, length, ◌/◌, ◌%◌, Bool, true, false, nat_eq, nat_lt, ◌∷◌, ◌++◌, slice_index_or, slice_set, bit_and, bit_or, Fits, w8, w32, w64, Bor, MutBor}
-use Rattle.answers.specs.Judged.{reply_by, judge}
-use Rattle.answers.specs.Turn.{names_in, span_of, reply_to, nack_to, turn_by}
 use Rattle.answers.proofs.turning.turn_by.Goals as goal
 
 -- The order is the command's. Assumes nothing.

@@ -3,11 +3,6 @@ use Rattle.answers.specs.declared.Change.{Change}
 use Rattle.answers.specs.declared.Reply.{Reply}
 use Rattle.answers.specs.declared.Turn.{Turn}
 use Rattle.answers.specs.Turn.{turn_by}
-use borrow.Author.Rules.{rules}
-use Rattle.std.proofs.Common.{◌≡◌, drop, ℕ, ◌+◌, ◌-◌, ◌*◌, ◌<◌, ◌≤◌, length, ◌/◌, ◌%◌, Bool, true, false, nat_eq, nat_lt, List, [], ◌∷◌, ◌++◌, slice_index_or, slice_set, bit_and, bit_or, Fits, w8, w32, w64, Bor, MutBor}
-use Rattle.answers.specs.Judged.{command, reply_by, judge}
-use Rattle.answers.specs.Turn.{names_in, span_of, no_change, change_of, reply_to, nack_to}
-use Rattle.answers.specs.Private.Orders.{order_of, allowed_in}
 use Rattle.answers.proofs.turning.turn_of.Goals as goal
 
 -- Each verdict is a case of the definition. Assumes nothing.
