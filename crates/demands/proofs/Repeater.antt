@@ -22,11 +22,11 @@ use Rattle.answers.specs.Session.{session}
 use Rattle.answers.specs.Sample.{two_panels}
 use Rattle.answers.proofs.Longest.{too_much}
 use Rattle.line.specs.declared.Heard.{Heard as FirstHeard}
-use Rattle.line.specs.Stream.{streamed_by}
-use Rattle.line.proofs.AnyReceiver.{fed_after}
 use Rattle.line.proofs.Streams as first
 use Rattle.small_receiver.specs.declared.Heard.{Heard}
+use Rattle.small_receiver.specs.Stream.{streamed_by}
 use Rattle.small_receiver.specs.Small.{keeping, small_of, with_byte, reading_in, streamed}
+use Rattle.small_receiver.proofs.AnyReceiver.{fed_after}
 use Rattle.small_receiver.proofs.Small as small
 use Rattle.demands.specs.Demand3.{sent, kept, on_line}
 use Rattle.demands.specs.Repeater.{KeepsTwelve, SameAtMark, SameOnLine, Demand3-repeater, NoLonger, ElevenTooFew}
@@ -49,7 +49,7 @@ same_at_mark b t =
 
 pub same_on_line : SameOnLine
 same_on_line w events =
-    let ours = small.stream-after 12 (omega arith) (omega arith) [] w events in (ours ∙ sym (first.stream-after Edition.Sicp201 [] w events), ours)
+    let ours = small.stream_after 12 (omega arith) (omega arith) [] w events in (ours ∙ sym (first.stream_after Edition.Sicp201 [] w events), ours)
 
 pub demand3_repeater : Demand3-repeater
 demand3_repeater w items = rw (is (sent items), is (kept items)) (demand3 Edition.Sicp201 w items)
