@@ -32,7 +32,7 @@ counted_or_not host c cs (after, given) (after_none, given-none) = go (has_room 
     go true e = rw e (after, ap (λ (l : List (List ℕ)). given_out host c ++ l) given)
     go false e =
         let without = refused host c e in
-        let back = without.same-host in
+        let back = without.same_host in
         rw (e, without.none) (ap (λ (x : Host). host_after x cs) back ∙ after_none, ap (λ (x : Host). packets x cs) back ∙ given-none)
 
 pub not_counted : NotCounted
@@ -69,7 +69,7 @@ module _ (host : Host) (b lent : List ℕ) (nothing : eqb host.sendings 0 ≡ fa
     where
       all : (o : Outcome) → is_over o ≡ false → Stays host heard_call o
           → (host_after host (heard_call ∷ []) ≡ host) × (output_after host heard_call ≡ lent) × (given_out host heard_call ≡ []) × (none_over host (heard_call ∷ []) ≡ true)
-      all o e s = (s.same-host, s.same-output, s.none, rw (s.told, e))
+      all o e s = (s.same_host, s.same_output, s.none, rw (s.told, e))
 
       go : (t : Bool) → has_room heard_call ≡ t
           → (host_after host (heard_call ∷ []) ≡ host) × (output_after host heard_call ≡ lent) × (given_out host heard_call ≡ []) × (none_over host (heard_call ∷ []) ≡ true)

@@ -70,7 +70,7 @@ module _ (edition : Edition) where
   Still c = ((answer_to resting c).host ≡ resting) × (given_out resting c ≡ []) × (is_over (answer_to resting c).outcome ≡ false)
 
   still : {o : Outcome} (c : Call) → is_over o ≡ false → Stays resting c o → Still c
-  still c e s = (s.same-host, s.none, ap is_over s.told ∙ e)
+  still c e s = (s.same_host, s.none, ap is_over s.told ∙ e)
 
   at_rest : (c : Call) (h : Happening) → c.happens ≡ h → is_mark h ≡ false → has_room c ≡ true → Still c
   unfolding step

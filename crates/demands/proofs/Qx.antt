@@ -146,7 +146,7 @@ unfolding translated packets_told refusal_of packets_in translated_over laid_ove
 translated_is out r z =
     let t = taken (length out) r z in
     let is = packets_is r t.request t.carried in
-    (rw (le-ltb _ 40 t.room-there, is), rw (le-ltb _ 40 t.room-there, t.request, is, refusal-none r, length-map (packets_of r) length))
+    (rw (le-ltb _ 40 t.room_there, is), rw (le-ltb _ 40 t.room_there, t.request, is, refusal-none r, length-map (packets_of r) length))
 
 -- and of what is refused there are none
 pub refused_data : (r : Request) → (cond {A = ℕ} (is_request Edition.Sicp201 r) (cond (is_carried r) 0 34) 22 ≡ 0 → ⊥) → asked.data_for (asked.asked_of r) ≡ []

@@ -49,7 +49,7 @@ same_at_mark b t =
 
 pub same_on_line : SameOnLine
 same_on_line w events =
-    let ours = small.stream-after 12 (omega arith) (omega arith) [] w events in (ours ∙ sym (first.stream-after Edition.Sicp201 [] w events), ours)
+    let ours = small.stream_after 12 (omega arith) (omega arith) [] w events in (ours ∙ sym (first.stream_after Edition.Sicp201 [] w events), ours)
 
 pub demand3_repeater : Demand3-repeater
 demand3_repeater w items = rw (is (sent items), is (kept items)) (demand3 Edition.Sicp201 w items)

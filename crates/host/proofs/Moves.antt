@@ -1,20 +1,16 @@
 -- Which move a call answers. Assumes nothing.
 use mathlib.Core.Path.{◌≡◌, refl}
 use mathlib.Core.Bool.{true, false}
-use mathlib.Core.Logic.{⊎_elim}
-use mathlib.Core.List.{List, [], ◌∷◌}
+use mathlib.Core.List.{List}
 use Prim.Native.Nat.{ℕ, ◌≤◌, ◌<◌}
 use native.Mathlib.Omega.{arith}
 use borrow.Author.Tests.{le-leb, lt-leb, lt-ltb, eq-eqb, ne_eqb}
-use types.Run.{OneOf}
-use denote.Enum.Declared.{tag_of}
 use lib.ListN.{length, length-replicate}
 use Rattle.packet.specs.Packet.{damage_in, longest}
 use Rattle.packet.specs.Reading.{reading_of}
 use Rattle.packet.specs.declared.MonitorId.{MonitorId}
 use Rattle.packet.specs.declared.GroupId.{GroupId}
 use Rattle.packet.specs.declared.Verdict.{Verdict}
-use Rattle.packet.specs.contracts.Verdict.{the_type}
 use Rattle.host.specs.declared.Host.{Host}
 use Rattle.host.specs.declared.Refusal.{Refusal}
 use Rattle.host.specs.declared.Outcome.{Outcome}
@@ -85,14 +81,14 @@ module _ (s : State) (d : List ℕ) where
     unfolding ending
     ignored e = rw e
 
-    pub not_intact : OneOf (0 ∷ 1 ∷ []) (tag_of the_type v) → ending s d (said_by s.request v d) ≡ quiet s Outcome.Waiting
+    pub not_intact : ((id : MonitorId) (group : GroupId) (n : ℕ) → v ≡ Verdict.Intact id group n → ⊥) → ending s d (said_by s.request v d) ≡ quiet s Outcome.Waiting
     unfolding said_by
     not_intact h = ignored (go v h)
       where
-        go : (v : Verdict) → OneOf (0 ∷ 1 ∷ []) (tag_of the_type v) → said_by s.request v d ≡ Said.Nothing
+        go : (v : Verdict) → ((id : MonitorId) (group : GroupId) (n : ℕ) → v ≡ Verdict.Intact id group n → ⊥) → said_by s.request v d ≡ Said.Nothing
         go Verdict.Empty h = refl
         go (Verdict.Damaged damage) h = refl
-        go (Verdict.Intact i g n) h = absurd (⊎_elim (λ e. omega arith) (λ e. omega arith) h)
+        go (Verdict.Intact i g n) h = absurd (h i g n refl)
 
     module _ (id : MonitorId) (group : GroupId) (n : ℕ) (e : v ≡ Verdict.Intact id group n) where
       pub other-group : (group.0 ≡ 0 → ⊥) → ending s d (said_by s.request v d) ≡ quiet s Outcome.Waiting

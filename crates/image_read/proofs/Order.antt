@@ -164,6 +164,8 @@ module _ (P : Form → Profile → List Entry → List Entry → Type 0)
       → read_records g w ys ≡ read_records f w xs
   unfolding read_records
   records-same f g w [] [] Forall₂.nil sound = refl
+  records-same f g w [] (y ∷ ys) r sound = elim r [ ]
+  records-same f g w (x ∷ xs) [] r sound = elim r [ ]
   records-same f g w (x ∷ xs) (y ∷ ys) (Forall₂.cons r rest) sound =
       go (is_sound (record_refusal f w x)) refl sound (records-same f g (wall_with f w x) xs ys rest)
     where
