@@ -9,9 +9,9 @@ use lib.ListN.{length, get_or}
 use Rattle.packet.specs.declared.Edition.{Edition}
 use Rattle.packet.specs.declared.Damage.{Damage}
 use Rattle.xor.specs.Xor.{xor_all}
-use Rattle.packet.specs.Packet.{shortest, is_intact, damage_number, damage_in, verdict_of, data_of}
+use Rattle.packet.specs.Packet.{shortest, is_intact, damage_of, damage_number, damage_in, verdict_of, data_of}
 use Rattle.packet.specs.Reading.{seems_for, reading_of}
-use Rattle.packet.proofs.Packets.{damage_of, sound, intact}
+use Rattle.packet.proofs.Packets.{sound, intact}
 use Rattle.packet.proofs.Spoiled.{spoiled-told as told}
 use Rattle.packet.proofs.Damages.{undamaged, passed, damage-said}
 use Rattle.answers.specs.Played.{answered}
@@ -32,6 +32,7 @@ too_short Edition.Sicp185 n = short n 2
 too_short Edition.Sicp201 n = short n 3
 
 pub kinds : Kinds
+unfolding damage_of
 kinds edition b = rw (damage-said edition b, too_short edition (length b)) (go (eqb (length b) 0) (ltb (length b) (shortest edition)) (ltb 40 (length b)) (eqb (get_or b 0 0) (length b)) (eqb (xor_all b) 0))
   where
     go : (none short long size sum : Bool)
@@ -53,6 +54,7 @@ numbered Damage.Size h = refl
 numbered Damage.Checksum h = refl
 
 pub no_damage : NoDamage
+unfolding damage_of
 no_damage edition b = rw (damage-said edition b) (go (eqb (length b) 0) refl (is_intact edition b) refl)
   where
     go : (none : Bool) → eqb (length b) 0 ≡ none → (t : Bool) → is_intact edition b ≡ t → eqb (damage_number (damage_of edition b)) 0 ≡ (none || t)
@@ -65,7 +67,7 @@ pub spoiled-told : SpoiledTold
 spoiled-told edition p s intact spoils none = told edition s p intact spoils (sym (damage-said edition _) ∙ none)
 
 pub unchanged : Unchanged
-unfolding answered is_intact verdict_of data_of seems_for
+unfolding answered verdict_of data_of seems_for
 unchanged edition w b = go edition (eqb (length b) 0) refl (is_intact edition b) refl
   where
     go : (edition : Edition) (none : Bool) → eqb (length b) 0 ≡ none → (t : Bool) → is_intact edition b ≡ t → answered w (reading_of edition b) ≡ before edition w b

@@ -13,7 +13,6 @@ use Rattle.codes.specs.declared.Found.{Found}
 use Rattle.codes.specs.Found.{found_by}
 use Rattle.packet.specs.declared.Edition.{Edition}
 use Rattle.packet.specs.Packet.{is_intact, data_of}
-use Rattle.packet.proofs.Packets.{intact-verdict}
 use Rattle.packet.specs.Reading.{reading_of}
 use Rattle.requests.specs.declared.Request.{Request}
 use Rattle.requests.specs.declared.Said.{Said}
@@ -29,8 +28,8 @@ use Rattle.demands.proofs.Editions.{heeded}
 
 pub data_in_lem : (edition : Edition) (b : List ℕ) → is_intact edition b ≡ true → data_of edition b ≡ data_in edition b
 unfolding data_of
-data_in_lem Edition.Sicp185 b e = rw (intact-verdict Edition.Sicp185 b e)
-data_in_lem Edition.Sicp201 b e = rw (intact-verdict Edition.Sicp201 b e)
+data_in_lem Edition.Sicp185 b e = rw e
+data_in_lem Edition.Sicp201 b e = rw e
 
 ends_by_lem : (r : Request) (f : Found) (d : List ℕ) → ended_by r.model f d ≡ ends_by r f d
 unfolding ended_by is_control is_report same

@@ -22,11 +22,11 @@ use Rattle.answers.specs.Session.{session}
 use Rattle.answers.specs.Sample.{two_panels}
 use Rattle.answers.proofs.Longest.{too_much}
 use Rattle.line.specs.declared.Heard.{Heard as FirstHeard}
-use Rattle.line.specs.Stream.{streamed_by}
-use Rattle.line.proofs.AnyReceiver.{fed_after}
 use Rattle.line.proofs.Streams as first
 use Rattle.small_receiver.specs.declared.Heard.{Heard}
+use Rattle.small_receiver.specs.Stream.{streamed_by}
 use Rattle.small_receiver.specs.Small.{keeping, small_of, with_byte, reading_in, streamed}
+use Rattle.small_receiver.proofs.AnyReceiver.{fed_after}
 use Rattle.small_receiver.proofs.Small as small
 use Rattle.demands.specs.Demand3.{sent, kept, on_line}
 use Rattle.demands.specs.Repeater.{KeepsTwelve, SameAtMark, SameOnLine, Demand3-repeater, NoLonger, ElevenTooFew}

@@ -27,8 +27,7 @@ use Rattle.answers.specs.Judged.{command, set_of}
 use Rattle.answers.specs.Played.{answered}
 use Rattle.answers.specs.Session.{by_burst, session}
 use Rattle.demands.specs.Cases.{Case, tried, cases}
-use Rattle.line.specs.Stream.{Event, bursts_after}
-use Rattle.line.specs.Receiver.{receiver_of, streamed}
+use Rattle.line.specs.Receiver.{Event, bursts_after, receiver_of, streamed}
 use Rattle.image_forms.specs.declared.Form.{Form}
 use Rattle.image_forms.specs.Forms.{has_field}
 use Rattle.refusals.specs.declared.Refusal.{Refusal}

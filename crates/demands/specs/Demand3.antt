@@ -11,8 +11,7 @@ use Rattle.panels.specs.Wall.{Wall}
 use Rattle.answers.specs.declared.Reply.{Reply}
 use Rattle.answers.specs.Reply.{silence, word_from}
 use Rattle.answers.specs.Session.{Ended, session}
-use Rattle.line.specs.Stream.{Event, byte, quiet}
-use Rattle.line.specs.Receiver.{receiver_of, streamed}
+use Rattle.line.specs.Receiver.{Event, byte, quiet, receiver_of, streamed}
 
 -- a burst that arrives as it was sent, or an intact packet that is spoiled on the way
 pub data Item (edition : Edition) : Type 0 where

@@ -11,8 +11,7 @@ use Rattle.panels.specs.Wall.{Wall}
 use Rattle.answers.specs.Played.{answered}
 use Rattle.answers.specs.Session.{by_burst}
 use Rattle.line.specs.declared.Receiver.{Receiver}
-use Rattle.line.specs.Stream.{Event, bursts_after}
-use Rattle.line.specs.Receiver.{receiver_of, with_byte, at_mark, streamed}
+use Rattle.line.specs.Receiver.{Event, bursts_after, receiver_of, with_byte, at_mark, streamed}
 use Rattle.requests.specs.declared.Request.{Request}
 use Rattle.requests.specs.declared.Said.{Said}
 use Rattle.requests.specs.Request.{is_request}

@@ -16,8 +16,7 @@ use Rattle.answers.specs.Reply.{word_from}
 use Rattle.answers.specs.Judged.{command, judge, not_available}
 use Rattle.answers.specs.Session.{session}
 use Rattle.answers.specs.Sample.{two_panels}
-use Rattle.line.specs.Stream.{Event, bursts_after}
-use Rattle.line.specs.Receiver.{receiver_of, with_byte as first_with_byte, at_mark as first_at_mark, streamed as first_streamed}
+use Rattle.line.specs.Receiver.{Event, bursts_after, receiver_of, with_byte as first_with_byte, at_mark as first_at_mark, streamed as first_streamed}
 use Rattle.small_receiver.specs.Small.{keeping, small_of, with_byte, at_mark, streamed}
 use Rattle.demands.specs.Demand3.{SilenceOrNack, Withstands, on_line}
 

@@ -1,4 +1,2 @@
--- `AnyReceiver` has that what a receiver makes of a stream is the session of its bursts, `Streams` that this is so of the one that keeps
--- a whole packet.
-pub mod AnyReceiver
+-- `Streams` has that a stream is the session of its bursts.
 pub mod Streams

@@ -1,4 +1,4 @@
--- The receiver that keeps a whole packet reads any burst as it is. Assumes nothing.
+-- A stream of bytes and quiet marks is the session of its bursts. Assumes nothing.
 use mathlib.Core.Path.{◌≡◌, refl, sym, ap, ap₂, ◌∙◌}
 use mathlib.Core.List.{List, [], ◌∷◌, ◌++◌, foldl, append-nil, append_assoc}
 use Prim.Native.Nat.{ℕ, suc, ◌+◌, ◌-◌, ◌≤◌, ◌<◌, min}
@@ -17,10 +17,8 @@ use Rattle.line.specs.declared.Receiver.{Receiver}
 use Rattle.line.specs.declared.Heard.{Heard}
 use Rattle.answers.specs.declared.Played.{Played}
 use Rattle.answers.specs.Played.{answered, answered_on}
-use Rattle.answers.specs.Session.{session}
-use Rattle.line.specs.Stream.{Event, bursts_after}
-use Rattle.line.specs.Receiver.{receiver_of, with_byte, burst_of, reading_in, fresh_as, at_mark, streamed}
-use Rattle.line.proofs.AnyReceiver.{Alike, fed_after, stream_session}
+use Rattle.answers.specs.Session.{by_burst, session}
+use Rattle.line.specs.Receiver.{Event, byte, quiet, bursts_after, receiver_of, with_byte, burst_of, at_mark, streamed}
 
 -- what was answered, and a fresh receiver
 abbrev pub heard_as : Edition → Played → Heard
@@ -83,17 +81,32 @@ module _ (edition : Edition) where
   reading_alike : (l : List ℕ) → reading_of edition (burst_of (receiver_of edition l)) ≡ reading_of edition l
   reading_alike l = by_size _ (length l) (longest + 1) (λ h. ap (reading_of edition) (kept l h)) (long_alike l)
 
+  fed_after : (l bs : List ℕ) → foldl with_byte (receiver_of edition l) bs ≡ receiver_of edition (l ++ bs)
+  fed_after l [] = ap (receiver_of edition) (sym (append-nil l))
+  fed_after l (b ∷ bs) = ap (λ (r : Receiver). foldl with_byte r bs) (with_byte_lem l b) ∙ fed_after (l ++ b ∷ []) bs ∙ ap (receiver_of edition) (append_snoc l b bs)
+
   -- a burst of any length, byte after byte and then the mark, is answered by what is read of it, and its damage told
   at_mark_lem : (t : Table) (l : List ℕ) → at_mark (receiver_of edition l) t ≡ heard_as edition (answered_on t (reading_of edition l))
   unfolding at_mark receiver_of
   at_mark_lem t l = ap (λ (r : Reading). heard_as edition (answered_on t r)) (reading_alike l)
 
   pub marked : (t : Table) (b : List ℕ) → at_mark (foldl with_byte (receiver_of edition []) b) t ≡ heard_as edition (answered_on t (reading_of edition b))
-  marked t b = ap (λ (r : Receiver). at_mark r t) (fed_after with_byte (receiver_of edition) with_byte_lem [] b) ∙ at_mark_lem t b
+  marked t b = ap (λ (r : Receiver). at_mark r t) (fed_after [] b) ∙ at_mark_lem t b
 
-  alike : (l : List ℕ) → Alike (reading_in (receiver_of edition l)) (reading_of edition l)
-  unfolding receiver_of
-  alike l = let same = reading_alike l in record { verdict = ap (λ (r : Reading). r.verdict) same; answer = λ w. ap (answered w) same }
+  -- what a mark leaves of a stream
+  stream_quiet : (l : List ℕ) (w : Wall) (es : List Event)
+      → let o = answered w (reading_of edition l) in
+      let e = streamed (receiver_of edition []) o.wall es in
+      streamed (receiver_of edition l) w (quiet ∷ es) ≡ record { wall = e.wall; replies = o.reply ∷ e.replies }
+  unfolding streamed receiver_of
+  stream_quiet l w es =
+      ap (λ (r : Reading). let o = answered w r in
+      let e = streamed (receiver_of edition []) o.wall es in
+      record { wall = e.wall; replies = o.reply ∷ e.replies }) (reading_alike l)
 
+  -- from what was heard since the last mark on
   pub stream_after : (l : List ℕ) (w : Wall) (es : List Event) → streamed (receiver_of edition l) w es ≡ session edition w (bursts_after l es)
-  stream_after = stream_session with_byte (receiver_of edition) with_byte_lem edition reading_in fresh_as (λ l. unfold receiver_of in refl) alike
+  unfolding streamed by_burst bursts_after
+  stream_after l w [] = refl
+  stream_after l w (byte b ∷ es) = ap (λ (r : Receiver). streamed r w es) (with_byte_lem l b) ∙ stream_after (l ++ b ∷ []) w es
+  stream_after l w (quiet ∷ es) = stream_quiet l w es ∙ rw (stream_after [] (answered w (reading_of edition l)).wall es)

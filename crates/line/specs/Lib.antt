@@ -1,4 +1,2 @@
--- What is right of one line. `Stream` is its bytes and quiet marks, and what any receiver makes of them, `Receiver` the receiver that
--- keeps a whole packet.
-pub mod Stream
+-- What is right of one line. `Receiver` is what a receiver makes of the line's bytes and quiet marks.
 pub mod Receiver

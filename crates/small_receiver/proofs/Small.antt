@@ -11,18 +11,19 @@ use Rattle.xor.specs.Xor.{◌⊕◌, xor_all}
 use Rattle.xor.proofs.Laws.{⊕_zero, xor_all-append}
 use Rattle.packet.specs.declared.Edition.{Edition}
 use Rattle.packet.specs.Edition.{head_size}
-use Rattle.packet.specs.Packet.{longest, verdict_by, verdict_of, data_by, data_of}
-use Rattle.packet.specs.Reading.{Reading, seems_for, reading_by, reading_of}
-use Rattle.packet.proofs.Readings.{same_reading, own_data}
-use Rattle.packet.proofs.Fronts.{front_verdict, front_data, front_seems}
+use Rattle.packet.specs.Packet.{longest, verdict_of, data_of}
+use Rattle.packet.specs.Reading.{Reading, seems_for, reading_of}
+use Rattle.packet.specs.Front.{verdict_by, data_by, reading_by}
+use Rattle.packet.proofs.Readings.{same_reading}
+use Rattle.packet.proofs.Fronts.{own_data, front_verdict, front_data, front_seems}
 use Rattle.panels.specs.declared.Table.{Table}
 use Rattle.panels.specs.Wall.{Wall}
 use Rattle.answers.specs.declared.Played.{Played}
 use Rattle.answers.specs.Played.{answered, answered_on}
 use Rattle.answers.specs.Session.{session}
 use Rattle.answers.proofs.Longest.{answered_first}
-use Rattle.line.specs.Stream.{Event, bursts_after}
-use Rattle.line.proofs.AnyReceiver.{Alike, answered_alike, fed_after, stream_session}
+use Rattle.line.specs.Receiver.{Event, bursts_after}
+use Rattle.small_receiver.proofs.AnyReceiver.{Alike, answered_alike, fed_after, stream_session}
 use Rattle.small_receiver.specs.declared.Heard.{Heard}
 use Rattle.small_receiver.specs.declared.SmallReceiver.{SmallReceiver}
 use Rattle.small_receiver.specs.Small.{keeping, longest_command, with_byte, reading_in, fresh_as, at_mark, streamed}

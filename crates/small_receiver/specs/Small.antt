@@ -4,12 +4,14 @@ use Rattle.xor.specs.Xor.{◌⊕◌, xor_all}
 use Rattle.settings.specs.Settings.{most_values}
 use Rattle.packet.specs.declared.Edition.{Edition}
 use Rattle.packet.specs.Packet.{shortest, longest}
-use Rattle.packet.specs.Reading.{Reading, reading_by}
+use Rattle.packet.specs.Reading.{Reading}
+use Rattle.packet.specs.Front.{reading_by}
 use Rattle.panels.specs.declared.Table.{Table}
 use Rattle.panels.specs.Wall.{Wall}
 use Rattle.answers.specs.Played.{answered_on}
 use Rattle.answers.specs.Session.{Ended}
-use Rattle.line.specs.Stream.{Event, streamed_by}
+use Rattle.line.specs.Receiver.{Event}
+use Rattle.small_receiver.specs.Stream.{streamed_by}
 use Rattle.small_receiver.specs.declared.SmallReceiver.{SmallReceiver}
 use Rattle.small_receiver.specs.declared.Heard.{Heard}
 

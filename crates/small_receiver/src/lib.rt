@@ -5,7 +5,7 @@ ghost use Rattle.std.specs.Prelude.{◌≡◌, ◌+◌, min};
 ghost use mathlib.Core.List.{[], foldl};
 ghost use Rattle.packet.specs.declared.Edition.{Edition};
 ghost use Rattle.packet.specs.Packet.{longest};
-ghost use Rattle.packet.specs.Reading.{reading_by};
+ghost use Rattle.packet.specs.Front.{reading_by};
 ghost use Rattle.panels.specs.WellFormed.{WellFormed};
 ghost use Rattle.answers.specs.Played.{answered_on};
 ghost use Rattle.small_receiver.specs.Small.{small_of, with_byte, reading_in, at_mark};

@@ -13,7 +13,8 @@ use Rattle.panels.specs.declared.Table.{Table}
 use Rattle.panels.specs.Wall.{Wall, table_of, panels_of}
 use Rattle.answers.specs.Played.{Outcome, answered, answered_on}
 use Rattle.answers.specs.Session.{Ended, by_burst, session}
-use Rattle.line.specs.Stream.{Event, byte, quiet, bursts_after, streamed_by}
+use Rattle.line.specs.Receiver.{Event, byte, quiet, bursts_after}
+use Rattle.small_receiver.specs.Stream.{streamed_by}
 
 -- two readings that no box can tell apart
 pub record Alike (r s : Reading) : Type 0 where
