@@ -12,7 +12,7 @@ use Rattle.models.specs.declared.Model.{Model}
 use Rattle.codes.specs.declared.Found.{Found}
 use Rattle.settings.specs.Settings.{settings, set_code, get_code, byte_count, values_of, row_count, most_values, kind_row, power_row, tiling_row, off}
 use Rattle.codes.specs.Found.{found_by}
-use Rattle.models.specs.Models.{allowed_for, filled}
+use Rattle.models.specs.Models.{allowed_for}
 use Rattle.lists.proofs.Both.{both}
 use Rattle.settings.proofs.Laws.{byte-count-few}
 use Rattle.codes.proofs.Laws.{IsFound, found_right}

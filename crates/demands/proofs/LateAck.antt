@@ -14,7 +14,7 @@ use Rattle.host.specs.declared.End.{End}
 use Rattle.host.specs.declared.Outcome.{Outcome}
 use Rattle.host.specs.declared.Refusal.{Refusal}
 use Rattle.host.specs.Machine.{Happening, start, burst, mark, State, Move, free, idle, sendings, most_sendings, is_over, step}
-use Rattle.host.specs.Calls.{host_of, state_of, step_of}
+use Rattle.host.specs.Calls.{call, host_of, state_of, step_of}
 use Rattle.host.proofs.EachMove.{MayEnd, step-holds}
 use Rattle.demands.specs.HostCalls.{Call, has_room, answer_to, given_out, host_after, packets, none_over, sendings_in}
 use Rattle.demands.specs.LateAck.{mark_due, RestsAfter, is_mark, no_mark, RestsUntilMark, LateAck}
@@ -98,7 +98,7 @@ module _ (edition : Edition) where
   unfolding step_of step
   wakes last room e =
       let m = roomy resting last room ∙ ap (step (state_of resting)) e in
-      (ap (λ (x : Move). host_of x.next) m, none-given _ last.lent (ap (λ (x : Move). x.sent) m))
+      (ap (λ (x : Move). host_of x.next) m, none-given (call last.lent (state_of resting) last.happens) last.lent (ap (λ (x : Move). x.sent) m))
 
 pub rests_until_mark : RestsUntilMark
 rests_until_mark = rests_on

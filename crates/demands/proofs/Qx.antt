@@ -1,6 +1,6 @@
 -- What a request asks of a QX panel is found by its code, and its packets are compared byte by byte. Assumes nothing.
 use Prim.Native.Nat.{ℕ, ◌≤◌, ◌<◌}
-use mathlib.Core.Bool.{Bool, true, false, cond, not, ◌&&◌, ◌||◌}
+use mathlib.Core.Bool.{Bool, true, false, cond, ◌&&◌, ◌||◌}
 use mathlib.Core.Path.{◌≡◌, refl, sym, ap, ◌∙◌}
 use mathlib.Core.List.{List, [], ◌∷◌, map, flatten}
 use native.Mathlib.Omega.{arith}
@@ -16,7 +16,6 @@ use Rattle.codes.specs.Found.{found_from, found_by}
 use Rattle.packet.specs.declared.Edition.{Edition}
 use Rattle.packet.specs.declared.MonitorId.{MonitorId}
 use Rattle.packet.specs.Answered.{is_heard}
-use Rattle.packet.specs.Spoiled.{lost}
 use Rattle.requests.specs.declared.Request.{Request}
 use Rattle.requests.specs.Request.{is_request, values_of}
 use Rattle.requests.proofs.Sets.{value_is}

@@ -1,6 +1,6 @@
 -- The answers to the packets of a request, compared byte by byte. Assumes nothing.
 use Prim.Native.Nat.{ℕ, suc, ◌<◌}
-use mathlib.Core.Bool.{true, false, cond, not, and-false, or-false, or-true}
+use mathlib.Core.Bool.{true, false, cond, and-false, or-false, or-true}
 use mathlib.Core.Path.{◌≡◌, refl, ap, ap₂, ◌∙◌}
 use mathlib.Core.List.{List, [], ◌∷◌, ◌++◌, map, flatten}
 use native.Mathlib.Omega.{arith}
@@ -30,10 +30,12 @@ use Rattle.qx.specs.Translation.{packets_for, packets_in, translated_over}
 use Rattle.demands.proofs.Qx.{wanted, data_is, Fits, written, qx_numbers, taken, refused_data}
 use Rattle.demands.specs.Scenes.{list_of}
 use Rattle.demands.proofs.Scenes.{told-again, stops}
-use Rattle.demands.specs.Qx.{number_for, is_carried, packets_of, answer_to, value_to, says_to, each_to, Reads, NoneAsked, AnswerNumbers, Joined, ReadBack, SpoiledAnswer, Examples004}
+use Rattle.demands.specs.Qx.{number_for, packets_of, answer_to, value_to, says_to, each_to, Reads, NoneAsked, AnswerNumbers, Joined, ReadBack, SpoiledAnswer, Examples004}
 
 fit_length : (id : MonitorId) (cs : List ℕ) (ps : List (List ℕ)) → Fits id cs ps → length cs ≡ length ps
 fit_length id [] [] f = refl
+fit_length id [] (p ∷ ps) f = elim f [ ]
+fit_length id (c ∷ cs) [] f = elim f [ ]
 fit_length id (c ∷ cs) (p ∷ ps) f = ap suc (fit_length id cs ps f.2)
 
 one-said : (id : MonitorId) (c : ℕ) (p x : List ℕ) → get_or p 1 0 ≡ id.0 → get_or p 7 0 ≡ c → said_to id c x ≡ says_to p x
@@ -43,6 +45,8 @@ one-said id c p x ei ec = rw (ei, ec)
 each-said : (id : MonitorId) (cs : List ℕ) (ps xs : List (List ℕ)) → Fits id cs ps → replies_to id cs xs ≡ each_to says_to ps xs
 unfolding replies_to
 each-said id [] [] xs f = refl
+each-said id [] (p ∷ ps) xs f = elim f [ ]
+each-said id (c ∷ cs) [] xs f = elim f [ ]
 each-said id (c ∷ cs) (p ∷ ps) [] f = refl
 each-said id (c ∷ cs) (p ∷ ps) (x ∷ xs) f = ap₂ (λ (a : Reply) (l : List Reply). a ∷ l) (one-said id c p x f.0 f.1) (each-said id cs ps xs f.2)
 

@@ -184,6 +184,11 @@ module _ {edition : Edition} where
   answered_so : {R S : Type 0} (May : R → Type 0) (Then : S → Type 0) (f : R → S) → ((r : R) → May r → Then (f r))
       → (items : List (Item edition)) (rs ks : List R) → Answered May items rs ks → Answered Then items (map f rs) (map f ks)
   answered_so May Then f so [] [] [] a = tt
+  answered_so May Then f so [] [] (k ∷ ks) a = elim a [ ]
+  answered_so May Then f so [] (r ∷ rs) ks a = elim a [ ]
+  answered_so May Then f so (whole b ∷ items) [] ks a = elim a [ ]
+  answered_so May Then f so (whole b ∷ items) (r ∷ rs) [] a = elim a [ ]
+  answered_so May Then f so (spoilt p s i h ∷ items) [] ks a = elim a [ ]
   answered_so May Then f so (whole b ∷ items) (r ∷ rs) (k ∷ ks) (e, a) = (ap f e, answered_so May Then f so items rs ks a)
   answered_so May Then f so (spoilt p s i h ∷ items) (r ∷ rs) ks (m, a) = (so r m, answered_so May Then f so items rs ks a)
 

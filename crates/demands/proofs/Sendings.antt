@@ -58,7 +58,7 @@ started host r first starts e = go (has_room first) refl
         let m = roomy host first room ∙ ap (step s) starts ∙ start_by_lem s r in
         let told = ap (λ (x : Move). x.outcome) m in
         let (sent, outcome, next) = begun_by s r (waits s) s.resting (is_request s.edition r) (is_heard r.id r.group) (sym (ap number_in told) ∙ e) in
-        (one-given _ first.lent _ (packet_some host.edition r) (ap (λ (x : Move). x.sent) m ∙ sent), told ∙ outcome, ap (λ (x : Move). host_of x.next) m ∙ ap host_of next)
+        (one-given (call first.lent s first.happens) first.lent _ (packet_some host.edition r) (ap (λ (x : Move). x.sent) m ∙ sent), told ∙ outcome, ap (λ (x : Move). host_of x.next) m ∙ ap host_of next)
     go false short = absurd (omega (arith, sym (ap number_in (refused host first short).told) ∙ e))
 
 module _ (host : Host) (r : Request) (first : Call) (cs : List Call) (starts : first.happens ≡ start r) (told-waiting : (answer_to host first).outcome ≡ Outcome.Waiting)

@@ -33,7 +33,6 @@ state_of h = record {
 
 -- the bytes given out
 abbrev pub bytes_of : Move → List ℕ
-unfolding flatten
 bytes_of m = flatten m.sent
 
 -- what a call answers for a move; behind the values of a report stand zeros

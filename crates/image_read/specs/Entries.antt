@@ -16,7 +16,6 @@ pub record Entry : Type 0 where
   pub values : List ℕ
 
 unfoldable pub bytes_of : List Entry → List ℕ
-unfolding flatten
 bytes_of es = flatten (map (λ (e : Entry). e.code ∷ length e.values ∷ e.values) es)
 
 -- a row's field at its fresh values

@@ -38,7 +38,6 @@ salvage_of image = cond (is_sound (frame_refusal image)) (salvaged_from (form_of
 
 -- the lines of a record with this number, and of some records that are numbered from it on
 unfoldable pub lines_of : ℕ → List Fault → List ℕ
-unfolding flatten
 lines_of number faults = flatten (map (line_of number) faults)
 
 unfoldable pub text_from : ℕ → List (List Fault) → List ℕ

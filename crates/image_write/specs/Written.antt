@@ -32,7 +32,6 @@ fields_of form values = each (field_in form values) row_count
 
 -- a record: the head, then fields
 unfoldable pub record_of : Form → Panel → List ℕ
-unfolding flatten
 record_of form p = head_of form p.id.0 p.group.0 p.profile ++ flatten (fields_of form p.values)
 
 -- a start as two bytes, high byte first
@@ -45,7 +44,6 @@ starts_of records = each (λ k. high_low (start_of records k)) (length records)
 
 -- records first, the trailer last: n starts, then n, then the form byte
 unfoldable pub image_of : Form → List (List ℕ) → List ℕ
-unfolding flatten
 image_of form records = flatten records ++ flatten (starts_of records) ++ length records ∷ form_byte form ∷ []
 
 -- panels in table order

@@ -9,7 +9,6 @@ each f (suc n) = f 0 ∷ each (λ k. f (suc k)) n
 
 -- where list k of some lists begins, once they stand one behind the other
 abbrev pub start_of : {A : Type 0} → List (List A) → ℕ → ℕ
-unfolding flatten
 start_of ls k = length (flatten (take k ls))
 
 -- a list with some bytes laid over it from place `at` on

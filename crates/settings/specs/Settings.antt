@@ -98,7 +98,6 @@ unfoldable pub allowed_by_row : Profile → List (List (List Range))
 allowed_by_row profile = map (λ (s : Setting). s.allowed profile) settings
 
 unfoldable pub fresh_values : Profile → List ℕ
-unfolding flatten
 fresh_values profile = flatten (map (λ (s : Setting). s.fresh profile) settings)
 
 -- where row k's values begin among them

@@ -1,7 +1,6 @@
 use mathlib.Core.Path.{◌≡◌, refl, sym, ap, ◌∙◌}
 use mathlib.Core.List.{List}
 use Prim.Native.Nat.{ℕ, ◌+◌}
-use native.Mathlib.Omega.{arith}
 use lib.ListN.{length, take, replicate}
 use lib.Seq.{take_at}
 use Rattle.packet.specs.declared.Edition.{Edition}
@@ -21,10 +20,6 @@ abbrev count_of : Sent → ℕ
 count_of (Sent.Bytes n) = n
 count_of Sent.NoRoom = (longest + 1)
 
-abbrev is_bytes : Sent → ℕ
-is_bytes (Sent.Bytes n) = 1
-is_bytes Sent.NoRoom = 0
-
 fits : (edition : Edition) (r : Reply) → sent_of edition empty r ≡ Sent.Bytes (length (sent_bytes edition r))
 unfolding sent_of
 fits edition r = refl
@@ -34,30 +29,26 @@ front_is : (edition : Edition) (r : Reply) (n : ℕ) → sent_of edition empty r
 unfolding output_of laid_over
 front_is edition r n e = take_at (sent_bytes edition r) _ n (ap count_of (sym (fits edition r) ∙ e))
 
-no_room : (edition : Edition) (r : Reply) (s : Sent) → s ≡ sent_of edition empty r → s ≡ Sent.NoRoom → ⊥
-no_room edition r s e f = omega (arith, ap is_bytes (sym (fits edition r) ∙ sym e ∙ f))
-
--- what was shown
-bytes_are : (edition : Edition) (r : Reply) (s : Sent) (n : ℕ) (front after : List ℕ)
-    → s ≡ sent_of edition empty r
-    → s ≡ Sent.Bytes n
-    → after ≡ output_of edition empty r
-    → front ≡ take n after
-    → front ≡ sent_bytes edition r
-bytes_are edition r s n front after e f o p = p ∙ ap (take n) o ∙ front_is edition r n (sym e ∙ f)
-
 pub returns-in_default-clause-value : goal.returns-in_default-clause-value
-returns-in_default-clause-value c = absurd (no_room _ _ _ c.write_answer-sent.ensures.value c.in_default.is)
+returns-in_default-clause-value c = let bytes = fits c.args.edition c.args.reply in cc
 
 pub returns-in_default-clause-out_after : goal.returns-in_default-clause-out_after
-returns-in_default-clause-out_after c = absurd (no_room _ _ _ c.write_answer-sent.ensures.value c.in_default.is)
+returns-in_default-clause-out_after c = let bytes = fits c.args.edition c.args.reply in cc
 
 pub returns-clause-value : goal.returns-clause-value
 returns-clause-value c =
-    c.shown.ensures.value
-    ∙ ap (λ (b : List ℕ). shown_count b c.args.out.now) (bytes_are _ _ _ _ _ _ c.write_answer-sent.ensures.value c.in-Bytes.is c.write_answer-sent.ensures.out_after c.front.ensures)
+    let a = c.args in
+    let n = c.in-Bytes.n in
+    let bytes =
+    c.front.ensures ∙ ap (take n) c.write_answer-sent.ensures.out_after
+    ∙ front_is a.edition a.reply n (sym c.write_answer-sent.ensures.value ∙ c.in-Bytes.is) in
+    c.shown.ensures.value ∙ ap (λ (b : List ℕ). shown_count b a.out.now) bytes
 
 pub returns-clause-out_after : goal.returns-clause-out_after
 returns-clause-out_after c =
-    c.shown.ensures.out_after
-    ∙ ap (λ (b : List ℕ). shown_over b c.args.out.now) (bytes_are _ _ _ _ _ _ c.write_answer-sent.ensures.value c.in-Bytes.is c.write_answer-sent.ensures.out_after c.front.ensures)
+    let a = c.args in
+    let n = c.in-Bytes.n in
+    let bytes =
+    c.front.ensures ∙ ap (take n) c.write_answer-sent.ensures.out_after
+    ∙ front_is a.edition a.reply n (sym c.write_answer-sent.ensures.value ∙ c.in-Bytes.is) in
+    c.shown.ensures.out_after ∙ ap (λ (b : List ℕ). shown_over b a.out.now) bytes

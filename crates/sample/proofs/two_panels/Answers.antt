@@ -29,15 +29,17 @@ add-one-requires c = subst WellFormed (sym c.empty_table-empty.ensures) empty_fo
 
 pub add-two-requires : goal.add-two-requires
 add-two-requires c =
-    let formed_first : WellFormed c.add-one.result.table = let f = subst WellFormed (sym c.empty_table-empty.ensures) empty_formed in subst WellFormed (sym (ap (λ (r : Changed). r.table) c.add-one.ensures)) (added_formed f _ _ _ _) in
-    formed_first
+    let f = subst WellFormed (sym c.empty_table-empty.ensures) empty_formed in
+    subst WellFormed (sym (ap (λ (r : Changed). r.table) c.add-one.ensures)) (added_formed f _ _ _ _)
 
 pub returns : goal.returns
 returns c =
-    let first_table : c.add-one.result.table ≡ table_of (fresh_panel (monitor_id 1) (group_id 9) Profile.General Kind.FiveByFive ∷ []) = let empty = ap panels_of c.empty_table-empty.ensures ∙ panels_of_table [] in ap (λ (r : Changed). r.table) c.add-one.ensures ∙ ap (λ (w : Wall). table_of (added w (monitor_id 1) (group_id 9) 0 0)) empty ∙ ap table_of one-panel in
-    let formed_first : WellFormed c.add-one.result.table = let f = subst WellFormed (sym c.empty_table-empty.ensures) empty_formed in subst WellFormed (sym (ap (λ (r : Changed). r.table) c.add-one.ensures)) (added_formed f _ _ _ _) in
+    let f = subst WellFormed (sym c.empty_table-empty.ensures) empty_formed in
+    let empty = ap panels_of c.empty_table-empty.ensures ∙ panels_of_table [] in
+    let first_formed = subst WellFormed (sym (ap (λ (r : Changed). r.table) c.add-one.ensures)) (added_formed f _ _ _ _) in
+    let first = ap (λ (r : Changed). r.table) c.add-one.ensures ∙ ap (λ (w : Wall). table_of (added w (monitor_id 1) (group_id 9) 0 0)) empty ∙ ap table_of one-panel in
     let table = ap (λ (r : Changed). r.table) c.add-two.ensures in
-    let one = ap panels_of first_table ∙ panels_of_table (fresh_panel (monitor_id 1) (group_id 9) Profile.General Kind.FiveByFive ∷ []) in (
+    let one = ap panels_of first ∙ panels_of_table (fresh_panel (monitor_id 1) (group_id 9) Profile.General Kind.FiveByFive ∷ []) in (
       table ∙ ap (λ (w : Wall). table_of (added w (monitor_id 2) (group_id 9) 0 0)) one ∙ ap table_of both_panels,
-      subst WellFormed (sym table) (added_formed formed_first _ _ _ _),
+      subst WellFormed (sym table) (added_formed first_formed _ _ _ _),
     )

@@ -22,7 +22,6 @@ values_at k = record { 0 = byte_count k; 1 = place k }
 
 -- what is allowed at each of a general panel's value bytes
 unfoldable pub allowed_values : List (List Range)
-unfolding flatten
 allowed_values = flatten (allowed_by_row Profile.General)
 
 -- the ranges of the value at place p, and the first of them
