@@ -7,7 +7,7 @@ INCLUDEDIR ?= $(PREFIX)/include
 MANDIR ?= $(PREFIX)/share/man
 DESTDIR ?=
 # The fourth box, with eleven of document 02's requests.
-VERSION := 4.14
+VERSION := 4.13
 
 # what is put where; on a processor that is not x86-64 the program has a folder of its own, and rig starts it by the emulator
 header_to := $(INCLUDEDIR)/undivarro.h

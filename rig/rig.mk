@@ -1,6 +1,6 @@
 # The bench rig. All that links the proved library is x86-64, as the library is; on another processor it is
 # cross-compiled and run under qemu.
-UNDIVARRO_LIB ?= crates/undivarro/out/libundivarro.a
+UNDIVARRO_LIB ?= target/staticlib/libundivarro.a
 CASES ?= 1000000
 SEED ?=
 
@@ -47,8 +47,11 @@ $(rig_out)/rig: $(rig_out)/bin/rig
 	printf '#!/bin/sh\nexec $(RUN) "$$(dirname "$$(readlink -f "$$0")")/bin/rig" "$$@"\n' >$@
 	chmod +x $@
 
-crates/undivarro/out/libundivarro.a: crates.txt $(wildcard crates/*/src/*.rt crates/*/src/*/*.rt)
-	tools/prove undivarro
+# The crate that exports it is undivarro_c, since a crate is a library or a static one; the archive has the library's name.
+target/staticlib/libundivarro.a: crates.txt $(wildcard crates/*/src/*.rt crates/*/src/*/*.rt)
+	tools/prove undivarro_c
+	@mkdir -p $(@D)
+	cp crates/undivarro_c/out/libundivarro_c.a $@
 
 $(rig_out)/bin/rig: $(rig_sources)
 $(rig_out)/bin/rig-stopped: $(rig_sources) rig/stops.c

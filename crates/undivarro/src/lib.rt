@@ -1,5 +1,5 @@
-// The exported functions, for C: a setup image read, a burst or a list of them played on it, and the setup written out again; or
-// what can be kept of an image that the reader refuses.
+// What the library for C exports (`undivarro_c`): a setup image read, a burst or a list of them played on it, and the setup written
+// out again; or what can be kept of an image that the reader refuses.
 #![tactic(auto)]
 
 mod batching;
@@ -55,8 +55,7 @@ fn moved(form: Form, image: &[u8], out: &mut [u8]) -> Outcome
 
 // A burst played on a setup image of either form, on a line opened with an edition's number: the answer, and the setup as it then is,
 // in form 2, which holds every table.
-#[unsafe(no_mangle)]
-pub extern "C" fn undivarro_play_on(
+pub fn undivarro_play_on(
     edition: u32,
     image: &[u8],
     burst: &[u8],
@@ -81,13 +80,7 @@ pub extern "C" fn undivarro_play_on(
 }
 
 // The same on a 2.01 line.
-#[unsafe(no_mangle)]
-pub extern "C" fn undivarro_play(
-    image: &[u8],
-    burst: &[u8],
-    answer: &mut [u8],
-    out: &mut [u8],
-) -> Outcome
+pub fn undivarro_play(image: &[u8], burst: &[u8], answer: &mut [u8], out: &mut [u8]) -> Outcome
     ensures value { result ≡ (after_play image.now burst.now answer.old out.old).outcome }
     ensures answer_after { answer.new ≡ (after_play image.now burst.now answer.old out.old).answer }
     ensures out_after { out.new ≡ (after_play image.now burst.now answer.old out.old).out }
@@ -97,8 +90,7 @@ pub extern "C" fn undivarro_play(
 
 // A list of bursts played one after the other on a setup image of either form, on a line opened with an edition's number: for each
 // the length of its answer and the answer, and the setup as it then is, in form 2.
-#[unsafe(no_mangle)]
-pub extern "C" fn undivarro_batch_on(
+pub fn undivarro_batch_on(
     edition: u32,
     image: &[u8],
     list: &[u8],
@@ -123,13 +115,7 @@ pub extern "C" fn undivarro_batch_on(
 }
 
 // The same on a 2.01 line.
-#[unsafe(no_mangle)]
-pub extern "C" fn undivarro_batch(
-    image: &[u8],
-    list: &[u8],
-    answers: &mut [u8],
-    out: &mut [u8],
-) -> Outcome
+pub fn undivarro_batch(image: &[u8], list: &[u8], answers: &mut [u8], out: &mut [u8]) -> Outcome
     ensures value { result ≡ (after_batch image.now list.now answers.old out.old).outcome }
     ensures answers_after { answers.new ≡ (after_batch image.now list.now answers.old out.old).answer }
     ensures out_after { out.new ≡ (after_batch image.now list.now answers.old out.old).out }
@@ -138,8 +124,7 @@ pub extern "C" fn undivarro_batch(
 }
 
 // A setup image of either form, written in form 2.
-#[unsafe(no_mangle)]
-pub extern "C" fn undivarro_read(image: &[u8], out: &mut [u8]) -> Outcome
+pub fn undivarro_read(image: &[u8], out: &mut [u8]) -> Outcome
     ensures value { result ≡ (after_read image.now out.old).outcome }
     ensures out_after { out.new ≡ (after_read image.now out.old).out }
 {
@@ -147,8 +132,7 @@ pub extern "C" fn undivarro_read(image: &[u8], out: &mut [u8]) -> Outcome
 }
 
 // And written in form 1, for boxes that read no other: 31 where that would lose something.
-#[unsafe(no_mangle)]
-pub extern "C" fn undivarro_back(image: &[u8], out: &mut [u8]) -> Outcome
+pub fn undivarro_back(image: &[u8], out: &mut [u8]) -> Outcome
     ensures value { result ≡ (after_back image.now out.old).outcome }
     ensures out_after { out.new ≡ (after_back image.now out.old).out }
 {
@@ -156,8 +140,7 @@ pub extern "C" fn undivarro_back(image: &[u8], out: &mut [u8]) -> Outcome
 }
 
 // What can be kept of a setup image of either form that passes 11 to 15, in form 2, and the lines of its faults.
-#[unsafe(no_mangle)]
-pub extern "C" fn undivarro_salvage(image: &[u8], lines: &mut [u8], out: &mut [u8]) -> Outcome
+pub fn undivarro_salvage(image: &[u8], lines: &mut [u8], out: &mut [u8]) -> Outcome
     ensures value { result ≡ (after_salvage image.now lines.old out.old).outcome }
     ensures lines_after { lines.new ≡ (after_salvage image.now lines.old out.old).answer }
     ensures out_after { out.new ≡ (after_salvage image.now lines.old out.old).out }
