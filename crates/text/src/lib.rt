@@ -1,11 +1,11 @@
 // What the programs read and print: steps of standard input, and bytes in upper-case hex.
 #![tactic(auto)]
 
-ghost use Rattle.std.specs.Prelude.{◌≡◌, ◌≤◌, ◌<◌, IfOk, OnErr, length, take, drop};
+ghost use Rattle.std.specs.Prelude.{◌≡◌, ◌+◌, ◌≤◌, ◌<◌, IfOk, OnErr, length, take, drop};
 ghost use Rattle.std.specs.Io.KnownBytes.{Consumes, IsAtEnd};
 ghost use Rattle.text.specs.Counts.{IsPrefixLen};
 ghost use Rattle.text.specs.Hex.{hex_count, hex_over};
-ghost use Rattle.text.specs.Steps.{StepIn, TakesStep, longest_step};
+ghost use Rattle.text.specs.Steps.{TakesFewer, StepIn, TakesStep, longest_step};
 
 use std::io;
 
@@ -61,6 +61,7 @@ pub fn read_full<R: io::Read>(reader: &mut R, buf: &mut [u8]) -> io::Result<usiz
     ensures prefix_len { IfOk result (λ n. IsPrefixLen n buf.new) }
     ensures bytes { IfOk result (λ n. Consumes (R.remaining reader.old) (R.remaining reader.new) (take n buf.new)) }
     ensures end { IfOk result (λ n. n < length buf.new → IsAtEnd (R.remaining reader.new)) }
+    ensures err { OnErr result (TakesFewer (length buf.new) (R.remaining reader.old) (R.remaining reader.new)) }
 {
     let mut done = 0;
     while done < buf.len() {
@@ -79,6 +80,7 @@ pub fn read_step<R: io::Read>(reader: &mut R, buf: &mut [u8]) -> io::Result<Read
     ensures ok { IfOk result (λ read. StepIn buf.old read buf.new) }
     ensures bytes { IfOk result (λ read. TakesStep (R.remaining reader.old) (R.remaining reader.new) read buf.new) }
     ensures err { OnErr result (drop longest_step buf.new ≡ drop longest_step buf.old) }
+    ensures taken { OnErr result (TakesFewer (longest_step + 1) (R.remaining reader.old) (R.remaining reader.new)) }
 {
     let mut one = [0u8; 1];
     if read_full(reader, &mut one)? == 0 {

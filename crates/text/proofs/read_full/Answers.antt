@@ -4,6 +4,7 @@ use Rattle.std.specs.Io.KnownBytes.{Consumes}
 use Rattle.std.proofs.KnownBytes.{Consumes-trans}
 use borrow.Rule.Slice.PartMut.{put_mid, post_of}
 use lib.Seq.{take-add, take-append-le}
+use Rattle.text.proofs.Failed.{on_err, so_far}
 use Rattle.text.proofs.read_full.Goals as goal
 
 take_split : (a b : ℕ) (old new : List ℕ) → a ≤ b → take a new ≡ take a old → take a old ++ slice_range new a b ≡ take b new
@@ -25,3 +26,8 @@ loop-done-preserved g c =
     let part = slice_range-put_mid from room c.in_ok-got.got c.loop-done.buf c.read.new.buf within c.in_ok-got.ensures.bound.0 in
     let joined = take_split from (from + c.in_ok-got.got) c.loop-done.buf (put_mid from room c.loop-done.buf c.read.new.buf) (omega arith) (take-put_mid_below _ _ _ _ _ (le_refl _) within) in
     (search rules, search rules, subst (Consumes _ _) (ap (λ l. take from c.loop-done.buf ++ l) (sym part) ∙ joined) (Consumes-trans _ _ _ _ _ c.loop-done.invariant.2 c.in_ok-got.ensures.bytes.0))
+
+pub returns-in_err-got-clause-err : goal.returns-in_err-got-clause-err
+returns-in_err-got-clause-err g c =
+    let within : c.loop-done.done ≤ length c.loop-done.buf = search rules in
+    on_err _ _ (so_far _ _ _ _ c.loop-done.done c.loop-done.buf (search rules) within c.loop-done.invariant.2 c.in_err-got.ensures.bytes)

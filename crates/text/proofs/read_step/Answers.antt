@@ -1,11 +1,12 @@
 -- What was read stands at the front of the buffer, behind which it is as it was.
-use Rattle.std.proofs.Common.{◌≡◌, ℕ, ◌+◌, ◌-◌, ◌≤◌, ◌<◌, Option, Result, Ok, Err, OnErr, get_or, List, [], ◌∷◌, ◌++◌, arith, refl, length, take, drop, sym, ap, ◌∙◌, subst, length-append, length-take, length-take-le}
+use Rattle.std.proofs.Common.{◌≡◌, ℕ, ◌+◌, ◌-◌, ◌≤◌, ◌<◌, Option, get_or, List, [], ◌∷◌, ◌++◌, arith, refl, length, take, drop, sym, ap, ◌∙◌, subst, length-append, length-take, length-take-le}
 use lib.Seq.{take-append-le, take-append_seam, drop-append_seam, drop-drop}
 use Rattle.std.specs.Io.KnownBytes.{Consumes}
 use Rattle.std.proofs.KnownBytes.{Consumes-trans}
 use Rattle.bursts.proofs.Bursts.{one-burst, cut-burst}
 use Rattle.text.specs.declared.Read.{Read}
 use Rattle.text.specs.Steps.{StepIn, longest_step}
+use Rattle.text.proofs.Failed.{on_err, behind_one}
 use Rattle.text.proofs.read_step.Goals as goal
 
 -- A buffer whose first n bytes were read anew.
@@ -27,10 +28,6 @@ module _ (n : ℕ) (a before : List ℕ) (e : length a ≡ n) where
       let split : n + (m - n) ≡ m = omega arith in
       rw (← split) (sym (drop-drop (m - n) n (a ++ drop n before)) ∙ ap (drop (m - n)) left ∙ drop-drop (m - n) n before)
 
-on_err : {T E : Type 0} (r : Result T E) (P : Type 0) → P → OnErr r P
-on_err (Ok x) P p = tt
-on_err (Err e) P p = p
-
 -- A reader gave one byte and then others, which stand at the front of a buffer.
 one_taken : (one : List ℕ) (k b : ℕ) → length one ≡ 1 → k ≡ 1 → b ≡ get_or one 0 0 → take k one ≡ b ∷ []
 one_taken [] k b len h e = absurd (omega arith)
@@ -49,6 +46,16 @@ returns-in_err-read_full-2-clause-err g c =
     let buf = c.args.buf.now in
     let fits : n ≤ length buf = omega arith in
     on_err _ _ (past n c.read_full-2.new.buf buf (omega (arith, length-take-le n buf fits)) longest_step (omega arith))
+
+pub returns-in_err-read_full-2-clause-taken : goal.returns-in_err-read_full-2-clause-taken
+returns-in_err-read_full-2-clause-taken g c =
+    let n = c.count_of-size.result in
+    let buf = c.args.buf.now in
+    let fits : n ≤ length buf = omega arith in
+    let len : length c.read_full-2.new.buf ≡ n = omega (arith, length-take-le n buf fits) in
+    let k = c.in_ok-read_full.field-0 in
+    let one : length (take k c.read_full.new.buf) ≤ 1 = rw length-take (omega arith) in
+    on_err _ _ (behind_one _ _ _ (take k c.read_full.new.buf) _ 256 one (omega arith) c.in_ok-read_full.ensures.bytes c.in_err-read_full-2.ensures.err)
 
 pub returns-then-branch-size-clause-ok : goal.returns-then-branch-size-clause-ok
 returns-then-branch-size-clause-ok g c =

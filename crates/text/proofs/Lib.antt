@@ -1,0 +1,2 @@
+-- `Failed` has what had been taken where reading failed.
+pub mod Failed
