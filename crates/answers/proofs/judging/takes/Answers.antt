@@ -10,7 +10,7 @@ use Rattle.settings.specs.declared.Profile.{Profile}
 use Rattle.settings.specs.Settings.{settings, in_ranges, values_of, tiling_row}
 use Rattle.settings.proofs.Laws.{ranges_many}
 use Rattle.models.proofs.Filled.{filled-other, ranges_filled}
-use Rattle.profiles.specs.Numbers.{profile_number}
+use Rattle.settings.specs.Profiles.{profile_number}
 use Rattle.panels.specs.declared.Panel.{Panel}
 use Rattle.panels.specs.Wall.{model_of}
 use Rattle.answers.specs.Judged.{off_already, takes}
