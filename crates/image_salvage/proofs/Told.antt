@@ -5,6 +5,7 @@ use mathlib.Core.List.{List, [], ◌∷◌, flatten}
 use Prim.Native.Nat.{ℕ, suc, ◌*◌, ◌≤◌}
 use native.Mathlib.Omega.{arith}
 use lib.ListN.{length, drop, replicate, length-append}
+use Rattle.settings.specs.declared.Profile.{Profile}
 use Rattle.std.specs.Prelude.{Option, Some, None}
 use Rattle.settings.specs.Settings.{fresh_values, row_count}
 use Rattle.panels.specs.Wall.{Wall, most_panels}

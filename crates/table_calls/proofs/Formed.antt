@@ -7,6 +7,8 @@ use native.Mathlib.Omega.{arith}
 use borrow.Author.Tests.{eqb-false, leb-false}
 use lib.Dec.{eqb, leb}
 use lib.ListN.{length, length-append, length-take, length-drop}
+use Rattle.tiling.specs.declared.Kind.{Kind}
+use Rattle.settings.specs.declared.Profile.{Profile}
 use Rattle.std.specs.Prelude.{Option, Some, None}
 use Rattle.settings.specs.Profiles.{profile_with}
 use Rattle.tiling.specs.Kinds.{kind_with}

@@ -1,5 +1,7 @@
 -- Add and remove. 01, "Table calls and numbers": lower numbers first, and a refusal changes nothing. 02, A1
 -- and A6: a profile and a kind, 5 and 7.
+use Rattle.tiling.specs.declared.Kind.{Kind}
+use Rattle.settings.specs.declared.Profile.{Profile}
 use Rattle.std.specs.Option.{option_map_or}
 use Rattle.std.specs.Prelude.{ℕ, suc, cond, [], ◌∷◌, ◌++◌, eqb, leb, length, take, drop, Option}
 use Rattle.tiling.specs.Kinds.{kind_with}

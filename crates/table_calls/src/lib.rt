@@ -70,10 +70,12 @@ pub fn add(t: Table, id: MonitorId, group: GroupId, number: u8, kind: u8) -> Cha
     if group.0 == 0 {
         return refused(t, Refusal::GroupZero);
     }
-    let Ok(profile) = Profile::try_from(number) else {
+    let numbered = Profile::try_from(number);
+    let Ok(profile) = numbered else {
         return refused(t, Refusal::UnknownProfile);
     };
-    let Ok(kind) = Kind::try_from(kind) else {
+    let kinded = Kind::try_from(kind);
+    let Ok(kind) = kinded else {
         return refused(t, Refusal::UnknownKind);
     };
     let p = fresh_panel(id, group, profile, kind);

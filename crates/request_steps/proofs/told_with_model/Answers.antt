@@ -4,6 +4,8 @@ use Prim.Native.Nat.{ℕ, ◌-◌, ◌/◌, ◌%◌}
 use native.Mathlib.Omega.{arith}
 use lib.ListN.{length, get_or, take, drop, length-drop}
 use lib.Seq.{take_all}
+use Rattle.tiling.specs.declared.Kind.{Kind}
+use Rattle.settings.specs.declared.Profile.{Profile}
 use Rattle.std.specs.Prelude.{Option}
 use Rattle.std.specs.Option.{option_map_or}
 use Rattle.tiling.specs.Kinds as kinds
