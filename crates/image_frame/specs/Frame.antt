@@ -1,7 +1,7 @@
 -- A setup image as a whole: its trailer, and where its records begin and end. 01, "Setup image, form 1", refusals 11 to 15;
 -- 02, A2: 12 is neither form.
 use Rattle.std.specs.Option.{option_map_or}
-use Rattle.std.specs.Prelude.{ℕ, zero, suc, ◌+◌, ◌-◌, ◌*◌, Bool, true, cond, ◌&&◌, List, ltb, eqb, length, get_or, take, drop}
+use Rattle.std.specs.Prelude.{ℕ, zero, suc, ◌+◌, ◌-◌, ◌*◌, Bool, true, cond, ◌&&◌, List, ltb, eqb, length, get_or, take, drop, unwrap_or}
 use Rattle.panels.specs.Wall.{most_panels}
 use Rattle.lists.specs.Lists.{each}
 use Rattle.image_forms.specs.declared.Form.{Form}

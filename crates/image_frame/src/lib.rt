@@ -73,9 +73,10 @@ pub fn frame_refusal(image: &[u8]) -> Refusal
     if len < 2 {
         return Refusal::TooShort;
     }
-    if Form::try_from(image[len - 1]).is_err() {
+    let form = Form::try_from(image[len - 1]);
+    let Ok(_) = form else {
         return Refusal::OtherForm;
-    }
+    };
     let n = count_of(image);
     if MOST_PANELS < n {
         return Refusal::TooMany;
