@@ -107,6 +107,6 @@ returns-clause-out_after c =
     let room = enough in
     let (answer, after) = is_written form w out all_held room in
     let held = c.starts.ensures ∙ ap₂ (λ (m : ℕ) (l : List ℕ). laid_at (record_size form * m) (starts_of_lem form m) l) n c.records.ensures in
-    ap₂ (λ (e m : ℕ). set (set c.starts.new.out e m) (e + 1) c.form_byte.result) ends.0 n
-    ∙ ap₂ (λ (l : List ℕ) (b : ℕ). set (set l (panel_size form * length w) (length w)) (panel_size form * length w + 1) b) held c.form_byte.ensures
+    ap₂ (λ (e m : ℕ). set (set c.starts.new.out e m) (e + 1) c.from.result) ends.0 n
+    ∙ ap₂ (λ (l : List ℕ) (b : ℕ). set (set l (panel_size form * length w) (length w)) (panel_size form * length w + 1) b) held c.from.ensures
     ∙ image_laid form w c.requires.good out room ∙ sym after
