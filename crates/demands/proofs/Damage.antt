@@ -3,7 +3,7 @@ use Prim.Native.Nat.{ℕ, suc}
 use mathlib.Core.Path.{◌≡◌, refl, sym, ap, ◌∙◌}
 use mathlib.Core.Bool.{Bool, true, false, cond, not, and-true, ◌&&◌, ◌||◌}
 use native.Mathlib.Omega.{arith}
-use borrow.Author.Tests.{leb-true, leb-false, lt-ltb, le-ltb, eqb-false}
+use borrow.Author.Tests.{leb-true, leb-false, lt-ltb, le-ltb}
 use lib.Dec.{leb, ltb, eqb}
 use lib.ListN.{length, get_or}
 use Rattle.std.specs.Prelude.{None, Some}
@@ -12,7 +12,7 @@ use Rattle.packet.specs.declared.Damage.{Damage}
 use Rattle.xor.specs.Xor.{xor_all}
 use Rattle.packet.specs.Packet.{shortest, is_intact, damage_of, damage_number, damage_in, verdict_of, data_of}
 use Rattle.packet.specs.Reading.{seems_for, reading_of}
-use Rattle.packet.proofs.Packets.{sound, intact}
+use Rattle.packet.proofs.Packets.{intact}
 use Rattle.packet.proofs.Spoiled.{spoiled-told as told}
 use Rattle.packet.proofs.Damages.{fault_of, damage-said}
 use Rattle.answers.specs.Played.{answered}

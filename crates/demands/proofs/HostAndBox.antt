@@ -23,7 +23,6 @@ use Rattle.lists.proofs.Each.{alike}
 use Rattle.packet.specs.declared.Edition.{Edition}
 use Rattle.packet.specs.Edition.{carries}
 use Rattle.packet.specs.declared.Control.{Control}
-use Rattle.packet.specs.declared.Damage.{Damage}
 use Rattle.packet.specs.Packet.{group_id, packet_of, most_data}
 use Rattle.packet.specs.Control.{control_data}
 use Rattle.packet.specs.Reading.{reading_of}

@@ -8,7 +8,6 @@ use borrow.Author.Tests.{ltb-false, lt-ltb}
 use lib.Dec.{ltb}
 use Rattle.std.specs.Prelude.{None}
 use Rattle.lists.proofs.Both.{both}
-use Rattle.packet.specs.declared.Damage.{Damage}
 use Rattle.packet.specs.declared.Edition.{Edition}
 use Rattle.host.specs.declared.Host.{Host}
 use Rattle.host.specs.declared.End.{End}

@@ -12,7 +12,6 @@ use Rattle.std.specs.Prelude.{None}
 use Rattle.lists.specs.Lists.{laid_over}
 use Rattle.lists.proofs.Both.{both}
 use Rattle.lists.proofs.Laid.{length_laid, laid_over_lem}
-use Rattle.packet.specs.declared.Damage.{Damage}
 use Rattle.panels.specs.Wall.{Wall, panels_of}
 use Rattle.panels.specs.WellFormed.{WellFormed}
 use Rattle.panels.proofs.Laws.{panels_of_table}

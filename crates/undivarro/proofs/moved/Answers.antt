@@ -4,7 +4,6 @@ use mathlib.Core.List.{List, []}
 use lib.ListN.{length}
 use Prim.Native.Nat.{ℕ}
 use Rattle.std.specs.Prelude.{None}
-use Rattle.packet.specs.declared.Damage.{Damage}
 use Rattle.panels.specs.Wall.{Wall}
 use Rattle.undivarro.specs.declared.Outcome.{Outcome}
 use Rattle.image_forms.specs.declared.Form.{Form}

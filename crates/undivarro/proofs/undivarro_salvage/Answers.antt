@@ -6,7 +6,6 @@ use native.Mathlib.Omega.{arith}
 use Rattle.std.specs.Prelude.{None}
 use Rattle.panels.specs.Wall.{Wall}
 use Rattle.image_forms.specs.declared.Form.{Form}
-use Rattle.packet.specs.declared.Damage.{Damage}
 use Rattle.image_write.specs.Written.{setup_of}
 use Rattle.image_write.proofs.Losing.{two_holds}
 use Rattle.undivarro.specs.declared.Outcome.{Outcome}
