@@ -112,6 +112,6 @@ pub fn write_image(form: Form, t: Table, out: &mut [u8]) -> Result<usize, Refusa
     write::records(form, out, t);
     write::starts(form, &mut out[end - START_SIZE * n..], n);
     out[end] = n as u8;
-    out[end + 1] = image_forms::form_byte(form);
+    out[end + 1] = u8::from(form);
     Ok(size)
 }

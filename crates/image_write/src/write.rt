@@ -58,7 +58,7 @@ fn head(form: Form, out: &mut [u8], p: &Panel)
     out[0] = p.id.0;
     out[1] = p.group.0;
     if let Form::Two = form {
-        out[2] = profiles::profile_number(p.profile);
+        out[2] = u8::from(p.profile);
     }
 }
 

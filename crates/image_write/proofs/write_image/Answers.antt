@@ -93,4 +93,4 @@ returns-clause-out_after c =
     let n = c.count_of-n.ensures in
     let both = sizes form w c.requires.good c.args.out.now room in
     let starts = starts_laid form w c.requires.good c.args.out.now room _ _ _ _ (omega arith) n c.records.ensures c.starts.ensures in
-    image_laid form w c.requires.good c.args.out.now room _ _ _ _ (omega arith) n c.form_byte.ensures starts ∙ sym written.1
+    image_laid form w c.requires.good c.args.out.now room _ _ _ _ (omega arith) n c.from.ensures starts ∙ sym written.1

@@ -17,7 +17,7 @@ is_one Form.One other = refl
 is_one Form.Two other = absurd (other refl)
 
 pub returns-in-Two : goal.returns-in-Two
-returns-in-Two c = let room = rw c.in-Two.is at c.requires in rw (c.in-Two.is, c.profile_number.ensures) (three_over _ _ _ c.args.out.now room)
+returns-in-Two c = let room = rw c.in-Two.is at c.requires in rw (c.in-Two.is, c.from.ensures) (three_over _ _ _ c.args.out.now room)
 
 pub returns-in_default : goal.returns-in_default
 returns-in_default c = rw (is_one c.args.form c.in_default.not-Two) (two_over _ _ c.args.out.now (omega (arith, head_some c.args.form)))
