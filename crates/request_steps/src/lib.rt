@@ -7,7 +7,8 @@ ghost use Rattle.request_steps.specs.Steps.{told_for, told_with_model};
 use models::Model;
 use packet::{GroupId, MonitorId};
 use requests::Request;
-use settings::MOST_VALUES;
+use settings::{MOST_VALUES, Profile};
+use tiling::Kind;
 
 // ID, group, code and values, for a panel of this model. Of the values those are kept that a request has room for; a request with
 // more is refused by its count.
@@ -36,13 +37,7 @@ pub fn told_with_model(step: &[u8]) -> Option<Request>
     let [number, rest @ ..] = step else {
         return None;
     };
-    let kinded = tiling::kind_with(*number / 2);
-    let tiling::Numbered::Known(kind) = kinded else {
-        return None;
-    };
-    let profiled = profiles::profile_with(*number % 2);
-    let profiles::Numbered::Known(profile) = profiled else {
-        return None;
-    };
+    let kind = Kind::try_from(*number / 2).ok()?;
+    let profile = Profile::try_from(*number % 2).ok()?;
     told_for(Model { profile, kind }, rest)
 }
