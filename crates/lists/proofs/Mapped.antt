@@ -1,11 +1,11 @@
 -- A rule applied to every element. Assumes nothing.
-use mathlib.Core.Path.{◌≡◌, refl, sym, ap, ap₂, ◌∙◌}
+use mathlib.Core.Path.{◌≡◌, refl, sym, ap, ap₂}
 use mathlib.Core.List.{List, [], ◌∷◌, ◌++◌, map}
 use Prim.Native.Nat.{ℕ, zero, suc, ◌≤◌, ◌<◌}
 use native.Mathlib.Nat.{not-suc-le-zero, le_of_suc-le-suc}
 use native.Mathlib.Omega.{arith}
-use lib.ListN.{length, get_or, take, drop, length-map, get_or-map}
-use Rattle.lists.proofs.Places.{get_d_inside}
+use lib.ListN.{length, get_or, take, drop}
+use Rattle.std.proofs.lemmas.Grind.{common_steps}
 
 module _ {A : Type 0} (f : A → A) (d : A) where
   -- it changes nothing
@@ -20,7 +20,7 @@ map_alike {B} f g d (x ∷ l) h = ap₂ (λ (y : B) (m : List B). y ∷ m) (h 0 
 
 -- an element of the list that it makes
 pub at_map : {A B : Type 0} (f : A → B) (l : List A) (k : ℕ) (d : A) (e : B) → k < length l → get_or (map f l) k e ≡ f (get_or l k d)
-at_map f l k d e h = get_d_inside (map f l) k e (f d) (rw (length-map l f) h) ∙ get_or-map f l k d
+at_map f l k d e h = grind (arith, common_steps)
 
 pub take-map : {A B : Type 0} (f : A → B) (n : ℕ) (l : List A) → take n (map f l) ≡ map f (take n l)
 take-map f zero l = refl

@@ -1,11 +1,11 @@
 -- Lists that are changed place by place. Assumes nothing.
-use mathlib.Core.Path.{◌≡◌, refl, sym, ap, ◌∙◌}
+use mathlib.Core.Path.{◌≡◌, refl, ap}
 use mathlib.Core.List.{List, [], ◌∷◌, ◌++◌}
 use Prim.Native.Nat.{ℕ, zero, suc, ◌-◌, ◌≤◌, ◌<◌}
-use native.Mathlib.Nat.{le_of_suc-le-suc, not-suc-le-zero, sub-zero, zero-sub, suc-sub-suc}
+use native.Mathlib.Nat.{le_of_suc-le-suc, not-suc-le-zero}
 use native.Mathlib.Omega.{arith}
-use lib.ListN.{length, get_or, take, drop, set, replicate, length-drop}
-use lib.Seq.{take_all}
+use lib.ListN.{length, get_or, take, drop, set, replicate}
+use Rattle.std.proofs.lemmas.Grind.{common_steps}
 
 module _ {A : Type 0} where
   pub get_d_inside : (l : List A) (k : ℕ) (d e : A) → k < length l → get_or l k d ≡ get_or l k e
@@ -40,9 +40,9 @@ module _ {A : Type 0} where
 
   -- all elements but the first
   pub rest : (l : List A) → take (length l - 1) (drop 1 l) ≡ drop 1 l
-  rest l = take_all (length l - 1) (drop 1 l) (simp length-drop (omega arith))
+  rest l = grind (arith, common_steps)
 
   pub drop-replicate : (n m : ℕ) (a : A) → drop n (replicate m a) ≡ replicate (m - n) a
-  drop-replicate zero m a = ap (λ (k : ℕ). replicate k a) (sym (sub-zero m))
-  drop-replicate (suc n) zero a = ap (λ (k : ℕ). replicate k a) (sym (zero-sub (suc n)))
-  drop-replicate (suc n) (suc m) a = drop-replicate n m a ∙ ap (λ (k : ℕ). replicate k a) (sym (suc-sub-suc m n))
+  drop-replicate zero m a = grind (arith, common_steps)
+  drop-replicate (suc n) zero a = grind (arith, common_steps)
+  drop-replicate (suc n) (suc m) a = grind (arith, common_steps, drop-replicate n m a)
