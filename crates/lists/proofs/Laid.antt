@@ -1,7 +1,7 @@
 -- Bytes laid over others: what stands before them, they themselves, what stands behind them, and one piece behind the other.
 -- Assumes nothing.
 use mathlib.Core.Path.{◌≡◌, refl, sym, ap, ◌∙◌}
-use mathlib.Core.List.{List, [], ◌∷◌, ◌++◌, append_assoc, flatten}
+use mathlib.Core.List.{List, [], ◌∷◌, ◌++◌, append_assoc}
 use Prim.Native.Nat.{ℕ, zero, suc, ◌+◌, ◌-◌, ◌≤◌, ◌<◌}
 use native.Mathlib.Nat.{add_assoc, zero-add}
 use native.Mathlib.Numerals.{add-one}
@@ -10,7 +10,6 @@ use borrow.Rule.Slice.PartMut.{mid_of, put_mid}
 use lib.ListN.{length, get_or, take, drop, set, length-append, take-append-drop}
 use lib.Seq.{length-take-le, take-suc, take_at, drop_at, take-take, take-add, drop-drop, set_at, set_split, append_snoc, drop-append-add}
 use Rattle.lists.specs.Lists.{laid_at, laid_over}
-use Rattle.lists.proofs.Flat.{flat_more}
 use Rattle.std.proofs.lemmas.Grind.{common_steps}
 
 -- the part before the seam
@@ -22,7 +21,7 @@ unfolding laid_at
 length_laid at b l h = grind (arith, common_steps)
 
 module _ (at : ℕ) (b l : List ℕ) (h : at + length b ≤ length l) where
-  pub before_laid : take at (laid_at at b l) ≡ take at l
+  before_laid : take at (laid_at at b l) ≡ take at l
   unfolding laid_at
   before_laid = grind (arith, common_steps)
 
@@ -117,8 +116,3 @@ laid_before at v s l h =
 
 pub laid_two : (at a b : ℕ) (l : List ℕ) → at + 1 < length l → set (set l at a) (at + 1) b ≡ laid_at at (a ∷ b ∷ []) l
 laid_two at a b l h = grind (arith, common_steps, laid_set, length_laid, laid_then)
-
-pub laid_more : (at m k : ℕ) (ls : List (List ℕ)) (l : List ℕ) → k < length ls → m ≡ at + length (flatten (take k ls))
-    → m + length (get_or ls k []) ≤ length l
-    → laid_at m (get_or ls k []) (laid_at at (flatten (take k ls)) l) ≡ laid_at at (flatten (take (k + 1) ls)) l
-laid_more at m k ls l h e r = grind (arith, common_steps, add-one, flat_more, laid_then)
