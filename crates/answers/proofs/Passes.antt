@@ -7,7 +7,7 @@ use native.Mathlib.Numerals.{add-one}
 use native.Mathlib.Omega.{arith}
 use lib.ListN.{length, get_or, take, drop, set, length-append, length-take, length-drop, length-map}
 use lib.Seq.{set-get_or}
-use Rattle.lists.proofs.Places.{get_d_inside}
+use Rattle.std.proofs.lemmas.List.{get_or_default}
 use Rattle.lists.proofs.Mapped.{seam_on}
 use Rattle.panels.specs.declared.Panel.{Panel}
 use Rattle.panels.specs.declared.Table.{Table}
@@ -65,7 +65,7 @@ module _ {t : Table} (f : WellFormed t) (c : Change) (d : List ℕ) (fits : Fits
     places = ap (λ (t : Table). length t.panels) is ∙ simp (length-append, length-take, length-drop, length-map) (omega (arith, many, few))
 
     here : (e : Panel) → get_or u.panels k e ≡ get_or u.panels k blank
-    here e = get_d_inside u.panels k e blank (omega (arith, places, few))
+    here e = get_or_default u.panels k e blank (omega (arith, places, few))
 
     turned_on : (q : Panel) → q ≡ turned_by c d (get_or u.panels k blank) → with_panels u (set u.panels k q) ≡ turned_to (turned_by c d) (k + 1) t
     turned_on q p = ap (λ (q : Panel). with_panels u (set u.panels k q)) p ∙ rw (is, add-one) (ap (with_panels t) (turn_next (turned_by c d) t.panels k (omega (arith, many, few))))

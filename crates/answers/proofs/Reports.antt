@@ -7,7 +7,7 @@ use native.Mathlib.Numerals.{add-one, one-add}
 use native.Mathlib.Omega.{arith}
 use lib.ListN.{length, get_or, drop, set, replicate, length-take, length-drop}
 use lib.Seq.{paste, paste-suc, get_or-take, get_or-drop, take_all}
-use Rattle.lists.proofs.Places.{drop-replicate}
+use Rattle.std.proofs.lemmas.List.{drop-replicate}
 use Rattle.panels.proofs.Values.{length-values}
 use Rattle.settings.specs.Settings.{byte_count, place, most_values, value_count, row_count, values_of}
 use Rattle.settings.proofs.Laws.{place_fits, byte-count-few}

@@ -6,7 +6,7 @@ use mathlib.Core.List.{List, [], ◌∷◌, ◌++◌, map, Memᴰ}
 use native.Mathlib.Omega.{arith}
 use borrow.Author.Tests.{ne_eqb}
 use lib.ListN.{length, get_or}
-use Rattle.lists.proofs.Mapped.{at_map}
+use Rattle.std.proofs.lemmas.List.{get_or-map}
 use Rattle.codes.specs.declared.Found.{Found}
 use Rattle.codes.specs.Found.{found_by}
 use Rattle.codes.proofs.Laws.{IsFound, found_right}
@@ -47,7 +47,7 @@ module _ (edition : Edition) where
       let f = changed (read d) in
       let p = get_or w k blank in
       ap (λ (v : Wall). disturbed (read b) (read c) (get_or v k blank)) (answered-each w (read d))
-      ∙ ap (disturbed (read b) (read c)) (at_map f w k blank blank inside)
+      ∙ ap (disturbed (read b) (read c)) (get_or-map f w k blank blank inside)
       ∙ rw (same-addressed (read b).verdict (read d) p, same-addressed (read c).verdict (read d) p) (u k inside)
 
   -- A burst goes past many that it does not disturb.

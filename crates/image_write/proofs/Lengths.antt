@@ -6,6 +6,7 @@ use Prim.Native.Nat.{ℕ, zero, suc, ◌+◌, ◌*◌, ◌≤◌, ◌<◌}
 use native.Mathlib.Omega.{arith}
 use lib.ListN.{length, get_or, take, replicate, length-append, length-map, length-replicate}
 use lib.Seq.{take_all}
+use Rattle.std.proofs.lemmas.List.{get_or-map}
 use Rattle.panels.proofs.Values.{length-values}
 use Rattle.settings.specs.Settings.{settings, byte_count, value_count, row_count, values_of}
 use Rattle.image_forms.specs.declared.Form.{Form}
@@ -16,7 +17,6 @@ use Rattle.lists.proofs.Each.{in_each, length-each, each_alike}
 use Rattle.panels.specs.declared.Panel.{Panel}
 use Rattle.panels.specs.Wall.{Wall, blank}
 use Rattle.panels.specs.WellFormed.{GoodWall}
-use Rattle.lists.proofs.Mapped.{at_map}
 use Rattle.panels.proofs.Formed.{good_at}
 use Rattle.image_write.specs.Written.{field, field_in, fields_of, record_of, records_of, high_low, starts_of, image_of, record_size}
 use Rattle.image_write.specs.Private.Sizes.{fields_size}
@@ -107,7 +107,7 @@ module _ (form : Form) where
 
   -- so that each record of a wall starts that much behind the one before it
   pub record_at : (w : Wall) (k : ℕ) → k < length w → get_or (records_of form w) k [] ≡ record_of form (get_or w k blank)
-  record_at w k h = at_map (record_of form) w k blank [] h
+  record_at w k h = get_or-map (record_of form) w k blank [] h
 
   pub records-before : (w : Wall) → GoodWall w → (k : ℕ) → k ≤ length w → length (flatten (take k (records_of form w))) ≡ record_size form * k
   records-before w good k h =
