@@ -21,14 +21,13 @@ use Rattle.panels.proofs.Formed.{good_at}
 use Rattle.image_write.specs.Written.{field, field_in, fields_of, record_of, records_of, high_low, starts_of, image_of, record_size}
 use Rattle.image_write.specs.Private.Sizes.{fields_size}
 use Rattle.lists.proofs.Flat.{alike_long}
+use Rattle.std.proofs.lemmas.Grind.{common_steps}
 
 -- lists as long as others, one behind the other
 as_long : (f g : ℕ → List ℕ) (n : ℕ) → ((k : ℕ) → k < n → length (f k) ≡ length (g k)) → length (flatten (each f n)) ≡ length (flatten (each g n))
 unfolding flatten
 as_long f g zero h = refl
-as_long f g (suc n) h =
-    let rest = as_long (λ k. f (suc k)) (λ k. g (suc k)) n (λ k l. h (suc k) (omega arith)) in
-    rw (length-append (f 0) _, length-append (g 0) _, h 0 (omega arith), rest)
+as_long f g (suc n) h = grind (arith, common_steps, as_long (λ k. f (suc k)) (λ k. g (suc k)) n (λ k l. h (suc k) (omega arith)), length-append)
 
 -- how many bytes a form has for a row's field
 abbrev pub field_bytes : Form → ℕ → ℕ
@@ -133,5 +132,5 @@ abbrev pub Products : ℕ → ℕ → ℕ → Type 0
 Products size k n = ((size + 2) * n ≡ size * n + 2 * n) × (k < n → size * k + size ≤ size * n) × (k ≤ n → size * k ≤ size * n) × (size * n ≤ 43 * n) × (size ≤ 43)
 
 pub products : (form : Form) (k n : ℕ) → Products (record_size form) k n
-products Form.One k n = (omega arith, (λ h. omega arith), (λ h. omega arith), omega arith, omega arith)
-products Form.Two k n = (omega arith, (λ h. omega arith), (λ h. omega arith), omega arith, omega arith)
+products Form.One k n = grind (arith, common_steps)
+products Form.Two k n = grind (arith, common_steps)
