@@ -4,7 +4,7 @@ use mathlib.Core.Path.{◌≡◌, refl, ap, ◌∙◌}
 use mathlib.Core.Bool.{Bool, true, false, cond, ◌&&◌, ◌||◌}
 use mathlib.Core.List.{List, [], ◌∷◌, flatten}
 use mathlib.Core.Option.{none, some}
-use Rattle.std.specs.Prelude.{Ok, Err}
+use Rattle.std.specs.Prelude.{Ok, Err, Option}
 use lib.Dec.{leb, ltb, eqb}
 use lib.ListN.{length, length-replicate}
 use Rattle.std.specs.Prelude.{Some, None}
@@ -149,13 +149,13 @@ module _ (s : State) where
   unfolding again
   again-taken = either (ltb (sendings s) most_sendings) _ _ refl refl
 
-  ending-taken : (d : List ℕ) (w : Said) → Taken (ending s d w)
+  ending-taken : (d : List ℕ) (w : Option Said) → Taken (ending s d w)
   unfolding ending
-  ending-taken d Said.Ack = refl
-  ending-taken d Said.Nack = again-taken
-  ending-taken d Said.Nav = refl
-  ending-taken d Said.Report = refl
-  ending-taken d Said.Nothing = refl
+  ending-taken d (Some Said.Ack) = refl
+  ending-taken d (Some Said.Nack) = again-taken
+  ending-taken d (Some Said.Nav) = refl
+  ending-taken d (Some Said.Report) = refl
+  ending-taken d None = refl
 
   unasked-taken : (resting : Bool) → number_in (unasked resting) ≡ 0
   unasked-taken true = refl

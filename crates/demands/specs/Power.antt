@@ -1,5 +1,5 @@
 -- Power off and on, in the paper's numbers: set 0x18, 1 off, 2 on. 02, A5. A panel's values begin with its kind and its power.
-use Rattle.std.specs.Prelude.{ℕ, ◌<◌, cond, ◌&&◌, ◌||◌, ◌≡◌, List, [], ◌∷◌, leb, eqb, length, get_or}
+use Rattle.std.specs.Prelude.{ℕ, ◌<◌, cond, ◌&&◌, ◌||◌, ◌≡◌, List, [], ◌∷◌, leb, eqb, length, get_or, Some}
 use Rattle.lists.specs.Lists.{same}
 use Rattle.packet.specs.declared.MonitorId.{MonitorId}
 use Rattle.packet.specs.declared.GroupId.{GroupId}
@@ -38,5 +38,5 @@ abbrev pub NavEnds : Type 0
 NavEnds =
     (s : State) (d : List ℕ)
     → let n = sendings s in
-    ending s d Said.Nav
+    ending s d (Some Said.Nav)
     ≡ over s [] (cond (same (request_data s.request) (0x18 ∷ 1 ∷ []) && leb 2 n) End.OffOrRefused End.Nav) []
