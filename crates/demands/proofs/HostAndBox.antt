@@ -23,7 +23,6 @@ use Rattle.lists.proofs.Each.{alike}
 use Rattle.packet.specs.declared.Edition.{Edition}
 use Rattle.packet.specs.Edition.{carries}
 use Rattle.packet.specs.declared.Control.{Control}
-use Rattle.packet.specs.declared.Damage.{Damage}
 use Rattle.packet.specs.Packet.{group_id, packet_of, most_data}
 use Rattle.packet.specs.Control.{control_data}
 use Rattle.packet.specs.Reading.{reading_of}
@@ -138,12 +137,12 @@ module _ (edition : Edition) (w : Wall) (r : Request) (k : ℕ) (asked : is_requ
   waits_on (suc n) h = ap (λ (s : State). (step s mark).next) (waits_on n (omega arith)) ∙ sends n h
 
   -- what is heeded has no damage
-  untold : (s : State) (d : List ℕ) (w : Option Said) → telling Damage.Nothing (ending s d w) ≡ ending s d w
+  untold : (s : State) (d : List ℕ) (w : Option Said) → telling None (ending s d w) ≡ ending s d w
   unfolding ending again
   untold s d (Some Said.Ack) = refl
   untold s d (Some Said.Nack) = go (ltb (sendings s) most_sendings) refl refl
     where
-      go : (t : Bool) {m o : Move} → telling Damage.Nothing m ≡ m → telling Damage.Nothing o ≡ o → telling Damage.Nothing (cond t m o) ≡ cond t m o
+      go : (t : Bool) {m o : Move} → telling None m ≡ m → telling None o ≡ o → telling None (cond t m o) ≡ cond t m o
       go true h k = h
       go false h k = k
   untold s d (Some Said.Nav) = refl

@@ -146,7 +146,7 @@ module _ (edition : Edition) (r : Request) where
   told n d None = stays n Outcome.Waiting refl
 
   -- what is wrong with a burst changes nothing of that
-  telling_on : (n : ℕ) (push : Bool) (d : Damage) (m : Move) → One n push m → One n push (telling d m)
+  telling_on : (n : ℕ) (push : Bool) (d : Option Damage) (m : Move) → One n push m → One n push (telling d m)
   telling_on n push d m =
       ⊎_elim
       (λ (o : Ends n push m). inl (record { how = o.how; told = o.told; none = o.none; up = o.up; third = o.third }))

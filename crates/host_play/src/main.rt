@@ -43,13 +43,13 @@ fn print_outcome(rt: &impl Print, outcome: Outcome, values: &[u8]) -> io::Result
 }
 
 // Prints a space and what was wrong with a burst, where something was.
-fn print_damage(rt: &impl Print, damage: Damage) -> io::Result<()> {
+fn print_damage(rt: &impl Print, damage: Option<Damage>) -> io::Result<()> {
     match damage {
-        Damage::Nothing => Ok(()),
-        Damage::TooShort => print!(rt; " too-short"),
-        Damage::TooLong => print!(rt; " too-long"),
-        Damage::Size => print!(rt; " size"),
-        Damage::Checksum => print!(rt; " checksum"),
+        None => Ok(()),
+        Some(Damage::TooShort) => print!(rt; " too-short"),
+        Some(Damage::TooLong) => print!(rt; " too-long"),
+        Some(Damage::Size) => print!(rt; " size"),
+        Some(Damage::Checksum) => print!(rt; " checksum"),
     }
 }
 

@@ -9,7 +9,7 @@ ghost use Rattle.requests.specs.Said.{is_control, is_report, word_in};
 
 use codes::Found;
 use models::Model;
-use packet::{Control, Edition, GroupId, MonitorId, Written};
+use packet::{Control, Edition, GroupId, MonitorId, WriteError};
 use profiles::Video;
 use settings::{MOST_VALUES, OFF, POWER_ROW, Profile, VIDEO_ROW};
 use tiling::Kind;
@@ -118,7 +118,11 @@ fn data_bytes(code: u8, values: [u8; MOST_VALUES]) -> [u8; MOST_VALUES + 1]
 }
 
 // The request's packet, on a line of an edition, at the front of out, of which the rest stays as it was.
-pub fn write_request(edition: Edition, request: Request, out: &mut [u8]) -> Written
+pub fn write_request(
+    edition: Edition,
+    request: Request,
+    out: &mut [u8],
+) -> Result<usize, WriteError>
     ensures value { result ≡ written_of edition out.old (request_data request) }
     ensures out_after { out.new ≡ output_of edition out.old request.id request.group (request_data request) }
 {
@@ -132,7 +136,7 @@ pub fn write_request(edition: Edition, request: Request, out: &mut [u8]) -> Writ
 fn is_control(d: &[u8], word: Control) -> bool
     ensures { result ≡ is_control word d.now }
 {
-    let data = [0, packet::control_byte(word)];
+    let data = [0, u8::from(word)];
     d == data.as_slice()
 }
 

@@ -10,4 +10,4 @@ pub returns : goal.returns
 unfolding is_control
 returns c =
     let d = c.args.d.now in
-    c.eq.ensures ∙ eq_same d _ ∙ ap (same d) (c.as_slice.ensures ∙ ap (λ (b : ℕ). 0 ∷ b ∷ []) c.control_byte.ensures)
+    c.eq.ensures ∙ eq_same d _ ∙ ap (same d) (c.as_slice.ensures ∙ ap (λ (b : ℕ). 0 ∷ b ∷ []) c.from.ensures)
