@@ -4,7 +4,7 @@ use mathlib.Core.Bool.{Bool, true, false, cond, false≢true, ◌&&◌}
 use mathlib.Core.Logic.{inl, inr}
 use mathlib.Core.Path.{◌≡◌, refl, sym, ap, ◌∙◌}
 use mathlib.Core.List.{List, [], ◌∷◌, flatten}
-use Rattle.std.specs.Prelude.{Ok, Err}
+use Rattle.std.specs.Prelude.{Ok, Err, Option, Some, None, is_some}
 use lib.Dec.{leb, eqb}
 use lib.ListN.{length, get_or, drop}
 use Rattle.lists.proofs.Laid.{behind-over}
@@ -14,9 +14,8 @@ use Rattle.packet.specs.declared.Verdict.{Verdict}
 use Rattle.packet.specs.Packet.{longest}
 use Rattle.lists.specs.Lists.{laid_over}
 use Rattle.panels.specs.declared.Panel.{Panel}
-use Rattle.panels.specs.declared.Place.{Place}
 use Rattle.table_calls.specs.declared.Refusal.{Refusal}
-use Rattle.panels.specs.Wall.{Wall, blank, place_of, panels_of, if_there}
+use Rattle.panels.specs.Wall.{Wall, blank, place_of, panels_of}
 use Rattle.panels.specs.Addressed.{reaches}
 use Rattle.table_calls.specs.Calls.{refusal_number as table_number, add_refusal, added, without, removed}
 use Rattle.answers.specs.declared.Sent.{Sent}
@@ -60,9 +59,9 @@ pub remove-refused : RemoveRefused
 unfolding removed
 remove-refused w i refused = go (place_of i w) refused
   where
-    go : (q : Place) → (if_there q Refusal.Nothing Refusal.NoPanel ≡ Refusal.Nothing → ⊥) → without q w ≡ w
-    go (Place.At k) n = absurd (n refl)
-    go Place.Nowhere n = refl
+    go : (q : Option ℕ) → (cond (is_some q) Refusal.Nothing Refusal.NoPanel ≡ Refusal.Nothing → ⊥) → without q w ≡ w
+    go (Some k) n = absurd (n refl)
+    go None n = refl
 
 pub bad_burst : BadBurst
 unfolding answered turned

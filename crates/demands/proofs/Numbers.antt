@@ -4,7 +4,7 @@ use mathlib.Core.Path.{◌≡◌, refl, ap, ◌∙◌}
 use mathlib.Core.Bool.{Bool, true, false, cond, ◌&&◌, ◌||◌}
 use mathlib.Core.List.{List, [], ◌∷◌, flatten}
 use mathlib.Core.Option.{none, some}
-use Rattle.std.specs.Prelude.{Ok, Err}
+use Rattle.std.specs.Prelude.{Ok, Err, Option, is_some}
 use lib.Dec.{leb, ltb, eqb}
 use lib.ListN.{length, length-replicate}
 use Rattle.std.specs.Prelude.{Some, None}
@@ -20,9 +20,8 @@ use Rattle.packet.specs.Reading.{reading_of}
 use Rattle.packet.specs.Answered.{is_heard}
 use Rattle.packet.specs.Edition.{edition_with, open_refusal}
 use Rattle.packet.specs.Packet.{shortest, most_data as packet_data, written_of as packet_written, refusal_number as packet_number}
-use Rattle.panels.specs.declared.Place.{Place}
 use Rattle.table_calls.specs.declared.Refusal.{Refusal}
-use Rattle.panels.specs.Wall.{Wall, place_of, if_there}
+use Rattle.panels.specs.Wall.{Wall, place_of}
 use Rattle.table_calls.specs.Calls.{refusal_number as table_number, add_refusal}
 use Rattle.answers.specs.declared.Sent.{Sent}
 use Rattle.answers.specs.Reply.{sent_bytes, sent_of, refusal_number as answer_number}
@@ -52,28 +51,28 @@ add_number w i g n k = go (leb 32 (length w)) (eqb i.0 0) (place_of i w) (eqb g.
     kinds false true = refl
     kinds false false = refl
 
-    go : (a b : Bool) (q : Place) (c d e : Bool)
+    go : (a b : Bool) (q : Option ℕ) (c d e : Bool)
         → table_number
         (cond a Refusal.Full
         (cond b Refusal.IdZero
-        (if_there q Refusal.IdTaken
+        (cond (is_some q) Refusal.IdTaken
         (cond c Refusal.GroupZero
         (option_map_or (λ profile. option_map_or (λ kind. Refusal.Nothing) (kind_with k) Refusal.UnknownKind) (cond d (Some Profile.General) (cond e (Some Profile.Phoenix) None)) Refusal.UnknownProfile)))))
-        ≡ cond a 1 (cond b 2 (if_there q 3 (cond c 4 (cond (d || e) (cond (eqb k 0 || eqb k 1) 0 7) 5))))
+        ≡ cond a 1 (cond b 2 (cond (is_some q) 3 (cond c 4 (cond (d || e) (cond (eqb k 0 || eqb k 1) 0 7) 5))))
     go true b q c d e = refl
     go false true q c d e = refl
-    go false false (Place.At k) c d e = refl
-    go false false Place.Nowhere true d e = refl
-    go false false Place.Nowhere false true e = kinds (eqb k 0) (eqb k 1)
-    go false false Place.Nowhere false false true = kinds (eqb k 0) (eqb k 1)
-    go false false Place.Nowhere false false false = refl
+    go false false (Some k) c d e = refl
+    go false false None true d e = refl
+    go false false None false true e = kinds (eqb k 0) (eqb k 1)
+    go false false None false false true = kinds (eqb k 0) (eqb k 1)
+    go false false None false false false = refl
 
 pub remove_number : Remove
 remove_number w i = go (place_of i w)
   where
-    go : (q : Place) → table_number (if_there q Refusal.Nothing Refusal.NoPanel) ≡ if_there q 0 6
-    go (Place.At k) = refl
-    go Place.Nowhere = refl
+    go : (q : Option ℕ) → table_number (cond (is_some q) Refusal.Nothing Refusal.NoPanel) ≡ cond (is_some q) 0 6
+    go (Some k) = refl
+    go None = refl
 
 -- form 1 keeps exactly the walls of plain panels
 plain_kept : (w : Wall) → loses_nothing Form.One w ≡ all_plain w

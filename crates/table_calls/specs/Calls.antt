@@ -3,15 +3,14 @@
 use Rattle.tiling.specs.declared.Kind.{Kind}
 use Rattle.settings.specs.declared.Profile.{Profile}
 use Rattle.std.specs.Option.{option_map_or}
-use Rattle.std.specs.Prelude.{ℕ, suc, cond, [], ◌∷◌, ◌++◌, eqb, leb, length, take, drop, Option}
+use Rattle.std.specs.Prelude.{ℕ, suc, cond, [], ◌∷◌, ◌++◌, eqb, leb, length, take, drop, Option, Some, None, is_some}
 use Rattle.tiling.specs.Kinds.{kind_with}
 use Rattle.settings.specs.Profiles.{profile_with}
 use Rattle.packet.specs.declared.MonitorId.{MonitorId}
 use Rattle.packet.specs.declared.GroupId.{GroupId}
-use Rattle.panels.specs.declared.Place.{Place}
 use Rattle.table_calls.specs.declared.Refusal.{Refusal}
 use Rattle.table_calls.specs.declared.Changed.{Changed}
-use Rattle.panels.specs.Wall.{if_there, Wall, fresh_panel, table_of, place_of, most_panels}
+use Rattle.panels.specs.Wall.{Wall, fresh_panel, table_of, place_of, most_panels}
 
 -- 01's number, 0 where nothing was refused
 abbrev pub refusal_number : Refusal → ℕ
@@ -27,7 +26,7 @@ refusal_number Refusal.UnknownKind = 7
 unfoldable pub add_refusal : Wall → MonitorId → GroupId → ℕ → ℕ → Refusal
 add_refusal w i g n k =
     cond (leb most_panels (length w)) Refusal.Full
-    (cond (eqb i.0 0) Refusal.IdZero (if_there (place_of i w) Refusal.IdTaken
+    (cond (eqb i.0 0) Refusal.IdZero (cond (is_some (place_of i w)) Refusal.IdTaken
     (cond (eqb g.0 0) Refusal.GroupZero (option_map_or (λ profile. option_map_or (λ kind. Refusal.Nothing) (kind_with k) Refusal.UnknownKind) (profile_with n) Refusal.UnknownProfile))))
 
 -- the fresh panel of a profile and a kind, if there are such
@@ -42,12 +41,12 @@ abbrev pub added_to : Wall → MonitorId → GroupId → ℕ → ℕ → Changed
 added_to w i g n k = record { refusal = add_refusal w i g n k; table = table_of (added w i g n k) }
 
 -- later panels move up
-abbrev pub without : Place → Wall → Wall
-without (Place.At k) w = take k w ++ drop (suc k) w
-without Place.Nowhere w = w
+abbrev pub without : Option ℕ → Wall → Wall
+without (Some k) w = take k w ++ drop (suc k) w
+without None w = w
 
 unfoldable pub removed : Wall → MonitorId → Wall
 removed w i = without (place_of i w) w
 
 abbrev pub removed_from : Wall → MonitorId → Changed
-removed_from w i = record { refusal = if_there (place_of i w) Refusal.Nothing Refusal.NoPanel; table = table_of (removed w i) }
+removed_from w i = record { refusal = cond (is_some (place_of i w)) Refusal.Nothing Refusal.NoPanel; table = table_of (removed w i) }

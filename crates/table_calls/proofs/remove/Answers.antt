@@ -1,5 +1,5 @@
 use mathlib.Core.Path.{◌≡◌, sym, ◌∙◌}
-use Rattle.panels.specs.declared.Place.{Place}
+use Rattle.std.specs.Prelude.{Some}
 use Rattle.panels.specs.Wall.{panels_of, place_of}
 use Rattle.table_calls.specs.Calls.{removed}
 use Rattle.panels.proofs.Laws.{place_there}
@@ -13,11 +13,11 @@ returns-in_default c =
 
 pub closed_up-table-requires : goal.closed_up-table-requires
 closed_up-table-requires c =
-    let at : let a = c.args in place_of a.id (panels_of a.t) ≡ Place.At c.in-At.k = sym c.place_of-place.ensures ∙ c.in-At.is in
+    let at : let a = c.args in place_of a.id (panels_of a.t) ≡ Some c.in-At.k = sym c.place_of-place.ensures ∙ c.in-At.is in
     (c.requires, (place_there _ _ _ at).0)
 
 pub returns : goal.returns
 unfolding removed
 returns c =
-    let at : let a = c.args in place_of a.id (panels_of a.t) ≡ Place.At c.in-At.k = sym c.place_of-place.ensures ∙ c.in-At.is in
+    let at : let a = c.args in place_of a.id (panels_of a.t) ≡ Some c.in-At.k = sym c.place_of-place.ensures ∙ c.in-At.is in
     rw (at, c.closed_up-table.ensures)
