@@ -11,6 +11,7 @@ use Rattle.profiles.specs.Video.{video_in}
 use Rattle.packet.specs.declared.MonitorId.{MonitorId}
 use Rattle.packet.specs.declared.GroupId.{GroupId}
 use Rattle.packet.specs.Packet.{monitor_id, group_id}
+use Rattle.profiles.specs.declared.Video.{Video}
 use Rattle.panels.specs.declared.Panel.{Panel}
 use Rattle.panels.specs.declared.Table.{Table}
 

@@ -137,9 +137,9 @@ pub fn reaches(id: MonitorId, group: GroupId, p: Panel) -> bool
 pub fn video_of(p: Panel) -> Option<Video>
     ensures { result ≡ video_of p }
 {
-    if p.profile != Profile::Phoenix {
+    let Profile::Phoenix = p.profile else {
         return None;
-    }
+    };
     let v = p.values;
     Some(profiles::video_in([v[6], v[7], v[8], v[9], v[10], v[11], v[12]]))
 }

@@ -13,7 +13,7 @@ returns-then-k-lt-MOST_PANELS c =
     let by_index : let n = get_or c.args.t.places c.args.id.0 0 in let place = place_of c.args.id (panels_of c.args.t) in (n < most_panels → place ≡ Some n) × (most_panels ≤ n → place ≡ None) = place_by c.args.id _ c.requires.few _ (place_found c.requires c.args.id (search rules) 0) in
     sym (by_index.0 c.if-k-lt-MOST_PANELS.true)
 
-pub returns : goal.returns
-returns c =
+pub returns-else-k-lt-MOST_PANELS : goal.returns-else-k-lt-MOST_PANELS
+returns-else-k-lt-MOST_PANELS c =
     let by_index : let n = get_or c.args.t.places c.args.id.0 0 in let place = place_of c.args.id (panels_of c.args.t) in (n < most_panels → place ≡ Some n) × (most_panels ≤ n → place ≡ None) = place_by c.args.id _ c.requires.few _ (place_found c.requires c.args.id (search rules) 0) in
     sym (by_index.1 (omega arith))
