@@ -17,7 +17,7 @@ use Rattle.packet.specs.declared.GroupId.{GroupId}
 use Rattle.panels.specs.declared.Table.{Table}
 use Rattle.table_calls.specs.declared.Refusal.{Refusal}
 use Rattle.panels.specs.Wall.{Wall, table_of, panels_of, place_of, most_panels}
-use Rattle.table_calls.specs.Calls.{refusal_number, fresh_of, add_refusal, added, without, removed}
+use Rattle.table_calls.specs.Calls.{fresh_of, add_refusal, added, without, removed}
 use Rattle.panels.specs.WellFormed.{Absent, GoodWall, WellFormed}
 use Rattle.panels.proofs.Formed.{formed, nowhere_absent, good_snoc, fresh-good}
 
@@ -40,12 +40,12 @@ pub record MayAdd (w : Wall) (i : MonitorId) (g : GroupId) : Type 0 where
   pub new : place_of i w ≡ None
   pub grouped : g.0 ≡ 0 → ⊥
 
-pub may_add : (w : Wall) (i : MonitorId) (g : GroupId) (n k : ℕ) → add_refusal w i g n k ≡ Refusal.Nothing → MayAdd w i g
+pub may_add : (w : Wall) (i : MonitorId) (g : GroupId) (n k : ℕ) → add_refusal w i g n k ≡ None → MayAdd w i g
 unfolding add_refusal
 may_add w i g n k e = go (leb most_panels (length w)) (eqb i.0 0) (place_of i w) (eqb g.0 0) _ refl refl refl refl e
   where
-    go : (a b : Bool) (q : Option ℕ) (c : Bool) (r : Refusal) → leb most_panels (length w) ≡ a → eqb i.0 0 ≡ b → place_of i w ≡ q → eqb g.0 0 ≡ c
-        → cond a Refusal.Full (cond b Refusal.IdZero (cond (is_some q) Refusal.IdTaken (cond c Refusal.GroupZero r))) ≡ Refusal.Nothing → MayAdd w i g
+    go : (a b : Bool) (q : Option ℕ) (c : Bool) (r : Option Refusal) → leb most_panels (length w) ≡ a → eqb i.0 0 ≡ b → place_of i w ≡ q → eqb g.0 0 ≡ c
+        → cond a (Some Refusal.Full) (cond b (Some Refusal.IdZero) (cond (is_some q) (Some Refusal.IdTaken) (cond c (Some Refusal.GroupZero) r))) ≡ None → MayAdd w i g
     go true b q c r ea eb eq ec n = let z : ◌≡◌ {A = ℕ} 0 1 = cc in absurd (omega arith)
     go false true q c r ea eb eq ec n = let z : ◌≡◌ {A = ℕ} 0 1 = cc in absurd (omega arith)
     go false false (Some k) c r ea eb eq ec n = let z : ◌≡◌ {A = ℕ} 0 1 = cc in absurd (omega arith)
@@ -61,16 +61,10 @@ good_more w i g (Some profile) (Some kind) few good m =
 good_more w i g (Some profile) None few good m = rw append-nil (formed w few good)
 good_more w i g None kinded few good m = rw append-nil (formed w few good)
 
-good-added : (w : Wall) (i : MonitorId) (g : GroupId) (n k : ℕ) (r : Refusal) → length w ≤ most_panels → GoodWall w → add_refusal w i g n k ≡ r
-    → WellFormed (table_of (cond (eqb (refusal_number r) 0) (w ++ fresh_of (profile_with n) (kind_with k) i g) w))
-good-added w i g n k Refusal.Nothing few good e = good_more w i g (profile_with n) (kind_with k) few good (may_add w i g n k e)
-good-added w i g n k Refusal.Full few good e = formed w few good
-good-added w i g n k Refusal.IdZero few good e = formed w few good
-good-added w i g n k Refusal.IdTaken few good e = formed w few good
-good-added w i g n k Refusal.GroupZero few good e = formed w few good
-good-added w i g n k Refusal.UnknownProfile few good e = formed w few good
-good-added w i g n k Refusal.NoPanel few good e = formed w few good
-good-added w i g n k Refusal.UnknownKind few good e = formed w few good
+good-added : (w : Wall) (i : MonitorId) (g : GroupId) (n k : ℕ) (r : Option Refusal) → length w ≤ most_panels → GoodWall w → add_refusal w i g n k ≡ r
+    → WellFormed (table_of (cond (is_some r) w (w ++ fresh_of (profile_with n) (kind_with k) i g)))
+good-added w i g n k None few good e = good_more w i g (profile_with n) (kind_with k) few good (may_add w i g n k e)
+good-added w i g n k (Some refusal) few good e = formed w few good
 
 pub added_formed : {t : Table} → WellFormed t → (i : MonitorId) (g : GroupId) (n k : ℕ) → WellFormed (table_of (added (panels_of t) i g n k))
 unfolding added
