@@ -22,7 +22,7 @@ use Rattle.packet.specs.Edition.{edition_with, open_refusal}
 use Rattle.packet.specs.Packet.{shortest, most_data as packet_data, written_of as packet_written, refusal_number as packet_number}
 use Rattle.table_calls.specs.declared.Refusal.{Refusal}
 use Rattle.panels.specs.Wall.{Wall, place_of}
-use Rattle.table_calls.specs.Calls.{refusal_number as table_number, add_refusal}
+use Rattle.table_calls.specs.Calls.{number_of as table_number, add_refusal, remove_refusal}
 use Rattle.answers.specs.declared.Sent.{Sent}
 use Rattle.answers.specs.Reply.{sent_bytes, sent_of, refusal_number as answer_number}
 use Rattle.requests.specs.declared.Request.{Request}
@@ -46,18 +46,18 @@ pub add_number : Add
 unfolding add_refusal profile_with kind_with
 add_number w i g n k = go (leb 32 (length w)) (eqb i.0 0) (place_of i w) (eqb g.0 0) (eqb n 0) (eqb n 1)
   where
-    kinds : (d e : Bool) → table_number (option_map_or (λ kind. Refusal.Nothing) (cond d (Some Kind.FiveByFive) (cond e (Some Kind.FifteenByTen) None)) Refusal.UnknownKind) ≡ cond (d || e) 0 7
+    kinds : (d e : Bool) → table_number (option_map_or (λ kind. None) (cond d (Some Kind.FiveByFive) (cond e (Some Kind.FifteenByTen) None)) (Some Refusal.UnknownKind)) ≡ cond (d || e) 0 7
     kinds true e = refl
     kinds false true = refl
     kinds false false = refl
 
     go : (a b : Bool) (q : Option ℕ) (c d e : Bool)
         → table_number
-        (cond a Refusal.Full
-        (cond b Refusal.IdZero
-        (cond (is_some q) Refusal.IdTaken
-        (cond c Refusal.GroupZero
-        (option_map_or (λ profile. option_map_or (λ kind. Refusal.Nothing) (kind_with k) Refusal.UnknownKind) (cond d (Some Profile.General) (cond e (Some Profile.Phoenix) None)) Refusal.UnknownProfile)))))
+        (cond a (Some Refusal.Full)
+        (cond b (Some Refusal.IdZero)
+        (cond (is_some q) (Some Refusal.IdTaken)
+        (cond c (Some Refusal.GroupZero)
+        (option_map_or (λ profile. option_map_or (λ kind. None) (kind_with k) (Some Refusal.UnknownKind)) (cond d (Some Profile.General) (cond e (Some Profile.Phoenix) None)) (Some Refusal.UnknownProfile))))))
         ≡ cond a 1 (cond b 2 (cond (is_some q) 3 (cond c 4 (cond (d || e) (cond (eqb k 0 || eqb k 1) 0 7) 5))))
     go true b q c d e = refl
     go false true q c d e = refl
@@ -70,7 +70,7 @@ add_number w i g n k = go (leb 32 (length w)) (eqb i.0 0) (place_of i w) (eqb g.
 pub remove_number : Remove
 remove_number w i = go (place_of i w)
   where
-    go : (q : Option ℕ) → table_number (cond (is_some q) Refusal.Nothing Refusal.NoPanel) ≡ cond (is_some q) 0 6
+    go : (q : Option ℕ) → table_number (cond (is_some q) None (Some Refusal.NoPanel)) ≡ cond (is_some q) 0 6
     go (Some k) = refl
     go None = refl
 

@@ -12,7 +12,7 @@ use Rattle.packet.specs.Edition.{edition_with, open_refusal}
 use Rattle.packet.specs.Packet.{written_of as packet_written, refusal_number as packet_number}
 use Rattle.panels.specs.declared.Panel.{Panel}
 use Rattle.panels.specs.Wall.{Wall, place_of}
-use Rattle.table_calls.specs.Calls.{refusal_number as table_number, add_refusal, removed_from}
+use Rattle.table_calls.specs.Calls.{number_of as table_number, add_refusal, remove_refusal}
 use Rattle.answers.specs.declared.Reply.{Reply}
 use Rattle.answers.specs.Reply.{sent_of, refusal_number as answer_number}
 use Rattle.requests.specs.Request.{is_request}
@@ -35,7 +35,7 @@ Add =
 
 -- no panel has that ID
 abbrev pub Remove : Type 0
-Remove = (w : Wall) (i : MonitorId) → table_number (removed_from w i).refusal ≡ cond (is_some (place_of i w)) 0 6
+Remove = (w : Wall) (i : MonitorId) → table_number (remove_refusal w i) ≡ cond (is_some (place_of i w)) 0 6
 
 -- form 1: 31 where a panel is not general, its kind, the first of its values, not 0, or its tiling, the third to the sixth, not
 -- fresh; then, in either form, 19, lent output too short: image under 35n + 2 bytes in form 1 and 45n + 2 in form 2, answer or

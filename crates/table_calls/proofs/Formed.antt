@@ -1,5 +1,5 @@
 -- The table calls keep tables well-formed. Assumes nothing.
-use mathlib.Core.Path.{◌≡◌, refl}
+use mathlib.Core.Path.{◌≡◌, refl, ap, ◌∙◌}
 use mathlib.Core.Bool.{Bool, true, false, cond}
 use mathlib.Core.List.{[], ◌∷◌, ◌++◌, append-nil}
 use Prim.Native.Nat.{ℕ, zero, suc, ◌≤◌, ◌<◌}
@@ -9,7 +9,7 @@ use lib.Dec.{eqb, leb}
 use lib.ListN.{length, length-append, length-take, length-drop}
 use Rattle.tiling.specs.declared.Kind.{Kind}
 use Rattle.settings.specs.declared.Profile.{Profile}
-use Rattle.std.specs.Prelude.{Option, Some, None, is_some}
+use Rattle.std.specs.Prelude.{Option, Some, None, is_some, Result, IsOk}
 use Rattle.settings.specs.Profiles.{profile_with}
 use Rattle.tiling.specs.Kinds.{kind_with}
 use Rattle.packet.specs.declared.MonitorId.{MonitorId}
@@ -17,8 +17,9 @@ use Rattle.packet.specs.declared.GroupId.{GroupId}
 use Rattle.panels.specs.declared.Table.{Table}
 use Rattle.table_calls.specs.declared.Refusal.{Refusal}
 use Rattle.panels.specs.Wall.{Wall, table_of, panels_of, place_of, most_panels}
-use Rattle.table_calls.specs.Calls.{fresh_of, add_refusal, added, without, removed}
+use Rattle.table_calls.specs.Calls.{fresh_of, unless, add_refusal, added, without, removed}
 use Rattle.panels.specs.WellFormed.{Absent, GoodWall, WellFormed}
+use Rattle.panels.proofs.Laws.{panels_of_table}
 use Rattle.panels.proofs.Formed.{formed, nowhere_absent, good_snoc, fresh-good}
 
 absent_without : (i : MonitorId) (k : ℕ) (w : Wall) → Absent i w → Absent i (without (Some k) w)
@@ -69,6 +70,21 @@ good-added w i g n k (Some refusal) few good e = formed w few good
 pub added_formed : {t : Table} → WellFormed t → (i : MonitorId) (g : GroupId) (n k : ℕ) → WellFormed (table_of (added (panels_of t) i g n k))
 unfolding added
 added_formed f i g n k = good-added _ i g n k _ f.few f.good refl
+
+-- a panel that is added to a wall where nothing refuses it
+pub record Adds (r : Result Unit Refusal) (u : Table) (v : Wall) : Type 0 where
+  pub answered : IsOk r
+  pub holds : panels_of u ≡ v
+  pub formed : WellFormed u
+
+pub adds : {r : Result Unit Refusal} {t u : Table} {w v : Wall} (i : MonitorId) (g : GroupId) (n k : ℕ) → WellFormed t → panels_of t ≡ w
+    → add_refusal w i g n k ≡ None → added w i g n k ≡ v
+    → r ≡ unless (add_refusal (panels_of t) i g n k) tt → u ≡ table_of (added (panels_of t) i g n k) → Adds r u v
+adds i g n k f e none is answer table = record {
+  answered = rw (answer, e, none) refl;
+  holds = ap panels_of table ∙ panels_of_table _ ∙ rw e is;
+  formed = rw table (added_formed f _ _ _ _);
+}
 
 good-removed : (w : Wall) (q : Option ℕ) → length w ≤ most_panels → GoodWall w → WellFormed (table_of (without q w))
 good-removed w None few good = formed w few good
