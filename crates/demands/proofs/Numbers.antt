@@ -20,7 +20,7 @@ use Rattle.packet.specs.Edition.{edition_with, open_refusal}
 use Rattle.packet.specs.Packet.{shortest, most_data as packet_data, written_of as packet_written, refusal_number as packet_number}
 use Rattle.table_calls.specs.declared.Refusal.{Refusal}
 use Rattle.panels.specs.Wall.{Wall, place_of}
-use Rattle.table_calls.specs.Calls.{number_of as table_number, add_refusal, remove_refusal}
+use Rattle.table_calls.specs.Calls.{number_of as table_number, add_refusal}
 use Rattle.answers.specs.declared.Sent.{Sent}
 use Rattle.answers.specs.Reply.{sent_bytes, sent_of, refusal_number as answer_number}
 use Rattle.requests.specs.declared.Request.{Request}
