@@ -9,7 +9,7 @@ use native.Mathlib.Omega.{arith}
 use borrow.Author.Tests.{eq-eqb, ne_eqb, eqb-true, eqb-false, lt-ltb, ltb-true, ltb-false}
 use lib.Dec.{eqb, ltb}
 use lib.ListN.{length, get_or, drop}
-use Rattle.std.specs.Prelude.{Option, Some, None}
+use Rattle.std.specs.Prelude.{Option, Some, None, is_some}
 use Rattle.settings.specs.Settings.{row_count}
 use Rattle.packet.specs.declared.GroupId.{GroupId}
 use Rattle.packet.specs.declared.MonitorId.{MonitorId}
@@ -17,8 +17,7 @@ use Rattle.packet.specs.declared.Verdict.{Verdict}
 use Rattle.packet.specs.Packet.{group_id}
 use Rattle.packet.specs.Answered.{is_heard}
 use Rattle.panels.specs.declared.Panel.{Panel}
-use Rattle.panels.specs.declared.Place.{Place}
-use Rattle.panels.specs.Wall.{Wall, blank, in_places, place_of, place_number, members_of, if_there, most_panels}
+use Rattle.panels.specs.Wall.{Wall, blank, in_places, place_of, place_number, members_of, most_panels}
 use Rattle.panels.specs.Addressed.{reaches}
 use Rattle.panels.specs.WellFormed.{GoodWall}
 use Rattle.lists.proofs.Mapped.{map_same}
@@ -68,9 +67,9 @@ module _ (i : MonitorId) (g : GroupId) (w : Wall) (few : length w ≤ most_panel
   unfolding reaches
   other-id z named p n = rw (eq-eqb _ _ z, ne_eqb _ _ named, ne_eqb _ _ n)
 
-  one : g.0 ≡ 0 → (i.0 ≡ 0 → ⊥) → (q : Place) → place_of i w ≡ q
+  one : g.0 ≡ 0 → (i.0 ≡ 0 → ⊥) → (q : Option ℕ) → place_of i w ≡ q
       → Holds i g w (cond (ltb (place_number q) most_panels) (from (place_number q) (suc (place_number q))) (from 0 0))
-  one z named (Place.At k) e =
+  one z named (Some k) e =
       let (h, same) = place_there i w k e in
       let not_there : (j : ℕ) → Outside j (from k (suc k)) → j ≡ k → ⊥ = λ j o s. outside_not j k o s in
       rw (lt-ltb k most_panels (omega arith))
@@ -83,7 +82,7 @@ module _ (i : MonitorId) (g : GroupId) (w : Wall) (few : length w ≤ most_panel
       outside_not : (j k : ℕ) → Outside j (from k (suc k)) → j ≡ k → ⊥
       outside_not j k (inl h) s = omega arith
       outside_not j k (inr h) s = omega arith
-  one z named Place.Nowhere e = none (λ j t. other-id z named (get_or w j blank) (place_nowhere i w e j t))
+  one z named None e = none (λ j t. other-id z named (get_or w j blank) (place_nowhere i w e j t))
 
   -- a packet to a group
   group : (g.0 ≡ 0 → ⊥) → (n : ℕ) → members_of g w ≡ n → Holds i g w (cond (eqb n 0) (from 0 0) (from 0 (length w)))
@@ -134,7 +133,7 @@ module _ (i : MonitorId) (g : GroupId) (w : Wall) (few : length w ≤ most_panel
           go false s = inr (omega (arith, ltb-false k a s))
 
   -- the panel of the entry is the one with the ID
-  entry_there : (k : ℕ) → place_of i w ≡ Place.At k → ((entry_of w (named i g)).at ≡ k) × (k < most_panels) × ((entry_of w (named i g)).panel ≡ get_or w k blank)
+  entry_there : (k : ℕ) → place_of i w ≡ Some k → ((entry_of w (named i g)).at ≡ k) × (k < most_panels) × ((entry_of w (named i g)).panel ≡ get_or w k blank)
   unfolding entry_of
   entry_there k e =
       let h = (place_there i w k e).0 in
@@ -142,13 +141,13 @@ module _ (i : MonitorId) (g : GroupId) (w : Wall) (few : length w ≤ most_panel
       let here : k % most_panels ≡ k = omega arith in
       (ap place_number e, small, rw (e, here) (place_is w k blank small))
 
-  entry_nowhere : place_of i w ≡ Place.Nowhere → (entry_of w (named i g)).at ≡ most_panels
+  entry_nowhere : place_of i w ≡ None → (entry_of w (named i g)).at ≡ most_panels
   unfolding entry_of
   entry_nowhere e = ap place_number e
 
-  there : (q : Place) → place_of i w ≡ q → {A : Type 0} (a b : A) → cond (ltb (entry_of w (named i g)).at most_panels) a b ≡ if_there q a b
-  there (Place.At k) e a b = let (at, small, _) = entry_there k e in rw (at, lt-ltb k most_panels small)
-  there Place.Nowhere e a b = rw (entry_nowhere e)
+  there : (q : Option ℕ) → place_of i w ≡ q → {A : Type 0} (a b : A) → cond (ltb (entry_of w (named i g)).at most_panels) a b ≡ cond (is_some q) a b
+  there (Some k) e a b = let (at, small, _) = entry_there k e in rw (at, lt-ltb k most_panels small)
+  there None e a b = rw (entry_nowhere e)
 
   -- the reply is that of the panel with the ID, or silence
   reply_is : (c : Command) → reply_to (entry_of w (named i g)) i g c ≡ cond (is_heard i g) (reply_from w i c (place_of i w)) silence
@@ -158,13 +157,13 @@ module _ (i : MonitorId) (g : GroupId) (w : Wall) (few : length w ≤ most_panel
       e : Entry
       e = entry_of w (named i g)
 
-      go : (b : Bool) (q : Place) → place_of i w ≡ q
+      go : (b : Bool) (q : Option ℕ) → place_of i w ≡ q
           → cond (b && ltb e.at most_panels) (reply_by e.panel.id (judge c e.panel)) silence ≡ cond b (reply_from w i c q) silence
-      go true (Place.At k) s =
+      go true (Some k) s =
           let (_, _, p) = entry_there k s in
           let id : (get_or w k blank).id ≡ i = λ t. record { 0 = (place_there i w k s).1 t } in
-          there (Place.At k) s _ _ ∙ rw (p, id)
-      go true Place.Nowhere s = there Place.Nowhere s _ _
+          there (Some k) s _ _ ∙ rw (p, id)
+      go true None s = there None s _ _
       go false q s = refl
 
 -- What a burst comes to is what it leaves: the reply, and the wall as it was or with the change.
