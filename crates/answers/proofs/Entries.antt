@@ -5,6 +5,7 @@ use Prim.Native.Nat.{ℕ, ◌%◌, ◌<◌}
 use native.Mathlib.Omega.{arith}
 use lib.ListN.{length, get_or}
 use Rattle.packet.specs.declared.Addressee.{Addressee}
+use Rattle.packet.specs.declared.Edition.{Edition}
 use Rattle.packet.specs.declared.Verdict.{Verdict}
 use Rattle.packet.specs.Packet.{damage_in}
 use Rattle.packet.specs.Reading.{Reading}
@@ -18,11 +19,12 @@ use Rattle.panels.proofs.Index.{place_found, members_found}
 use Rattle.answers.specs.declared.Entry.{Entry}
 use Rattle.answers.specs.declared.Names.{Names}
 use Rattle.answers.specs.declared.Played.{Played}
+use Rattle.answers.specs.declared.Heard.{Heard}
 use Rattle.answers.specs.declared.Turn.{Turn}
 use Rattle.answers.specs.declared.Change.{Change}
 use Rattle.answers.specs.Played.{answered_by, answered, answered_on}
 use Rattle.std.specs.Prelude.{Option, Some, None}
-use Rattle.answers.specs.Turn.{names_in, entry_of, turn_by, turn_on, turned_by, Fits}
+use Rattle.answers.specs.Turn.{names_in, entry_of, turn_by, turn_on, heard_as, turned_by, Fits}
 use Rattle.answers.proofs.Turns.{Leaves, turn_leaves, turn_replies}
 
 -- the index and the places of a table have what its wall has
@@ -57,6 +59,12 @@ module _ {t : Table} (f : WellFormed t) (v : Verdict) (d : List ℕ) (a : Addres
       → ◌≡◌ {A = Played} (record { table = u; reply = (turn_on (panels_of t) v d a).reply; damage = damage_in v }) (answered_on t (reading v d a))
   unfolding answered
   left_is e = λ j. record { table = e j; reply = turn_replies (panels_of t) f.few f.good v d a j; damage = damage_in v }
+
+-- what was heard of a burst
+pub heard_leaves : {t : Table} (f : WellFormed t) (edition : Edition) (v : Verdict) (d : List ℕ) (a : Addressee) {h : Heard} → h ≡ heard_as edition (turn_on (panels_of t) v d a)
+    → Leaves h.change d (panels_of t) (answered_by v (panels_of t) d a).wall
+heard_leaves {t} f edition v d a gave =
+    subst (λ (o : Option Change). Leaves o d (panels_of t) (answered_by v (panels_of t) d a).wall) (sym (ap (λ (h : Heard). h.change) gave)) (leaves f v d a)
 
 module _ {t : Table} (f : WellFormed t) (d : List ℕ) (w : Wall) where
   -- nothing changes: the table stays
