@@ -18,7 +18,6 @@ use Rattle.panels.specs.Wall.{Wall, blank}
 use Rattle.panels.specs.WellFormed.{GoodWall}
 use Rattle.lists.proofs.Mapped.{at_map}
 use Rattle.panels.proofs.Formed.{good_at}
-use Rattle.image_write.specs.declared.Written.{Written}
 use Rattle.image_write.specs.Written.{field, field_in, fields_of, record_of, records_of, high_low, starts_of, image_of, record_size}
 use Rattle.image_write.specs.Private.Sizes.{fields_size}
 use Rattle.lists.proofs.Flat.{alike_long}
@@ -59,6 +58,9 @@ module _ (form : Form) (values : List ℕ) where
       go : (t : Bool) → length (cond t (field row (values_of row values)) []) ≡ cond t (2 + byte_count row) 0
       go true = omega (arith, length-values row values full)
       go false = refl
+
+  pub field_has : length values ≡ value_count → (row : ℕ) → has_field form row ≡ true → length (field_in form values row) ≡ 2 + byte_count row
+  field_has full row has = field-length full row ∙ ap (λ (t : Bool). cond t (2 + byte_count row) 0) has
 
   pub fields-length : length values ≡ value_count → length (flatten (fields_of form values)) ≡ fields_size form
   unfolding fields_of
@@ -133,9 +135,3 @@ Products size k n = ((size + 2) * n ≡ size * n + 2 * n) × (k < n → size * k
 pub products : (form : Form) (k n : ℕ) → Products (record_size form) k n
 products Form.One k n = (omega arith, (λ h. omega arith), (λ h. omega arith), omega arith, omega arith)
 products Form.Two k n = (omega arith, (λ h. omega arith), (λ h. omega arith), omega arith, omega arith)
-
--- how many bytes were written, none on a refusal
-abbrev pub bytes_written : Written → ℕ
-bytes_written (Written.Bytes n) = n
-bytes_written Written.WouldLose = 0
-bytes_written Written.NoRoom = 0
