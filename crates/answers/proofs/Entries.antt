@@ -4,7 +4,7 @@ use mathlib.Core.List.{List, map}
 use Prim.Native.Nat.{ℕ, ◌%◌, ◌<◌}
 use native.Mathlib.Omega.{arith}
 use lib.ListN.{length, get_or}
-use Rattle.packet.specs.declared.Addressee.{Addressee}
+use Rattle.packet.specs.declared.MonitorId.{MonitorId}
 use Rattle.packet.specs.declared.Edition.{Edition}
 use Rattle.packet.specs.declared.Verdict.{Verdict}
 use Rattle.packet.specs.Packet.{damage_in}
@@ -42,10 +42,10 @@ entry_is {t} f n i g count c d =
     λ j. record { count = c j; members = members j; at = at j; panel = there j }
 
 -- a burst by its parts
-abbrev pub reading : Verdict → List ℕ → Addressee → Reading
+abbrev pub reading : Verdict → List ℕ → Option MonitorId → Reading
 reading v d a = record { verdict = v; part = d; seems = a }
 
-module _ {t : Table} (f : WellFormed t) (v : Verdict) (d : List ℕ) (a : Addressee) where
+module _ {t : Table} (f : WellFormed t) (v : Verdict) (d : List ℕ) (a : Option MonitorId) where
   -- by what the table has of its names
   pub turn_is : {n : Names} {e : Entry} {turn : Turn} → n ≡ names_in v a → e ≡ entry_of (panels_of t) n → turn ≡ turn_by e v d a → turn ≡ turn_on (panels_of t) v d a
   turn_is named there is = is ∙ ap (λ (e : Entry). turn_by e v d a) (there ∙ ap (entry_of (panels_of t)) named)
@@ -61,7 +61,7 @@ module _ {t : Table} (f : WellFormed t) (v : Verdict) (d : List ℕ) (a : Addres
   left_is e = λ j. record { table = e j; reply = turn_replies (panels_of t) f.few f.good v d a j; damage = damage_in v }
 
 -- what was heard of a burst
-pub heard_leaves : {t : Table} (f : WellFormed t) (edition : Edition) (v : Verdict) (d : List ℕ) (a : Addressee) {h : Heard} → h ≡ heard_as edition (turn_on (panels_of t) v d a)
+pub heard_leaves : {t : Table} (f : WellFormed t) (edition : Edition) (v : Verdict) (d : List ℕ) (a : Option MonitorId) {h : Heard} → h ≡ heard_as edition (turn_on (panels_of t) v d a)
     → Leaves h.change d (panels_of t) (answered_by v (panels_of t) d a).wall
 heard_leaves {t} f edition v d a gave =
     subst (λ (o : Option Change). Leaves o d (panels_of t) (answered_by v (panels_of t) d a).wall) (sym (ap (λ (h : Heard). h.change) gave)) (leaves f v d a)

@@ -12,7 +12,7 @@ use lib.ListN.{length, get_or, drop}
 use Rattle.std.specs.Prelude.{Option, Some, None}
 use Rattle.std.specs.Option.{option_map}
 use Rattle.settings.specs.Settings.{row_count}
-use Rattle.packet.specs.declared.Addressee.{Addressee}
+use Rattle.packet.specs.declared.MonitorId.{MonitorId}
 use Rattle.packet.specs.declared.Verdict.{Verdict}
 use Rattle.packet.specs.Packet.{group_id}
 use Rattle.packet.specs.Answered.{is_heard}
@@ -166,15 +166,15 @@ module _ (w : Wall) (few : length w ≤ most_panels) (good : GoodWall w) where
   order_leaves n d unavailable s o =
       map_same _ blank w (λ k h. either_way (reaches n.id n.group _) (ap (λ (j : Judged). panel_after j (get_or w k blank)) (o (get_or w k blank))))
 
-  pub turn_leaves : (v : Verdict) (d : List ℕ) (a : Addressee) → Leaves (turn_on w v d a).change d w (answered_by v w d a).wall
+  pub turn_leaves : (v : Verdict) (d : List ℕ) (a : Option MonitorId) → Leaves (turn_on w v d a).change d w (answered_by v w d a).wall
   unfolding turn_by
   turn_leaves Verdict.Empty d a = refl
   turn_leaves (Verdict.Damaged damage) d a = refl
   turn_leaves (Verdict.Intact i g n) d a = order_leaves (named i g) d (command d) refl (order_right d)
 
-  pub turn_replies : (v : Verdict) (d : List ℕ) (a : Addressee) → (turn_on w v d a).reply ≡ (answered_by v w d a).reply
+  pub turn_replies : (v : Verdict) (d : List ℕ) (a : Option MonitorId) → (turn_on w v d a).reply ≡ (answered_by v w d a).reply
   unfolding turn_by nack_to
   turn_replies Verdict.Empty d a = refl
-  turn_replies (Verdict.Damaged damage) d Addressee.Nobody = refl
-  turn_replies (Verdict.Damaged damage) d (Addressee.One i) = there (named i (group_id 0)) w few good (place_of i w) refl _ _
+  turn_replies (Verdict.Damaged damage) d None = refl
+  turn_replies (Verdict.Damaged damage) d (Some i) = there (named i (group_id 0)) w few good (place_of i w) refl _ _
   turn_replies (Verdict.Intact i g n) d a = reply_is (named i g) w few good (command d)

@@ -4,7 +4,6 @@ use Rattle.std.specs.Prelude.{ℕ, suc, ◌%◌, ◌≤◌, ◌<◌, Bool, cond,
 use Rattle.std.specs.Option.{option_map}
 use Rattle.settings.specs.declared.Profile.{Profile}
 use Rattle.settings.specs.Settings.{in_ranges, row_count}
-use Rattle.packet.specs.declared.Addressee.{Addressee}
 use Rattle.packet.specs.declared.Control.{Control}
 use Rattle.packet.specs.declared.Edition.{Edition}
 use Rattle.packet.specs.declared.GroupId.{GroupId}
@@ -34,10 +33,10 @@ abbrev pub named : MonitorId → GroupId → Names
 named i g = record { id = i; group = g }
 
 -- whom a burst names
-abbrev pub names_in : Verdict → Addressee → Names
+abbrev pub names_in : Verdict → Option MonitorId → Names
 names_in Verdict.Empty seems = named (monitor_id 0) (group_id 0)
-names_in (Verdict.Damaged damage) Addressee.Nobody = named (monitor_id 0) (group_id 0)
-names_in (Verdict.Damaged damage) (Addressee.One i) = named i (group_id 0)
+names_in (Verdict.Damaged damage) None = named (monitor_id 0) (group_id 0)
+names_in (Verdict.Damaged damage) (Some i) = named i (group_id 0)
 names_in (Verdict.Intact i g n) seems = named i g
 
 -- what a table has of them; where no panel has the ID the panel is any
@@ -69,17 +68,17 @@ change_of e n unavailable = None
 unfoldable pub reply_to : Entry → Names → Command → Reply
 reply_to e n c = cond (is_heard n.id n.group && ltb e.at most_panels) (reply_by e.panel.id (judge c e.panel)) silence
 
-unfoldable pub nack_to : Entry → Addressee → Reply
-nack_to e Addressee.Nobody = silence
-nack_to e (Addressee.One i) = cond (ltb e.at most_panels) (word_from i Control.Nack) silence
+unfoldable pub nack_to : Entry → Option MonitorId → Reply
+nack_to e None = silence
+nack_to e (Some i) = cond (ltb e.at most_panels) (word_from i Control.Nack) silence
 
-unfoldable pub turn_by : Entry → Verdict → List ℕ → Addressee → Turn
+unfoldable pub turn_by : Entry → Verdict → List ℕ → Option MonitorId → Turn
 turn_by e Verdict.Empty d seems = record { reply = silence; change = None }
 turn_by e (Verdict.Damaged damage) d seems = record { reply = nack_to e seems; change = None }
 turn_by e (Verdict.Intact i g n) d seems = record { reply = reply_to e (named i g) (command d); change = change_of e (named i g) (command d) }
 
 -- the same by the panels of a table
-abbrev pub turn_on : Wall → Verdict → List ℕ → Addressee → Turn
+abbrev pub turn_on : Wall → Verdict → List ℕ → Option MonitorId → Turn
 turn_on w v d seems = turn_by (entry_of w (names_in v seems)) v d seems
 
 -- with the answer sent out on a line of an edition

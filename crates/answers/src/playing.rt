@@ -10,7 +10,7 @@ ghost use Rattle.answers.specs.Turn.{entry_of, turn_on, heard_as, turned_by, Fit
 ghost use Rattle.answers.specs.Played.{answered_on};
 
 use crate::{Change, Entry, Heard, Names, Played, answering, judging, turning};
-use packet::{Addressee, Edition, Verdict};
+use packet::{Edition, MonitorId, Verdict};
 use panels::{MOST_PANELS, Table};
 
 // What a table has of the names in a burst.
@@ -46,7 +46,7 @@ pub fn hear(
     t: &Table,
     verdict: Verdict,
     d: &[u8],
-    seems: Addressee,
+    seems: Option<MonitorId>,
     out: &mut [u8],
 ) -> Heard
     requires { WellFormed t.now × (longest ≤ length out.old) }
@@ -61,7 +61,7 @@ pub fn hear(
 }
 
 // The answer to what was read of a burst: its verdict, its data, and whom it seems to be for if it is damaged.
-pub fn answered_on(mut t: Table, verdict: Verdict, d: &[u8], seems: Addressee) -> Played
+pub fn answered_on(mut t: Table, verdict: Verdict, d: &[u8], seems: Option<MonitorId>) -> Played
     requires { WellFormed t }
     ensures { result ≡ answered_on t (record { verdict = verdict; part = d.now; seems = seems }) }
 {

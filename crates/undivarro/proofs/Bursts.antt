@@ -3,8 +3,10 @@ use mathlib.Core.Path.{◌≡◌, ap, ap₂, ◌∙◌}
 use mathlib.Core.List.{List}
 use Prim.Native.Nat.{ℕ}
 use lib.ListN.{length}
+use Rattle.std.specs.Prelude.{Option}
+use Rattle.std.specs.Prelude.{Option}
+use Rattle.packet.specs.declared.MonitorId.{MonitorId}
 use Rattle.lists.specs.Lists.{laid_over}
-use Rattle.packet.specs.declared.Addressee.{Addressee}
 use Rattle.packet.specs.declared.Edition.{Edition}
 use Rattle.packet.specs.declared.Verdict.{Verdict}
 use Rattle.packet.specs.Packet.{damage_in, damage_number}
@@ -26,7 +28,7 @@ use Rattle.undivarro.specs.Calls.{After, after_burst}
 use Rattle.undivarro.proofs.Calls.{size_played, given-played}
 
 -- by what was read of it, and with the table that it leaves
-module _ {t : Table} (f : WellFormed t) (edition : Edition) (burst answer out : List ℕ) (v : Verdict) (d : List ℕ) (a : Addressee)
+module _ {t : Table} (f : WellFormed t) (edition : Edition) (burst answer out : List ℕ) (v : Verdict) (d : List ℕ) (a : Option MonitorId)
     (is_read : reading v d a ≡ reading_of edition burst) {u : Table} (is : u ≡ table_of (answered_by v (panels_of t) d a).wall) where
   abbrev after : After
   after = after_burst edition (panels_of t) burst answer out

@@ -1,4 +1,4 @@
-use Rattle.std.proofs.Common.{◌≡◌, sym, ap, ap₂, ◌∙◌}
+use Rattle.std.proofs.Common.{◌≡◌, Option, sym, ap, ap₂, ◌∙◌}
 use Rattle.packet.specs.declared.Damage.{Damage}
 use Rattle.panels.specs.declared.Table.{Table}
 use Rattle.panels.specs.Wall.{panels_of, table_of}
@@ -11,7 +11,7 @@ use Rattle.answers.proofs.playing.answered_on.Goals as goal
 use Rattle.answers.proofs.playing.answered_on.Goals.{in-Some, in_default}
 
 -- The turn leaves what the definition says. Assumes nothing.
-abbrev damaged : Table → Reply → Damage → Played
+abbrev damaged : Table → Reply → Option Damage → Played
 damaged t r d = record { table = t; reply = r; damage = d }
 
 pub store-requires : goal.store-requires

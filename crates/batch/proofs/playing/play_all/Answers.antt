@@ -6,7 +6,7 @@ use Rattle.lists.specs.Lists.{laid_at, laid_over}
 use Rattle.lists.proofs.Laid.{length_laid}
 use Rattle.bursts.specs.Left.{bursts_left}
 use Rattle.bursts.specs.declared.BurstList.{BurstList}
-use Rattle.packet.specs.declared.Addressee.{Addressee}
+use Rattle.packet.specs.declared.MonitorId.{MonitorId}
 use Rattle.packet.specs.declared.Edition.{Edition}
 use Rattle.packet.specs.declared.Verdict.{Verdict}
 use Rattle.packet.specs.Packet.{longest, damage_in}
@@ -15,7 +15,6 @@ use Rattle.packet.proofs.Readings.{same_reading}
 use Rattle.panels.specs.declared.Table.{Table}
 use Rattle.panels.specs.Wall.{Wall, panels_of, table_of}
 use Rattle.panels.specs.WellFormed.{WellFormed}
-use Rattle.answers.specs.declared.Change.{Change}
 use Rattle.answers.specs.declared.Heard.{Heard}
 use Rattle.answers.specs.declared.Played.{Played}
 use Rattle.answers.specs.Reply.{sent_bytes}
@@ -31,7 +30,7 @@ use Rattle.batch.proofs.playing.play_all.Goals as goal
 use Rattle.batch.proofs.playing.play_all.Goals.{After-hear-heard}
 
 -- a burst that was heard on a table
-module _ {t : Table} (f : WellFormed t) (edition : Edition) (v : Verdict) (d : List ℕ) (a : Addressee) {h : Heard} (gave : h ≡ heard_as edition (turn_on (panels_of t) v d a)) where
+module _ {t : Table} (f : WellFormed t) (edition : Edition) (v : Verdict) (d : List ℕ) (a : Option MonitorId) {h : Heard} (gave : h ≡ heard_as edition (turn_on (panels_of t) v d a)) where
   abbrev after : Wall
   after = (answered_by v (panels_of t) d a).wall
 
