@@ -4,7 +4,6 @@ use mathlib.Core.List.{List}
 use Prim.Native.Nat.{ℕ}
 use lib.ListN.{length}
 use Rattle.std.specs.Prelude.{Option}
-use Rattle.std.specs.Prelude.{Option}
 use Rattle.packet.specs.declared.MonitorId.{MonitorId}
 use Rattle.lists.specs.Lists.{laid_over}
 use Rattle.packet.specs.declared.Edition.{Edition}
