@@ -10,5 +10,6 @@ module _ {F S E : Type 0} (g : Shared F (S × (ℕ × (Bor (List ℕ) × Unit {0
   StepsTo (n, s) bytes (m, t) = (m ≡ n + 1) × ((p : Bor (List ℕ)) × g.post f (s, (m, (p, tt))) (Ok t) × (p.now ≡ bytes))
 
   -- from the first state on some steps, so many, lead to that one
-  abbrev pub RunsTo : S → ℕ → S → Type 0
-  RunsTo first n last = (steps : List (List ℕ)) × FoldsTo StepsTo (0, first) steps (n, last)
+  pub record RunsTo (first : S) (n : ℕ) (last : S) : Type 0 where
+    pub steps : List (List ℕ)
+    pub calls : FoldsTo StepsTo (0, first) steps (n, last)

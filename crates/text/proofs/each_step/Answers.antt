@@ -8,11 +8,10 @@ use Rattle.text.proofs.each_step.Goals as goal
 
 one_more : {F S E : Type 0} (g : Shared F (S × (ℕ × (Bor (List ℕ) × Unit {0}))) (Result S E)) (f : F) (first : S) (n : ℕ) (s : S) (p : Bor (List ℕ)) (t : S)
     → RunsTo g f first n s → g.post f (s, (n + 1, (p, tt))) (Ok t) → RunsTo g f first (n + 1) t
-one_more g f first n s p t (steps, runs) r =
-    (steps ++ p.now ∷ [], FoldsTo-push (StepsTo g f) (0, first) steps (n, s) p.now (n + 1, t) runs (refl, (p, r, refl)))
-
-pub loop-number-init : goal.loop-number-init
-loop-number-init g c = ([], refl)
+one_more g f first n s p t runs r = record {
+  steps = runs.steps ++ p.now ∷ [];
+  calls = FoldsTo-push (StepsTo g f) (0, first) runs.steps (n, s) p.now (n + 1, t) runs.calls (refl, (p, r, refl));
+}
 
 pub step-requires : goal.step-requires
 step-requires g c = c.requires _ _ c.loop-number.invariant c.front.result (rw (c.front.ensures, length-take) (omega arith))
