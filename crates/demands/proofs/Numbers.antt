@@ -4,17 +4,17 @@ use mathlib.Core.Path.{◌≡◌, refl, ap, ◌∙◌}
 use mathlib.Core.Bool.{Bool, true, false, cond, ◌&&◌, ◌||◌}
 use mathlib.Core.List.{List, [], ◌∷◌, flatten}
 use mathlib.Core.Option.{none, some}
+use Rattle.std.specs.Prelude.{Ok, Err}
 use lib.Dec.{leb, ltb, eqb}
 use lib.ListN.{length, length-replicate}
+use Rattle.std.specs.Prelude.{Some, None}
+use Rattle.std.specs.Option.{option_map_or}
 use Rattle.settings.specs.declared.Profile.{Profile}
 use Rattle.tiling.specs.declared.Kind.{Kind}
-use Rattle.tiling.specs.declared.Numbered.{Numbered as KindNumbered}
-use Rattle.tiling.specs.Kinds.{kind_with, if_known as if_kind}
+use Rattle.tiling.specs.Kinds.{kind_with}
 use Rattle.settings.specs.Settings.{settings, fresh_values, allowed_by_row}
-use Rattle.profiles.specs.declared.Numbered.{Numbered}
-use Rattle.profiles.specs.Numbers.{profile_with, if_known}
+use Rattle.settings.specs.Profiles.{profile_with}
 use Rattle.packet.specs.declared.Edition.{Edition}
-use Rattle.packet.specs.declared.Numbered.{Numbered as EditionNumbered}
 use Rattle.packet.specs.declared.Written.{Written}
 use Rattle.packet.specs.Reading.{reading_of}
 use Rattle.packet.specs.Answered.{is_heard}
@@ -33,10 +33,10 @@ use Rattle.host.specs.declared.Host.{Host}
 use Rattle.host.specs.Heard.{said_to}
 use Rattle.host.specs.Machine.{Happening, start, burst, mark, State, Move, most_sendings, sendings, waits, quiet, unasked, again, ending, heard, step}
 use Rattle.host.specs.Calls.{state_of, step_of}
-use Rattle.image_write.specs.declared.Written.{Written as ImageWritten}
+use Rattle.image_write.specs.declared.Refusal.{Refusal as ImageRefusal}
 use Rattle.image_forms.specs.declared.Form.{Form}
 use Rattle.image_forms.specs.Forms.{keeps}
-use Rattle.image_write.specs.Written.{size_of, loses_nothing, written_of as image_written, refusal_number as image_number}
+use Rattle.image_write.specs.Written.{size_of, loses_nothing, written_of as image_written, written_number as image_number}
 use Rattle.image_write.proofs.Losing.{two_holds}
 use Rattle.demands.specs.HostCalls.{has_room, answer_to}
 use Rattle.demands.proofs.HostCalls.{start_by, start_by_lem, refused, roomy}
@@ -47,7 +47,7 @@ pub add_number : Add
 unfolding add_refusal profile_with kind_with
 add_number w i g n k = go (leb 32 (length w)) (eqb i.0 0) (place_of i w) (eqb g.0 0) (eqb n 0) (eqb n 1)
   where
-    kinds : (d e : Bool) → table_number (if_kind (cond d (KindNumbered.Known Kind.FiveByFive) (cond e (KindNumbered.Known Kind.FifteenByTen) KindNumbered.Unknown)) (λ kind. Refusal.Nothing) Refusal.UnknownKind) ≡ cond (d || e) 0 7
+    kinds : (d e : Bool) → table_number (option_map_or (λ kind. Refusal.Nothing) (cond d (Some Kind.FiveByFive) (cond e (Some Kind.FifteenByTen) None)) Refusal.UnknownKind) ≡ cond (d || e) 0 7
     kinds true e = refl
     kinds false true = refl
     kinds false false = refl
@@ -58,7 +58,7 @@ add_number w i g n k = go (leb 32 (length w)) (eqb i.0 0) (place_of i w) (eqb g.
         (cond b Refusal.IdZero
         (if_there q Refusal.IdTaken
         (cond c Refusal.GroupZero
-        (if_known (cond d (Numbered.Known Profile.General) (cond e (Numbered.Known Profile.Phoenix) Numbered.Unknown)) (λ profile. if_kind (kind_with k) (λ kind. Refusal.Nothing) Refusal.UnknownKind) Refusal.UnknownProfile)))))
+        (option_map_or (λ profile. option_map_or (λ kind. Refusal.Nothing) (kind_with k) Refusal.UnknownKind) (cond d (Some Profile.General) (cond e (Some Profile.Phoenix) None)) Refusal.UnknownProfile)))))
         ≡ cond a 1 (cond b 2 (if_there q 3 (cond c 4 (cond (d || e) (cond (eqb k 0 || eqb k 1) 0 7) 5))))
     go true b q c d e = refl
     go false true q c d e = refl
@@ -86,7 +86,7 @@ image_number_lem : (form : Form) (w : Wall) (out : List ℕ)
 unfolding image_written
 image_number_lem form w out = go (loses_nothing form w) (leb (size_of form w) (length out))
   where
-    go : (a b : Bool) → image_number (cond a (cond b (ImageWritten.Bytes (size_of form w)) ImageWritten.NoRoom) ImageWritten.WouldLose) ≡ cond a (cond b 0 19) 31
+    go : (a b : Bool) → image_number (cond a (cond b (Ok (size_of form w)) (Err ImageRefusal.NoRoom)) (Err ImageRefusal.WouldLose)) ≡ cond a (cond b 0 19) 31
     go true true = refl
     go true false = refl
     go false b = refl
@@ -123,7 +123,7 @@ pub open_number : Open
 unfolding edition_with
 open_number n = go (eqb n 185) (eqb n 201)
   where
-    go : (a b : Bool) → open_refusal (cond a (EditionNumbered.Known Edition.Sicp185) (cond b (EditionNumbered.Known Edition.Sicp201) EditionNumbered.Unknown)) ≡ cond (a || b) 0 23
+    go : (a b : Bool) → open_refusal (cond a (Some Edition.Sicp185) (cond b (Some Edition.Sicp201) None)) ≡ cond (a || b) 0 23
     go true b = refl
     go false true = refl
     go false false = refl

@@ -26,10 +26,7 @@ fn send(rt: &impl Print, t: Table, burst: &[u8]) -> io::Result<Table>
         (λ after. (after ≡ table_of (played Edition.Sicp201 (panels_of t) burst.now).wall) × WellFormed after) }
 {
     let played = answers::play(Edition::Sicp201, t, burst);
-    let answer = Answer {
-        edition: Edition::Sicp201,
-        reply: played.reply,
-    };
+    let answer = Answer(Edition::Sicp201, played.reply);
     println!(rt; "{} {answer}", Shown(burst))?;
     Ok(played.table)
 }

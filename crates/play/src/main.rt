@@ -21,10 +21,7 @@ fn answer(rt: &impl Print, t: Table, number: u64, burst: &[u8]) -> io::Result<Ta
         (λ after. (after ≡ table_of (played Edition.Sicp201 (panels_of t) burst.now).wall) × WellFormed after) }
 {
     let heard = Receiver::open(Edition::Sicp201).bytes(burst).quiet(t);
-    let answer = Answer {
-        edition: Edition::Sicp201,
-        reply: heard.reply,
-    };
+    let answer = Answer(Edition::Sicp201, heard.reply);
     println!(rt; "{number} {answer}")?;
     Ok(heard.table)
 }

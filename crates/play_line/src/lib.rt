@@ -89,10 +89,7 @@ fn hear(line: Line, t: Table, burst: &[u8]) -> Heard
 
 // A burst's number, a space, and the answer.
 fn print_answer(rt: &impl Print, number: u64, reply: Reply) -> io::Result<()> {
-    let answer = Answer {
-        edition: Edition::Sicp201,
-        reply,
-    };
+    let answer = Answer(Edition::Sicp201, reply);
     println!(rt; "{number} {answer}")
 }
 

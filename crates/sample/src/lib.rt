@@ -59,17 +59,14 @@ impl fmt::Display for Shown<'_> {
 
 // A reply on a line of an edition, which prints as the bytes that go out for it.
 #[derive(Clone, Copy)]
-pub struct Answer {
-    pub edition: Edition,
-    pub reply: Reply,
-}
+pub struct Answer(pub Edition, pub Reply);
 
 impl fmt::Display for Answer {
-    ghost output = { λ answer. Some (shown_of (sent_bytes answer.edition answer.reply)) };
+    ghost output = { λ answer. Some (shown_of (sent_bytes answer.0 answer.1)) };
 
     fn fmt<W: fmt::Write>(&self, f: &mut fmt::Formatter<W>) -> fmt::Result {
         let mut packet = [0u8; LONGEST];
-        let sent = answers::write_answer(self.edition, self.reply, &mut packet);
+        let sent = answers::write_answer(self.0, self.1, &mut packet);
         let Sent::Bytes(n) = sent else {
             unreachable!();
         };

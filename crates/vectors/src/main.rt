@@ -2,30 +2,23 @@
 // sample wall, and once more, and prints the number, the burst and its two answers.
 #![tactic(auto)]
 
-use packet::{Edition, Numbered};
+use packet::Edition;
 use sample::{Answer, Shown};
 use std::io;
 
 fn answer(rt: &impl Print, edition: Edition, burst: &[u8]) -> io::Result<()> {
-    let first = Answer {
-        edition,
-        reply: sample::reply_to(edition, burst),
-    };
-    let second = Answer {
-        edition,
-        reply: sample::reply_again(edition, burst),
-    };
+    let first = Answer(edition, sample::reply_to(edition, burst));
+    let second = Answer(edition, sample::reply_again(edition, burst));
     println!(rt; " {} {first} {second}", Shown(burst))
 }
 
 // A burst on a line that is opened with this number.
 fn play_on(rt: &impl Print, number: u8, burst: &[u8]) -> io::Result<()> {
     print!(rt; "{number}")?;
-    let numbered = packet::edition_with(number as u32);
-    let Numbered::Known(edition) = numbered else {
-        return println!(rt; " refused {}", packet::open_refusal(numbered));
-    };
-    answer(rt, edition, burst)
+    match Edition::try_from(u32::from(number)) {
+        Ok(edition) => answer(rt, edition, burst),
+        Err(unknown) => println!(rt; " refused {}", u8::from(unknown)),
+    }
 }
 
 fn play(rt: &impl Print, step: &[u8]) -> io::Result<()> {

@@ -28,7 +28,7 @@ unfolding output_of laid_over
 front_is edition r n e = take_at (sent_bytes edition r) _ n (ap count_of (sym (fits edition r) ∙ e))
 
 pub unreachable-requires : goal.unreachable-requires
-unreachable-requires g c = let bytes = fits c.args.self.now.edition c.args.self.now.reply in cc
+unreachable-requires g c = let bytes = fits c.args.self.now.0 c.args.self.now.1 in cc
 
 pub returns-clause-writes : goal.returns-clause-writes
 returns-clause-writes g c = λ plain ok.
@@ -36,5 +36,5 @@ returns-clause-writes g c = λ plain ok.
     let n = c.in-Bytes.n in
     let bytes =
     c.front.ensures ∙ ap (take n) c.write_answer-sent.ensures.out_after
-    ∙ front_is a.edition a.reply n (sym c.write_answer-sent.ensures.value ∙ c.in-Bytes.is) in
+    ∙ front_is a.0 a.1 n (sym c.write_answer-sent.ensures.value ∙ c.in-Bytes.is) in
     has_written_of_eq _ _ _ _ _ (ap shown_of bytes) (c.write.ensures.writes plain ok)
