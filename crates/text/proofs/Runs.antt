@@ -1,5 +1,5 @@
 -- What every step of a run keeps holds of what it leaves. Assumes nothing.
-use Rattle.std.proofs.Common.{ℕ, ◌+◌, ◌≡◌, List, [], ◌∷◌, Result, Ok, subst}
+use Rattle.std.proofs.Common.{ℕ, List, [], ◌∷◌, Result, Ok, subst}
 use Rattle.std.specs.List.{FoldsTo}
 use Rattle.std.specs.Fn.{Shared}
 use denote.Ref.{Bor}
