@@ -22,11 +22,3 @@ module _ {A : Type 0} where
   from_seam (x ∷ src) [] (suc k) j d h m l = absurd (not-suc-le-zero m)
   from_seam (x ∷ src) (y ∷ dst) (suc k) zero d h m l = absurd (not-suc-le-zero l)
   from_seam (x ∷ src) (y ∷ dst) (suc k) (suc j) d h m l = from_seam src dst k j d (le_of_suc-le-suc h) (le_of_suc-le-suc m) (le_of_suc-le-suc l)
-
-  -- where one element is gone, the later ones stand one place further up
-  pub moved_up : (l : List A) (k j : ℕ) (d : A) → k ≤ j → get_or (take k l ++ drop (suc k) l) j d ≡ get_or l (suc j) d
-  moved_up [] zero j d h = refl
-  moved_up [] (suc k) j d h = refl
-  moved_up (x ∷ l) zero j d h = refl
-  moved_up (x ∷ l) (suc k) zero d h = absurd (not-suc-le-zero h)
-  moved_up (x ∷ l) (suc k) (suc j) d h = moved_up l k j d (le_of_suc-le-suc h)
