@@ -99,9 +99,7 @@ pub fn table_of(panels: [Panel; MOST_PANELS], count: usize) -> Table
 {
     let mut places = [NOWHERE; ID_COUNT];
     let mut members = [0u8; GROUP_COUNT];
-    let mut k = count;
-    while 0 < k {
-        k -= 1;
+    for k in (0..count).rev() {
         let p = panels[k];
         places[p.id.0 as usize] = k as u8;
         members[p.group.0 as usize] += 1;
