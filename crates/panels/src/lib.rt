@@ -41,6 +41,7 @@ pub struct Table {
 }
 
 // What stands in a place that no panel has.
+#[tactic(auto, unfolding(crate::specs::Wall::blank))]
 pub fn blank_panel() -> Panel
     ensures { result ≡ blank }
 {
@@ -122,13 +123,14 @@ pub fn place_of(t: Table, id: MonitorId) -> Option<usize>
 }
 
 // Whether a packet with this ID and group addresses a panel.
+#[tactic(auto, unfolding(crate::specs::Addressed::reaches))]
 pub fn reaches(id: MonitorId, group: GroupId, p: Panel) -> bool
     ensures { result ≡ reaches id group p }
 {
     if group.0 == 0 {
-        return id.0 == 0 || p.id.0 == id.0;
+        return id.0 == 0 || p.id == id;
     }
-    group.0 != 255 && p.group.0 == group.0
+    group.0 != 255 && p.group == group
 }
 
 // A Phoenix panel's video as a caller sees it, with the tint's sign.
