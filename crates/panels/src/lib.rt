@@ -66,6 +66,7 @@ pub fn empty_table() -> Table
 }
 
 // How many panels a table has.
+#[tactic(auto, using(crate::proofs::Laws::count_is))]
 pub fn count_of(t: Table) -> usize
     requires { WellFormed t }
     ensures { result ≡ length (panels_of t) }
@@ -74,6 +75,7 @@ pub fn count_of(t: Table) -> usize
 }
 
 // The panel at place k; where no panel is, what stands there.
+#[tactic(auto, using(crate::proofs::Laws::held_places, crate::proofs::Laws::place_is))]
 pub fn panel_at(t: Table, k: usize) -> Panel
     requires { WellFormed t }
     ensures { result ≡ get_or (panels_of t) k blank }
@@ -85,6 +87,7 @@ pub fn panel_at(t: Table, k: usize) -> Panel
 }
 
 // All panels of a table, and the blanks behind them.
+#[tactic(auto, using(crate::proofs::Laws::held_places))]
 pub fn panels_of(t: Table) -> [Panel; MOST_PANELS]
     requires { WellFormed t }
     ensures { result ≡ in_places (panels_of t) }
