@@ -75,7 +75,6 @@ pub fn count_of(t: Table) -> usize
 }
 
 // The panel at place k; where no panel is, what stands there.
-#[tactic(auto, using(crate::proofs::Laws::held_places, crate::proofs::Laws::place_is))]
 pub fn panel_at(t: Table, k: usize) -> Panel
     requires { WellFormed t }
     ensures { result ≡ get_or (panels_of t) k blank }

@@ -121,11 +121,11 @@ pub fn size_in(kind: Kind, byte: u8) -> Option<WallSize>
 }
 
 // Whether a position is one of the wall that a byte says.
+#[tactic(auto, using(crate::proofs::Sizes::panels_few), unfolding(crate::specs::Kinds::size_in, crate::specs::Kinds::in_wall))]
 pub fn in_wall(kind: Kind, position: u8, byte: u8) -> bool
     ensures { result ≡ in_wall kind position byte }
 {
-    let size = size_in(kind, byte);
-    let Some(wall) = size else {
+    let Some(wall) = size_in(kind, byte) else {
         return false;
     };
     up_to(wall.height * wall.width, position)
