@@ -5,7 +5,7 @@ use mathlib.Core.Bool.{Bool, true, false, cond, ◌&&◌, ◌||◌}
 use mathlib.Core.List.{List, [], ◌∷◌, flatten}
 use lib.Dec.{leb, ltb, eqb}
 use lib.ListN.{length, length-replicate}
-use Rattle.std.specs.Prelude.{Some, None, Ok, Err, Option, is_some}
+use Rattle.std.specs.Prelude.{Option, Some, None, Ok, Err, is_some}
 use Rattle.std.specs.Option.{option_map_or}
 use Rattle.settings.specs.declared.Profile.{Profile}
 use Rattle.tiling.specs.declared.Kind.{Kind}
@@ -146,13 +146,13 @@ module _ (s : State) where
   unfolding again
   again-taken = either (ltb (sendings s) most_sendings) _ _ refl refl
 
-  ending-taken : (d : List ℕ) (w : Said) → Taken (ending s d w)
+  ending-taken : (d : List ℕ) (w : Option Said) → Taken (ending s d w)
   unfolding ending
-  ending-taken d Said.Ack = refl
-  ending-taken d Said.Nack = again-taken
-  ending-taken d Said.Nav = refl
-  ending-taken d Said.Report = refl
-  ending-taken d Said.Nothing = refl
+  ending-taken d (Some Said.Ack) = refl
+  ending-taken d (Some Said.Nack) = again-taken
+  ending-taken d (Some Said.Nav) = refl
+  ending-taken d (Some Said.Report) = refl
+  ending-taken d None = refl
 
   unasked-taken : (resting : Bool) → number_in (unasked resting) ≡ 0
   unasked-taken true = refl

@@ -37,5 +37,5 @@ abbrev pub NavEnds : Type 0
 NavEnds =
     (s : State) (d : List ℕ)
     → let n = sendings s in
-    ending s d Said.Nav
+    ending s d (Some Said.Nav)
     ≡ over s [] (cond (same (request_data s.request) (0x18 ∷ 1 ∷ []) && leb 2 n) End.OffOrRefused End.Nav) []

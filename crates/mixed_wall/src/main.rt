@@ -14,6 +14,7 @@ use packet::{Edition, GroupId, LONGEST, MonitorId};
 use panels::{Panel, Table};
 use profiles::Video;
 use requests::Request;
+use sample::{Answer, Shown};
 use settings::{Profile, TILING_ROW};
 use std::io;
 use tiling::Kind;
@@ -25,14 +26,8 @@ fn send(rt: &impl Print, t: Table, burst: &[u8]) -> io::Result<Table>
         (λ after. (after ≡ table_of (played Edition.Sicp201 (panels_of t) burst.now).wall) × WellFormed after) }
 {
     let played = answers::play(Edition::Sicp201, t, burst);
-    let mut digits = [0u8; 2 * LONGEST];
-    let sent = sample::shown(burst, &mut digits);
-    rt.write_all(text::front(&digits, sent))?;
-    print!(rt; " ")?;
-    let reply = played.reply;
-    let answered = sample::shown_answer(Edition::Sicp201, reply, &mut digits);
-    rt.write_all(text::front(&digits, answered))?;
-    println!(rt)?;
+    let answer = Answer(Edition::Sicp201, played.reply);
+    println!(rt; "{} {answer}", Shown(burst))?;
     Ok(played.table)
 }
 
