@@ -1,17 +1,15 @@
 -- The scene is the definition's, and its table is as long as the one before. Assumes nothing.
-use Rattle.std.proofs.Common.{◌≡◌, ℕ, ◌+◌, ◌*◌, Some, Option, sym, ap, ap₂, subst, ◌∙◌}
+use Rattle.std.proofs.Common.{◌≡◌, ℕ, ◌+◌, ◌*◌, sym, ap, ap₂, subst, ◌∙◌}
 use mathlib.Core.List.{[]}
 use lib.ListN.{length}
 use Rattle.lists.specs.Lists.{laid_over}
-use Rattle.panels.specs.declared.Table.{Table}
 use Rattle.panels.specs.Wall.{Wall, panels_of}
 use Rattle.panels.specs.WellFormed.{WellFormed}
 use Rattle.panels.proofs.Laws.{panels_of_table}
 use Rattle.image_forms.specs.declared.Form.{Form}
 use Rattle.image_write.specs.Written.{setup_of, panel_size}
 use Rattle.image_write.proofs.Losing.{two_holds}
-use Rattle.batch.specs.declared.Refusal.{Refusal}
-use Rattle.batch.specs.Scene.{Scene, refusal_number, scene_of}
+use Rattle.batch.specs.Scene.{refusal_number, scene_of}
 use Rattle.batch.proofs.Kept.{scene_formed, scene_count}
 use Rattle.batch.proofs.Scenes.{refused_for, written_so, numbered_some}
 use Rattle.undivarro.specs.declared.Outcome.{Outcome}
