@@ -101,22 +101,13 @@ fn show_tint(rt: &impl Print, p: Panel) -> io::Result<()> {
     Ok(())
 }
 
-fn wide(x: u8) -> u64
-    ensures { (result ≡ x) × (result < 256) }
-{
-    x as u64
-}
-
 // The column and the row of a position in a wall of this width.
 fn print_place(rt: &impl Print, position: u8, width: u8) -> io::Result<()> {
-    if position == 0 {
+    if position == 0 || width == 0 {
         return Ok(());
     }
-    if width == 0 {
-        return Ok(());
-    }
-    let before = wide(position) - 1;
-    let w = wide(width);
+    let before = u64::from(position) - 1;
+    let w = u64::from(width);
     println!(rt;
         "panel 2: column {}, row {}",
         before % w + 1,
