@@ -18,11 +18,10 @@ use text::Hex;
 pub fn two_panels() -> Table
     ensures { (result ≡ table_of two_panels) × WellFormed result }
 {
-    let empty = panels::empty_table();
-    let one = table_calls::add(empty, MonitorId(1), GroupId(9), 0, 0);
-    let first = one.table;
-    let two = table_calls::add(first, MonitorId(2), GroupId(9), 0, 0);
-    two.table
+    let mut wall = panels::empty_table();
+    table_calls::add(&mut wall, MonitorId(1), GroupId(9), 0, 0).unwrap();
+    table_calls::add(&mut wall, MonitorId(2), GroupId(9), 0, 0).unwrap();
+    wall
 }
 
 // The reply of the sample wall, fresh, to a burst on a line of an edition.
