@@ -88,13 +88,9 @@ fn set_place(rt: &impl Print, t: Table, position: u8, height: u8, width: u8) -> 
     send_request(rt, t, request)
 }
 
-fn print_tint(rt: &impl Print, tint: i8) -> io::Result<()> {
-    println!(rt; "panel 2: tint {tint}")
-}
-
 fn show_tint(rt: &impl Print, p: Panel) -> io::Result<()> {
     if let Some(video) = panels::video_of(p) {
-        print_tint(rt, video.tint)?;
+        println!(rt; "panel 2: tint {}", video.tint)?;
     }
     Ok(())
 }

@@ -70,11 +70,7 @@ fn tell(rt: &(impl Eprint + AllocGlobal), what: &str, error: &io::Error) -> io::
 }
 
 // Tells on standard error where something failed, if it did.
-fn or_tell(
-    rt: &(impl Eprint + AllocGlobal),
-    what: &str,
-    done: io::Result<()>,
-) -> io::Result<()> {
+fn or_tell(rt: &(impl Eprint + AllocGlobal), what: &str, done: io::Result<()>) -> io::Result<()> {
     match done {
         Ok(()) => Ok(()),
         Err(error) => tell(rt, what, &error),
