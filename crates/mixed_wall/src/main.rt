@@ -88,6 +88,7 @@ fn set_place(rt: &impl Print, t: Table, position: u8, height: u8, width: u8) -> 
     send_request(rt, t, request)
 }
 
+// Panel 2's tint.
 fn show_tint(rt: &impl Print, p: Panel) -> io::Result<()> {
     if let Some(video) = panels::video_of(p) {
         println!(rt; "panel 2: tint {}", video.tint)?;
@@ -109,6 +110,8 @@ fn print_place(rt: &impl Print, position: u8, width: u8) -> io::Result<()> {
     )
 }
 
+// Panel 2's place in the wall.
+#[tactic(auto, using(crate::proofs::Places::third))]
 fn show_place(rt: &impl Print, p: Panel) -> io::Result<()> {
     let values = p.values;
     let first = settings::place_of(TILING_ROW);
