@@ -62,19 +62,11 @@ fn print_reading(rt: &impl Print, bytes: &[u8]) -> io::Result<()> {
 }
 
 fn run(rt: &(impl Print + Input)) -> io::Result<()> {
-    let mut buffer = [0u8; ROOM];
-    let mut reader = rt.reader();
-    for number in 0..u64::MAX {
-        match read_image(&mut reader, &mut buffer)? {
-            Ok(n) => {
-                print!(rt; "{} ", number + 1)?;
-                print_reading(rt, text::front(&buffer, n))?;
-                println!(rt)?;
-            }
-            Err(stop) => return println!(rt; "{stop} {number}"),
-        }
-    }
-    Ok(())
+    text::each(rt, &mut [0u8; ROOM], read_image, (), |_, number, image| {
+        print!(rt; "{number} ")?;
+        print_reading(rt, image)?;
+        println!(rt)
+    })
 }
 
 fn main(rt: HostRuntime) -> io::Result<()> {
