@@ -11,13 +11,14 @@ use borrow.Author.Tests.{ltb-true, ltb-false, eqb-true, le-ltb}
 use lib.Dec.{ltb, eqb}
 use lib.ListN.{length, drop}
 use lib.Seq.{drop-cons}
+use Rattle.image_forms.specs.declared.Form.{Form}
+use Rattle.std.specs.Option.{option_map_or}
 use Rattle.panels.specs.Wall.{most_panels}
 use Rattle.lists.specs.Lists.{each}
 use Rattle.lists.proofs.Both.{both}
 use Rattle.lists.proofs.Each.{in_each, length-each}
-use Rattle.std.specs.Prelude.{Result, Ok, Err, IsOk}
-use Rattle.image_forms.specs.declared.Numbered.{Numbered}
-use Rattle.image_forms.specs.Forms.{form_with, if_known}
+use Rattle.std.specs.Prelude.{Option, Some, None, Ok, Err, IsOk}
+use Rattle.image_forms.specs.Forms.{form_with}
 use Rattle.refusals.specs.declared.Refusal.{Refusal}
 use Rattle.image_frame.specs.Frame.{last_byte, count_of, starts_at, edge, rises, starts_fit, frame_of, IsFrame, record_in, records_in}
 
@@ -25,16 +26,16 @@ pub frame_is : (image : List ℕ) → IsOk (frame_of image) → IsFrame image ×
 unfolding frame_of
 frame_is image e = go _ _ _ _ _ refl refl refl refl refl e
   where
-    go : (a : Bool) (b : Numbered) (c d f : Bool) → ltb (length image) 2 ≡ a → form_with (last_byte image) ≡ b → ltb most_panels (count_of image) ≡ c
+    go : (a : Bool) (b : Option Form) (c d f : Bool) → ltb (length image) 2 ≡ a → form_with (last_byte image) ≡ b → ltb most_panels (count_of image) ≡ c
         → ltb (length image) (2 * count_of image + 2) ≡ d → starts_fit image ≡ f
-        → let r = cond a (Err Refusal.TooShort) (if_known b (λ form. cond c (Err Refusal.TooMany) (cond d (Err Refusal.NoStarts) (cond f (Ok image) (Err Refusal.Starts)))) (Err Refusal.OtherForm)) in
+        → let r = cond a (Err Refusal.TooShort) (option_map_or (λ form. cond c (Err Refusal.TooMany) (cond d (Err Refusal.NoStarts) (cond f (Ok image) (Err Refusal.Starts)))) b (Err Refusal.OtherForm)) in
         IsOk r → IsFrame image × (r ≡ Ok image)
     go true b c d f ea eb ec ed ef e = absurd (false≢true e)
-    go false Numbered.Unknown c d f ea eb ec ed ef e = absurd (false≢true e)
-    go false (Numbered.Known form) true d f ea eb ec ed ef e = absurd (false≢true e)
-    go false (Numbered.Known form) false true f ea eb ec ed ef e = absurd (false≢true e)
-    go false (Numbered.Known form) false false false ea eb ec ed ef e = absurd (false≢true e)
-    go false (Numbered.Known form) false false true ea eb ec ed ef e =
+    go false None c d f ea eb ec ed ef e = absurd (false≢true e)
+    go false (Some form) true d f ea eb ec ed ef e = absurd (false≢true e)
+    go false (Some form) false true f ea eb ec ed ef e = absurd (false≢true e)
+    go false (Some form) false false false ea eb ec ed ef e = absurd (false≢true e)
+    go false (Some form) false false true ea eb ec ed ef e =
         (record { two = ltb-false _ _ ea; few = ltb-false _ _ ec; room = ltb-false _ _ ed; starts = ef }, refl)
 
 rising : (image : List ℕ) (k m : ℕ) → rises image k m ≡ true → (j : ℕ) → k ≤ j → j < k + m → edge image j < edge image (suc j)

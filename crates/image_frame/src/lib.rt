@@ -4,7 +4,7 @@
 ghost use Rattle.std.specs.Prelude.{◌≡◌, ◌+◌, ◌*◌, ◌≤◌, ◌<◌, List, ℕ, length};
 ghost use Rattle.image_frame.specs.Frame.{form_of, count_of, edge, record_in, starts_fit, frame_of, IsFrame};
 
-use image_forms::{Form, Numbered};
+use image_forms::Form;
 use panels::MOST_PANELS;
 use refusals::Refusal;
 use std::marker::Model;
@@ -65,8 +65,7 @@ impl<'a> Frame<'a> {
         if len < 2 {
             return Err(Refusal::TooShort);
         }
-        let numbered = image_forms::form_with(image[len - 1]);
-        let Numbered::Known(form) = numbered else {
+        let Ok(form) = Form::try_from(image[len - 1]) else {
             return Err(Refusal::OtherForm);
         };
         let count = image[len - 2] as usize;

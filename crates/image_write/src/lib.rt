@@ -121,6 +121,6 @@ pub fn write_image(form: Form, t: Table, out: &mut [u8]) -> Written
     write::records(form, out, t);
     write::starts(form, out, n);
     out[end] = n as u8;
-    out[end + 1] = image_forms::form_byte(form);
+    out[end + 1] = u8::from(form);
     Written::Bytes(size)
 }

@@ -63,7 +63,7 @@ fn head(form: Form, out: &mut [u8], at: usize, p: Panel)
         Form::One => {}
         Form::Two => {
             let profile = p.profile;
-            out[at + 2] = profiles::profile_number(profile);
+            out[at + 2] = u8::from(profile);
         }
     }
 }

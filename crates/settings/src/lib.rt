@@ -1,12 +1,14 @@
 // The nine settings and the kind as one fixed table of numbers, which box, host and image all read.
 #![tactic(auto)]
 
+mod by_number;
 mod numbers;
 mod ranges;
 
 ghost use Rattle.std.specs.Prelude.{◌≡◌, ◌<◌, length};
 ghost use Rattle.settings.specs.Settings.{set_code, get_code, byte_count, place, fresh_values, values_with, row_count, value_count};
 
+pub use by_number::UnknownProfile;
 pub use ranges::in_ranges;
 
 // The rows of the kind and of the settings, by rising code.
@@ -53,7 +55,7 @@ const NO_CODE: u8 = 0x00;
 const MORE_COUNT: usize = 3;
 
 // What a panel's ranges and fresh values go by: of any year, or of 2015.
-#[derive(Clone, Copy)]
+#[derive(Clone, Copy, Debug, PartialEq, Eq)]
 pub enum Profile {
     General,
     Phoenix,

@@ -10,7 +10,7 @@ ghost use Rattle.undivarro.specs.Private.Opened.{opened_as};
 use crate::{Opened, Outcome};
 use image_forms::Form;
 use image_write::Written;
-use packet::{Edition, Numbered};
+use packet::Edition;
 use panels::Table;
 use refusals::{NO_ROOM, Refusal, UNKNOWN_EDITION, WOULD_LOSE};
 
@@ -44,8 +44,7 @@ pub(crate) fn opened(number: u32, read: Refusal, room: bool) -> Opened
     ensures { result ≡ opened_as number read room }
 {
     let refusal = refusal_for(read, true, room);
-    let numbered = packet::edition_with(number);
-    let Numbered::Known(edition) = numbered else {
+    let Ok(edition) = Edition::try_from(number) else {
         return Opened {
             refusal: if refusal == 0 {
                 UNKNOWN_EDITION as u32

@@ -4,10 +4,12 @@ use Prim.Native.Nat.{ℕ, ◌-◌, ◌/◌, ◌%◌}
 use native.Mathlib.Omega.{arith}
 use lib.ListN.{length, get_or, take, drop, length-drop}
 use lib.Seq.{take_all}
+use Rattle.tiling.specs.declared.Kind.{Kind}
+use Rattle.settings.specs.declared.Profile.{Profile}
+use Rattle.std.specs.Prelude.{Option}
+use Rattle.std.specs.Option.{option_map_or}
 use Rattle.tiling.specs.Kinds as kinds
-use Rattle.tiling.specs.declared.Numbered as kinds'
-use Rattle.profiles.specs.Numbers as profiles
-use Rattle.profiles.specs.declared.Numbered as profiles'
+use Rattle.settings.specs.Profiles as profiles
 use Rattle.request_steps.specs.Steps.{nothing, told_for, told_with_model}
 use Rattle.request_steps.proofs.told_with_model.Goals as goal
 
@@ -18,8 +20,8 @@ unfolding told_with_model
 empty [] e = refl
 empty (n ∷ s) e = absurd (omega arith)
 
-by_number : (s : List ℕ) {k : kinds'.Numbered} {p : profiles'.Numbered} → (length s ≡ 0 → ⊥) → kinds.kind_with (get_or s 0 0 / 2) ≡ k → profiles.profile_with (get_or s 0 0 % 2) ≡ p
-    → kinds.if_known k (λ kind. profiles.if_known p (λ profile. told_for (record { profile = profile; kind = kind }) (drop 1 s)) nothing) nothing ≡ told_with_model s
+by_number : (s : List ℕ) {k : Option Kind} {p : Option Profile} → (length s ≡ 0 → ⊥) → kinds.kind_with (get_or s 0 0 / 2) ≡ k → profiles.profile_with (get_or s 0 0 % 2) ≡ p
+    → option_map_or (λ kind. option_map_or (λ profile. told_for (record { profile = profile; kind = kind }) (drop 1 s)) p nothing) k nothing ≡ told_with_model s
 unfolding told_with_model
 by_number [] ne ek ep = absurd (ne refl)
 by_number (n ∷ s) ne ek ep = rw (← ek, ← ep)
