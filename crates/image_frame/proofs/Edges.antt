@@ -1,5 +1,5 @@
 -- Where the records of an image that is sound as a whole begin and end. Assumes nothing.
-use mathlib.Core.Path.{◌≡◌, refl}
+use mathlib.Core.Path.{◌≡◌, refl, sym, ap, subst, ◌∙◌}
 use mathlib.Core.Bool.{Bool, true, false, cond, false≢true}
 use mathlib.Core.List.{List, [], ◌∷◌}
 use Prim.Native.Nat.{ℕ, zero, suc, ◌+◌, ◌-◌, ◌*◌, ◌≤◌, ◌<◌}
@@ -17,14 +17,15 @@ use Rattle.panels.specs.Wall.{most_panels}
 use Rattle.lists.specs.Lists.{each}
 use Rattle.lists.proofs.Both.{both}
 use Rattle.lists.proofs.Each.{in_each, length-each}
-use Rattle.std.specs.Prelude.{Option, Some, None, Ok, Err, IsOk}
+use Rattle.std.specs.Prelude.{Option, Some, None, Result, Ok, Err, is_ok, IsOk}
+use Rattle.std.specs.Result.{result_unwrap_or}
 use Rattle.image_forms.specs.Forms.{form_with}
 use Rattle.refusals.specs.declared.Refusal.{Refusal}
 use Rattle.image_frame.specs.Frame.{last_byte, count_of, starts_at, edge, rises, starts_fit, frame_of, IsFrame, record_in, records_in}
 
-pub frame_is : (image : List ℕ) → IsOk (frame_of image) → IsFrame image × (frame_of image ≡ Ok image)
+sound : (image : List ℕ) → IsOk (frame_of image) → IsFrame image × (frame_of image ≡ Ok image)
 unfolding frame_of
-frame_is image e = go _ _ _ _ _ refl refl refl refl refl e
+sound image e = go _ _ _ _ _ refl refl refl refl refl e
   where
     go : (a : Bool) (b : Option Form) (c d f : Bool) → ltb (length image) 2 ≡ a → form_with (last_byte image) ≡ b → ltb most_panels (count_of image) ≡ c
         → ltb (length image) (2 * count_of image + 2) ≡ d → starts_fit image ≡ f
@@ -37,6 +38,12 @@ frame_is image e = go _ _ _ _ _ refl refl refl refl refl e
     go false (Some form) false false false ea eb ec ed ef e = absurd (false≢true e)
     go false (Some form) false false true ea eb ec ed ef e =
         (record { two = ltb-false _ _ ea; few = ltb-false _ _ ec; room = ltb-false _ _ ed; starts = ef }, refl)
+
+pub frame_same : (image : List ℕ) {frame : List ℕ} → frame_of image ≡ Ok frame → image ≡ frame
+frame_same image e = ap (λ (r : Result (List ℕ) Refusal). result_unwrap_or r []) (sym (sound image (ap is_ok e)).1 ∙ e)
+
+pub frame_is : (image : List ℕ) {frame : List ℕ} → frame_of image ≡ Ok frame → IsFrame frame
+frame_is image e = subst IsFrame (frame_same image e) (sound image (ap is_ok e)).0
 
 rising : (image : List ℕ) (k m : ℕ) → rises image k m ≡ true → (j : ℕ) → k ≤ j → j < k + m → edge image j < edge image (suc j)
 unfolding rises

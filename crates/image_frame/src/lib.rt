@@ -2,6 +2,7 @@
 #![tactic(auto)]
 
 ghost use Rattle.std.specs.Prelude.{◌≡◌, ◌+◌, ◌*◌, ◌≤◌, ◌<◌, List, ℕ, length};
+ghost use Rattle.panels.specs.Wall.{most_panels};
 ghost use Rattle.image_frame.specs.Frame.{form_of, count_of, edge, record_in, starts_fit, frame_of, IsFrame};
 
 use image_forms::Form;
@@ -10,6 +11,7 @@ use refusals::Refusal;
 use std::marker::Model;
 
 // An image that is sound as a whole.
+#[derive(Drop)]
 pub struct Frame<'a> {
     image: &'a [u8],
     form: Form,
@@ -90,7 +92,8 @@ impl<'a> Frame<'a> {
 
     // How many records there are.
     pub fn count(&self) -> usize
-        ensures { result ≡ count_of self.now }
+        ensures value { result ≡ count_of self.now }
+        ensures few { result ≤ most_panels }
     {
         self.count
     }
