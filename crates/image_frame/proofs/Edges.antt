@@ -23,7 +23,7 @@ use Rattle.image_forms.specs.Forms.{form_with}
 use Rattle.refusals.specs.declared.Refusal.{Refusal}
 use Rattle.image_frame.specs.Frame.{last_byte, count_of, starts_at, edge, rises, starts_fit, frame_of, IsFrame, record_in, records_in}
 
-sound : (image : List ℕ) → IsOk (frame_of image) → IsFrame image × (frame_of image ≡ Ok image)
+pub sound : (image : List ℕ) → IsOk (frame_of image) → IsFrame image × (frame_of image ≡ Ok image)
 unfolding frame_of
 sound image e = go _ _ _ _ _ refl refl refl refl refl e
   where

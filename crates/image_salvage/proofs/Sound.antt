@@ -5,7 +5,7 @@ use mathlib.Core.List.{List, [], ◌∷◌, ◌++◌}
 use Prim.Native.Nat.{ℕ, zero, suc, ◌+◌, ◌≤◌}
 use native.Mathlib.Omega.{arith}
 use lib.ListN.{length, drop, length-append}
-use Rattle.std.specs.Prelude.{Option, Some, None}
+use Rattle.std.specs.Prelude.{Option, Some, None, is_ok}
 use Rattle.settings.specs.declared.Profile.{Profile}
 use Rattle.panels.specs.Wall.{Wall, table_of, most_panels}
 use Rattle.panels.specs.WellFormed.{GoodWall, WellFormed}
@@ -14,9 +14,8 @@ use Rattle.panels.proofs.Values.{InRange}
 use Rattle.image_forms.specs.declared.Form.{Form}
 use Rattle.image_forms.specs.Forms.{head_size}
 use Rattle.image_faults.specs.declared.Fault.{Fault}
-use Rattle.refusals.specs.Refusals.{is_sound}
-use Rattle.image_frame.specs.Frame.{form_of, records_in, frame_refusal}
-use Rattle.image_frame.proofs.Edges.{fits, record_count}
+use Rattle.image_frame.specs.Frame.{form_of, records_in, frame_of}
+use Rattle.image_frame.proofs.Edges.{sound, record_count}
 use Rattle.image_record.specs.declared.Step.{Step}
 use Rattle.image_record.specs.Head.{id_in, head_in, headed}
 use Rattle.image_record.specs.Run.{run_from}
@@ -90,8 +89,8 @@ from_formed form w (bytes ∷ records) few good = go (head_in form (id_in w) byt
 -- Whatever the image, what is kept of it is well-formed.
 pub salvage_formed : (image : List ℕ) → WellFormed (table_of (salvage_of image).wall)
 unfolding salvage_of
-salvage_formed image = go (is_sound (frame_refusal image)) refl
+salvage_formed image = go (is_ok (frame_of image)) refl
   where
-    go : (t : Bool) → is_sound (frame_refusal image) ≡ t → WellFormed (table_of (cond t (salvaged_from (form_of image) [] (records_in image)) (record { wall = []; faults = [] })).wall)
-    go true e = from_formed (form_of image) [] (records_in image) (omega (arith, record_count image, (fits image e).few)) tt
+    go : (t : Bool) → is_ok (frame_of image) ≡ t → WellFormed (table_of (cond t (salvaged_from (form_of image) [] (records_in image)) (record { wall = []; faults = [] })).wall)
+    go true e = from_formed (form_of image) [] (records_in image) (omega (arith, record_count image, (sound image e).0.few)) tt
     go false e = empty_formed
