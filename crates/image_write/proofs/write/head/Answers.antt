@@ -24,6 +24,6 @@ returns-in-Two c =
     let a = c.args in
     let pair = a.p.id.0 ∷ a.p.group.0 ∷ [] in
     let long = length_laid a.at pair a.out.now (omega (arith, room)) in
-    rw (two, c.profile_number.ensures, c.in-Two.is)
+    rw (two, c.from.ensures, c.in-Two.is)
     (laid_set (a.at + 2) _ (laid_at a.at pair a.out.now) (rw long (omega (arith, three)))
     ∙ laid_then a.at (a.at + 2) pair _ a.out.now refl (omega (arith, three)))
