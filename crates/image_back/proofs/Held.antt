@@ -4,7 +4,7 @@ use mathlib.Core.Bool.{Bool, true}
 use mathlib.Core.List.{List, [], ◌∷◌, ◌++◌}
 use Prim.Native.Nat.{ℕ}
 use lib.ListN.{drop}
-use Rattle.std.specs.Prelude.{Option, Some, Result, Ok, Err, IfOk, unwrap_or}
+use Rattle.std.specs.Prelude.{Option, Result, Ok, Err, IfOk, unwrap_or}
 use Rattle.settings.specs.declared.Profile.{Profile}
 use Rattle.panels.specs.declared.Panel.{Panel}
 use Rattle.panels.specs.Wall.{Wall}

@@ -5,7 +5,7 @@ use mathlib.Core.List.{List}
 use Prim.Native.Nat.{ℕ}
 use Rattle.panels.specs.Wall.{Wall}
 use Rattle.image_forms.specs.declared.Form.{Form}
-use Rattle.image_record.specs.Head.{marked, id_in, head_in}
+use Rattle.image_record.specs.Head.{marked, id_in}
 use Rattle.image_record.proofs.Heads.{Marks, head_alike}
 use Rattle.image_read.specs.Read.{panel_in}
 

@@ -1,6 +1,6 @@
 -- Reading gives only well-formed tables, and leaves fresh what the form has no field for. Assumes nothing.
 use mathlib.Core.Path.{◌≡◌, refl, ap, subst}
-use mathlib.Core.Bool.{Bool, true, false, false≢true}
+use mathlib.Core.Bool.{Bool, false, false≢true}
 use mathlib.Core.List.{List, [], ◌∷◌, ◌++◌}
 use Prim.Native.Nat.{ℕ, ◌+◌, ◌≤◌, ◌<◌}
 use native.Mathlib.Omega.{arith}
@@ -15,10 +15,10 @@ use Rattle.lists.proofs.Each.{length-each}
 use Rattle.panels.specs.Wall.{Wall, blank, table_of, most_panels}
 use Rattle.panels.specs.declared.Panel.{Panel}
 use Rattle.panels.specs.WellFormed.{GoodWall, WellFormed}
-use Rattle.panels.proofs.Formed.{formed, empty_formed}
+use Rattle.panels.proofs.Formed.{formed}
 use Rattle.panels.proofs.Values.{InRange}
 use Rattle.image_forms.specs.declared.Form.{Form}
-use Rattle.image_forms.specs.Forms.{head_size, profile_in, has_field}
+use Rattle.image_forms.specs.Forms.{head_size, has_field}
 use Rattle.refusals.specs.declared.Refusal.{Refusal}
 use Rattle.refusals.specs.Refusals.{if_sound}
 use Rattle.image_frame.specs.Frame.{form_of, count_of, record_in, records_in, frame_of, IsFrame}

@@ -9,11 +9,7 @@ use settings::{Profile, ROW_COUNT, VALUE_COUNT};
 
 // The values of a panel of a profile whose record, of this form, goes on with these bytes.
 #[tactic(auto, unfolding(crate::specs::Fields::fields_from))]
-pub fn fields_of(
-    form: Form,
-    profile: Profile,
-    bytes: &[u8],
-) -> Result<[u8; VALUE_COUNT], Refusal>
+pub fn fields_of(form: Form, profile: Profile, bytes: &[u8]) -> Result<[u8; VALUE_COUNT], Refusal>
     ensures { result ≡ fields_in form profile bytes.now }
 {
     let mut values = settings::fresh(profile);

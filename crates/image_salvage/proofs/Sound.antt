@@ -1,11 +1,15 @@
 -- What is kept is in range, and each panel that is kept is good behind the wall. Assumes nothing.
-use mathlib.Core.Path.{◌≡◌, refl, sym, subst}
-use mathlib.Core.Bool.{Bool, true, false, cond}
+use mathlib.Core.Path.{◌≡◌, refl, sym, ap, subst}
+use mathlib.Core.Bool.{Bool, true, false, cond, false≢true}
 use mathlib.Core.List.{List, [], ◌∷◌, ◌++◌}
 use Prim.Native.Nat.{ℕ, zero, suc, ◌+◌, ◌≤◌}
 use native.Mathlib.Omega.{arith}
 use lib.ListN.{length, drop, length-append}
-use Rattle.std.specs.Prelude.{Option, Some, None, is_ok}
+use Rattle.std.specs.Prelude.{Option, Some, None, Result, Ok, Err, is_ok}
+use Rattle.std.specs.Result.{result_unwrap_or}
+use Rattle.refusals.specs.declared.Refusal.{Refusal}
+use Rattle.refusals.specs.Refusals.{if_sound}
+use Rattle.image_salvage.specs.declared.Salvaged.{Salvaged}
 use Rattle.settings.specs.declared.Profile.{Profile}
 use Rattle.panels.specs.Wall.{Wall, table_of, most_panels}
 use Rattle.panels.specs.WellFormed.{GoodWall, WellFormed}
@@ -23,7 +27,7 @@ use Rattle.image_record.proofs.Gathering.{Gathering, none_gathered, passed_on}
 use Rattle.image_record.proofs.Runs.{run_gathers}
 use Rattle.image_record.proofs.Heads.{headed-good}
 use Rattle.image_salvage.specs.Kept.{Kept, kept_from, kept_of, most_faults}
-use Rattle.image_salvage.specs.Salvaged.{Salvage, behind_faults, salvaged_from, salvage_of}
+use Rattle.image_salvage.specs.Salvaged.{Salvage, behind_faults, salvaged_from, salvage_of, told_as, salvaged_as}
 use Rattle.image_salvage.proofs.Walk.{kept_step, kept_passed, behind_run}
 
 module _ (form : Form) (profile : Profile) where
@@ -94,3 +98,14 @@ salvage_formed image = go (is_ok (frame_of image)) refl
     go : (t : Bool) → is_ok (frame_of image) ≡ t → WellFormed (table_of (cond t (salvaged_from (form_of image) [] (records_in image)) (record { wall = []; faults = [] })).wall)
     go true e = from_formed (form_of image) [] (records_in image) (omega (arith, record_count image, (sound image e).0.few)) tt
     go false e = empty_formed
+
+-- what is told of an image that is not refused
+pub salvaged_is : (image : List ℕ) {s : Salvaged} → salvaged_as image ≡ Ok s → s ≡ told_as (salvage_of image)
+salvaged_is image {s} e = go (frame_of image) e
+  where
+    go : (f : Result (List ℕ) Refusal) → if_sound f (λ frame. Ok (told_as (salvage_of image))) ≡ Ok s → s ≡ told_as (salvage_of image)
+    go (Ok frame) e = sym (ap (λ (r : Result Salvaged Refusal). result_unwrap_or r s) e)
+    go (Err r) e = absurd (false≢true (ap is_ok e))
+
+pub table_formed : (image : List ℕ) {s : Salvaged} → salvaged_as image ≡ Ok s → WellFormed s.table
+table_formed image e = subst WellFormed (sym (ap (λ (r : Salvaged). r.table) (salvaged_is image e))) (salvage_formed image)

@@ -1,5 +1,5 @@
 -- What the parts of a salvage leave together. Assumes nothing.
-use mathlib.Core.Path.{◌≡◌, refl, sym, ap, ap₂, subst, ◌∙◌}
+use mathlib.Core.Path.{◌≡◌, refl, sym, ap, ap₂, ◌∙◌}
 use mathlib.Core.Bool.{Bool, true, false, cond, ◌&&◌, false≢true}
 use mathlib.Core.List.{List}
 use Prim.Native.Nat.{ℕ, ◌≤◌}
@@ -8,21 +8,20 @@ use lib.Dec.{leb}
 use lib.ListN.{length, take}
 use lib.Seq.{take_at}
 use Rattle.std.specs.Prelude.{Result, Ok, Err, is_ok, unwrap_or}
-use Rattle.std.specs.Result.{result_err, result_unwrap_or}
+use Rattle.std.specs.Result.{result_err}
 use Rattle.lists.specs.Lists.{laid_over}
 use Rattle.refusals.specs.declared.Refusal.{Refusal}
 use Rattle.refusals.specs.Refusals.{refusal_number, no_room, if_sound}
 use Rattle.lists.proofs.Laid.{length_laid, laid_over_lem}
 use Rattle.packet.specs.declared.Damage.{Damage}
 use Rattle.panels.specs.Wall.{Wall, panels_of}
-use Rattle.panels.specs.WellFormed.{WellFormed}
 use Rattle.panels.proofs.Laws.{panels_of_table}
 use Rattle.image_forms.specs.declared.Form.{Form}
 use Rattle.image_frame.specs.Frame.{frame_of}
 use Rattle.image_write.specs.Written.{setup_of, size_of}
 use Rattle.image_salvage.specs.declared.Salvaged.{Salvaged}
 use Rattle.image_salvage.specs.Salvaged.{salvage_of, text_of, lines_cap, told_as, salvaged_as}
-use Rattle.image_salvage.proofs.Sound.{salvage_formed}
+use Rattle.image_salvage.proofs.Sound.{salvaged_is}
 use Rattle.image_salvage.proofs.Told.{text_short}
 use Rattle.undivarro.specs.Calls.{After, refused, given, unless_refused, after_salvage}
 
@@ -36,15 +35,8 @@ salvage-refused image lines out {r} e = go (frame_of image) _ e
     go (Err d) then e = ap (λ (d : Refusal). refused (refusal_number d) lines out) (ap (λ (s : Result Salvaged Refusal). unwrap_or (result_err s) r) (sym e))
 
 module _ (image : List ℕ) {s : Salvaged} (is : salvaged_as image ≡ Ok s) where
-  kept_is : s ≡ told_as (salvage_of image)
-  kept_is = go (frame_of image) is
-    where
-      go : (f : Result (List ℕ) Refusal) → if_sound f (λ frame. Ok (told_as (salvage_of image))) ≡ Ok s → s ≡ told_as (salvage_of image)
-      go (Ok frame) e = sym (ap (λ (r : Result Salvaged Refusal). result_unwrap_or r s) e)
-      go (Err r) e = absurd (false≢true (ap is_ok e))
-
-  pub formed_kept : WellFormed s.table
-  formed_kept = subst WellFormed (sym (ap (λ (r : Salvaged). r.table) kept_is)) (salvage_formed image)
+  abbrev kept_is : s ≡ told_as (salvage_of image)
+  kept_is = salvaged_is image is
 
   pub wall-kept : panels_of s.table ≡ (salvage_of image).wall
   wall-kept = ap (λ (r : Salvaged). panels_of r.table) kept_is ∙ panels_of_table (salvage_of image).wall

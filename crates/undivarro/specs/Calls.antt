@@ -2,7 +2,7 @@
 -- back writes form 1; A3: play tells what is wrong with the burst; A7; A9: a list is played; A11: play takes the number of the
 -- line's edition.
 use Rattle.std.specs.Option.{option_map_or}
-use Rattle.std.specs.Prelude.{ℕ, Bool, true, cond, ◌&&◌, List, [], leb, eqb, length, Result, Ok, Err}
+use Rattle.std.specs.Prelude.{ℕ, cond, ◌&&◌, List, [], leb, eqb, length, Result, Ok, Err}
 use Rattle.packet.specs.declared.Damage.{Damage}
 use Rattle.packet.specs.declared.Edition.{Edition}
 use Rattle.packet.specs.Edition.{edition_number, edition_with}

@@ -1,5 +1,5 @@
 -- The numbers and the buffers are those of the definition, on a refusal and otherwise. Assumes nothing.
-use mathlib.Core.Path.{◌≡◌, sym, ap, ap₂, ◌∙◌}
+use mathlib.Core.Path.{sym, ap, ap₂, ◌∙◌}
 use mathlib.Core.List.{List}
 use Prim.Native.Nat.{ℕ, ◌≤◌}
 use lib.ListN.{length}
@@ -14,11 +14,12 @@ use Rattle.undivarro.specs.declared.Outcome.{Outcome}
 use Rattle.image_salvage.specs.Salvaged.{lines_cap}
 use Rattle.undivarro.specs.Calls.{After, given}
 use Rattle.undivarro.proofs.Calls.{first_room, second_room}
-use Rattle.undivarro.proofs.Salvages.{formed_kept, wall-kept, told_short, text_long, front_told, count-told, salvage-refused, salvage-no-room, salvage-given}
+use Rattle.image_salvage.proofs.Sound.{table_formed}
+use Rattle.undivarro.proofs.Salvages.{wall-kept, told_short, text_long, front_told, count-told, salvage-refused, salvage-no-room, salvage-given}
 use Rattle.undivarro.proofs.salvaged.Goals as goal
 
 pub has_room-requires : goal.has_room-requires
-has_room-requires c = formed_kept c.args.image.now (sym c.salvage.ensures.value ∙ c.in_ok-kept.was)
+has_room-requires c = table_formed c.args.image.now (sym c.salvage.ensures.value ∙ c.in_ok-kept.was)
 
 pub returns-in_err-kept : goal.returns-in_err-kept
 returns-in_err-kept c =
@@ -43,7 +44,7 @@ put_text-requires c =
 
 pub put_setup-written-requires : goal.put_setup-written-requires
 put_setup-written-requires c =
-    (formed_kept c.args.image.now (sym c.salvage.ensures.value ∙ c.in_ok-kept.was), two_holds _, second_room _ _ _ _ (sym c.has_room.ensures ∙ c.if-not-has_room.false))
+    (table_formed c.args.image.now (sym c.salvage.ensures.value ∙ c.in_ok-kept.was), two_holds _, second_room _ _ _ _ (sym c.has_room.ensures ∙ c.if-not-has_room.false))
 
 pub returns : goal.returns
 returns c =

@@ -1,7 +1,7 @@
 use mathlib.Core.Path.{◌≡◌, refl, sym, ap, ◌∙◌}
 use mathlib.Core.Bool.{Bool, false≢true}
 use mathlib.Core.List.{List}
-use Prim.Native.Nat.{ℕ, ◌-◌, ◌≤◌}
+use Prim.Native.Nat.{ℕ, ◌-◌}
 use native.Mathlib.Omega.{arith}
 use lib.ListN.{length, take, drop, length-drop}
 use lib.Seq.{take_all}
@@ -9,13 +9,12 @@ use Rattle.std.specs.Prelude.{Option, Some, None, Result, Ok, Err, is_ok, ok_or}
 use Rattle.std.specs.Result.{result_ok}
 use Rattle.std.proofs.lemmas.Result.{err_from_is_err_and}
 use Rattle.settings.specs.declared.Profile.{Profile}
-use Rattle.panels.specs.declared.Panel.{Panel}
 use Rattle.image_forms.specs.declared.Form.{Form}
 use Rattle.image_forms.specs.Forms.{head_size}
 use Rattle.image_forms.proofs.Laws.{head_some}
 use Rattle.refusals.specs.declared.Refusal.{Refusal}
 use Rattle.refusals.specs.Refusals.{if_sound}
-use Rattle.image_record.specs.Head.{marked, head_in, headed}
+use Rattle.image_record.specs.Head.{head_in, headed}
 use Rattle.image_record.proofs.Heads.{head-whole}
 use Rattle.image_read.specs.Fields.{fields_in}
 use Rattle.image_read.specs.Read.{panel_in}

@@ -1,22 +1,19 @@
-use mathlib.Core.Path.{◌≡◌, sym, ap, ap₂, ◌∙◌}
-use mathlib.Core.Bool.{Bool}
+use mathlib.Core.Path.{sym, ap, ap₂, ◌∙◌}
 use mathlib.Core.List.{List}
 use Prim.Native.Nat.{ℕ, ◌+◌, ◌≤◌, ◌<◌}
 use native.Mathlib.Omega.{arith}
 use borrow.Author.Rules.{rules}
 use lib.ListN.{length}
-use Rattle.std.specs.Prelude.{Option}
 use Rattle.lists.specs.Lists.{laid_at}
 use Rattle.image_forms.specs.declared.Form.{Form}
-use Rattle.panels.specs.declared.Panel.{Panel}
 use Rattle.panels.specs.declared.Table.{Table}
 use Rattle.panels.specs.Wall.{table_of, most_panels}
-use Rattle.image_frame.specs.Frame.{form_of, count_of, record_in}
+use Rattle.image_frame.specs.Frame.{count_of}
 use Rattle.image_salvage.specs.declared.KeptRecord.{KeptRecord}
 use Rattle.image_salvage.specs.declared.Salvaged.{Salvaged}
 use Rattle.image_salvage.specs.Salvaged.{lines_of, lines_cap}
 use Rattle.image_salvage.specs.Private.Marked.{faults_by, record_by}
-use Rattle.image_salvage.proofs.Rounds.{begins, ended, piece_room, dropped_on, kept_on}
+use Rattle.image_salvage.proofs.Rounds.{begins, ended, dropped_on, kept_on}
 use Rattle.image_salvage.proofs.records.all.Goals as goal
 use Rattle.image_salvage.proofs.records.all.Goals.{in-Some, in_default}
 
@@ -36,12 +33,12 @@ loop-k-preserved c =
     ∙ ap₂ (λ (f : Form) (b : List ℕ). laid_at c.loop-k.told (lines_of (k + 1) (faults_by f c.loop-k.seen b)) c.loop-k.lines) c.form-form.ensures c.record.ensures in
     let placed = ap (λ (r : KeptRecord). r.next) value in
     elim c.match-record.branch [
-    | in-Some w ↦
-        rw (w.places-is, w.kept-is, w.seen-is)
-        (kept_on _ _ c.loop-k.invariant most enough more (ap (λ (r : KeptRecord). r.panel) (sym value) ∙ w.in-Some.is) laid placed (omega arith))
-    | in_default w ↦
-        rw (w.places-is, w.kept-is, w.seen-is)
-        (dropped_on _ _ c.loop-k.invariant most enough more (ap (λ (r : KeptRecord). r.panel) (sym value) ∙ w.in_default.is) laid placed)
+      | in-Some w ↦
+          rw (w.places-is, w.kept-is, w.seen-is)
+          (kept_on _ _ c.loop-k.invariant most enough more (ap (λ (r : KeptRecord). r.panel) (sym value) ∙ w.in-Some.is) laid placed (omega arith))
+      | in_default w ↦
+          rw (w.places-is, w.kept-is, w.seen-is)
+          (dropped_on _ _ c.loop-k.invariant most enough more (ap (λ (r : KeptRecord). r.panel) (sym value) ∙ w.in_default.is) laid placed)
     ]
 
 pub returns-clause-value : goal.returns-clause-value

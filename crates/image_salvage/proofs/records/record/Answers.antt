@@ -1,5 +1,4 @@
 use mathlib.Core.Path.{◌≡◌, sym, ap, ap₂, ◌∙◌}
-use mathlib.Core.Bool.{true, false}
 use mathlib.Core.List.{List}
 use Prim.Native.Nat.{ℕ, ◌+◌, ◌-◌, ◌≤◌}
 use native.Mathlib.Omega.{arith}
@@ -7,7 +6,6 @@ use lib.ListN.{length, take, drop, length-drop}
 use lib.Seq.{take_all}
 use Rattle.std.specs.Prelude.{Some, None}
 use Rattle.lists.specs.Lists.{laid_at}
-use Rattle.panels.specs.declared.Panel.{Panel}
 use Rattle.image_forms.specs.Forms.{head_size}
 use Rattle.image_forms.proofs.Laws.{head_some}
 use Rattle.image_faults.specs.declared.Fault.{Fault}
