@@ -7,13 +7,12 @@ use native.Mathlib.Omega.{arith}
 use lib.Dec.{leb}
 use lib.ListN.{length, take}
 use lib.Seq.{take_at}
-use Rattle.std.specs.Prelude.{Result, Ok, Err, is_ok, unwrap_or}
+use Rattle.std.specs.Prelude.{None, Result, Ok, Err, is_ok, unwrap_or}
 use Rattle.std.specs.Result.{result_err}
 use Rattle.lists.specs.Lists.{laid_over}
 use Rattle.refusals.specs.declared.Refusal.{Refusal}
 use Rattle.refusals.specs.Refusals.{refusal_number, no_room, if_sound}
 use Rattle.lists.proofs.Laid.{length_laid, laid_over_lem}
-use Rattle.packet.specs.declared.Damage.{Damage}
 use Rattle.panels.specs.Wall.{Wall, panels_of}
 use Rattle.panels.proofs.Laws.{panels_of_table}
 use Rattle.image_forms.specs.declared.Form.{Form}
@@ -60,7 +59,7 @@ module _ (image : List ℕ) {s : Salvaged} (is : salvaged_as image ≡ Ok s) whe
   -- and both ends
   module _ (lines out : List ℕ) where
     abbrev ends : Bool → After
-    ends room = cond room (given (text_of (salvage_of image)) (setup_of Form.Two (salvage_of image).wall) Damage.Nothing lines out) (refused no_room lines out)
+    ends room = cond room (given (text_of (salvage_of image)) (setup_of Form.Two (salvage_of image).wall) None lines out) (refused no_room lines out)
 
     by_room : (room : Bool) → (leb lines_cap (length lines) && leb (size_of Form.Two (panels_of s.table)) (length out)) ≡ room → after_salvage image lines out ≡ ends room
     unfolding after_salvage
@@ -76,5 +75,5 @@ module _ (image : List ℕ) {s : Salvaged} (is : salvaged_as image ≡ Ok s) whe
     salvage-no-room r = sym (by_room false r)
 
     pub salvage-given : (leb lines_cap (length lines) && leb (size_of Form.Two (panels_of s.table)) (length out)) ≡ true
-        → given (text_of (salvage_of image)) (setup_of Form.Two (salvage_of image).wall) Damage.Nothing lines out ≡ after_salvage image lines out
+        → given (text_of (salvage_of image)) (setup_of Form.Two (salvage_of image).wall) None lines out ≡ after_salvage image lines out
     salvage-given r = sym (by_room true r)

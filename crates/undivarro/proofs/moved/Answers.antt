@@ -3,7 +3,7 @@ use mathlib.Core.Path.{sym, ap, ◌∙◌}
 use mathlib.Core.List.{List, []}
 use Prim.Native.Nat.{ℕ}
 use Rattle.std.proofs.lemmas.Result.{err_from_is_err_and}
-use Rattle.packet.specs.declared.Damage.{Damage}
+use Rattle.std.specs.Prelude.{None}
 use Rattle.panels.specs.Wall.{Wall}
 use Rattle.undivarro.specs.declared.Outcome.{Outcome}
 use Rattle.image_forms.specs.declared.Form.{Form}
@@ -13,7 +13,7 @@ use Rattle.undivarro.proofs.Calls.{formed_read, second_room, setup_refused, setu
 use Rattle.undivarro.proofs.moved.Goals as goal
 
 abbrev rewritten : Form → List ℕ → Wall → After
-rewritten form out w = given [] (setup_of form w) Damage.Nothing [] out
+rewritten form out w = given [] (setup_of form w) None [] out
 
 pub loses_nothing-requires : goal.loses_nothing-requires
 loses_nothing-requires c = formed_read _ (sym c.read_image.ensures ∙ c.in_ok-table.was)

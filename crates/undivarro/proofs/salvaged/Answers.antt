@@ -7,7 +7,7 @@ use native.Mathlib.Omega.{arith}
 use Rattle.std.proofs.lemmas.Result.{err_from_is_err_and}
 use Rattle.panels.specs.Wall.{Wall}
 use Rattle.image_forms.specs.declared.Form.{Form}
-use Rattle.packet.specs.declared.Damage.{Damage}
+use Rattle.std.specs.Prelude.{None}
 use Rattle.image_write.specs.Written.{setup_of}
 use Rattle.image_write.proofs.Losing.{two_holds}
 use Rattle.undivarro.specs.declared.Outcome.{Outcome}
@@ -53,7 +53,7 @@ returns c =
     let is = sym c.salvage.ensures.value ∙ c.in_ok-kept.was in
     let told = front_told image is _ _ c.salvage.ensures.lines_after in
     let all =
-    ap₂ (λ (t : List ℕ) (w : Wall). given t (setup_of Form.Two w) Damage.Nothing a.lines.now a.out.now) told (wall-kept image is)
+    ap₂ (λ (t : List ℕ) (w : Wall). given t (setup_of Form.Two w) None a.lines.now a.out.now) told (wall-kept image is)
     ∙ salvage-given image is a.lines.now a.out.now (sym c.has_room.ensures ∙ c.if-not-has_room.false)
     in record {
       value = ap₂ {C = Outcome} (λ (n m : ℕ). record { refusal = 0; answered = n; written = m; damage = 0 }) (count-told image is _ _ c.salvage.ensures.lines_after) c.put_setup-written.ensures.value
