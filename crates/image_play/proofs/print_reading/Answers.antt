@@ -15,5 +15,5 @@ formed bytes e is = IfOk-at_ok WellFormed (sym e ∙ is) (read_formed bytes)
 pub print_image-requires : goal.print_image-requires
 print_image-requires g c = formed _ c.read_image.ensures c.in-Ok.is
 
-pub print_image-requires-in-Ok : goal.print_image-requires-2
+pub print_image-requires-in-Ok : goal.print_image-requires-in-Ok
 print_image-requires-in-Ok g c = formed _ c.read_image.ensures c.in-Ok.is
