@@ -18,7 +18,7 @@ pub struct Frame<'a> {
     count: usize,
 }
 
-// It is seen as the image's bytes.
+// It is seen as the image's bytes; form and count stand beside them, so that they are read once.
 impl<'a> Model for Frame<'a> {
     ghost Value = { List ℕ };
 
@@ -40,6 +40,7 @@ fn edge_at(image: &[u8], n: usize, k: usize) -> usize
     256 * image[at] as usize + image[at + 1] as usize
 }
 
+// Whether the starts rise from 0. Each is compared with the one before, which `all` would read a second time.
 fn starts_fit(image: &[u8], n: usize) -> bool
     requires { (n ≡ count_of image.now) × (2 * n + 2 ≤ length image.now) }
     ensures { result ≡ starts_fit image.now }

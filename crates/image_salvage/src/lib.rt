@@ -27,6 +27,7 @@ pub struct Salvaged {
     pub told: usize,
 }
 
+// The place of the next line is handed on: the text lies in the caller's array, since nothing here is allocated.
 // What is kept of a record's fields, and where the next line begins.
 #[derive(Clone, Copy)]
 struct KeptFields {
