@@ -26,13 +26,14 @@ pub struct Outcome {
     pub written: usize,
 }
 
-// What a call is refused by: the setup, what the form would lose, the room, or the line's edition.
+// What a call is refused by: the setup, what the form would lose, the room, the line's edition, or the list of bursts.
 #[derive(Clone, Copy, Debug, PartialEq, Eq)]
 enum Refused {
     Setup(Refusal),
     WouldLose,
     NoRoom,
     UnknownEdition,
+    List(batch::Refusal),
 }
 
 // A setup image of either form read, and its table written in a form.
@@ -97,7 +98,7 @@ fn batch_on(
     let Ok(edition) = Edition::try_from(number) else {
         return Err(Refused::UnknownEdition);
     };
-    Ok(batching::played(edition, table, list, answers, out))
+    batching::played(edition, table, list, answers, out)
 }
 
 // What can be kept of a setup image of either form, and the lines of its faults.

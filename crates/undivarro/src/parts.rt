@@ -35,7 +35,19 @@ impl From<Refusal> for Refused {
     }
 }
 
-// 11 to 18 for the setup, 31, 19 and 23.
+// And what a list of bursts is refused by.
+impl From<batch::Refusal> for Refused {
+    ghost use Rattle.std.specs.Prelude.{◌≡◌};
+    ghost use Rattle.undivarro.specs.declared.Refused.{Refused};
+
+    ghost from_gives = { λ r call. call ≡ Refused.List r };
+
+    fn from(r: batch::Refusal) -> Refused {
+        Refused::List(r)
+    }
+}
+
+// 11 to 18 for the setup, 31, 19 and 23, and 32 and 33 for the list.
 impl From<Refused> for u32 {
     ghost use Rattle.std.specs.Prelude.{◌≡◌};
     ghost use Rattle.undivarro.specs.Private.Refused.{refused_number};
@@ -48,6 +60,7 @@ impl From<Refused> for u32 {
             Refused::WouldLose => WOULD_LOSE as u32,
             Refused::NoRoom => NO_ROOM as u32,
             Refused::UnknownEdition => UNKNOWN_EDITION as u32,
+            Refused::List(r) => u8::from(r) as u32,
         }
     }
 }
