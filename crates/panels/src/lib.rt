@@ -40,21 +40,8 @@ pub struct Table {
     count: usize,
 }
 
-// The place of an ID in the table.
-#[derive(Clone, Copy)]
-pub enum Place {
-    At(usize),
-    Nowhere,
-}
-
-// A panel's video as a caller sees it: with the tint's sign, if it is a Phoenix panel's.
-#[derive(Clone, Copy)]
-pub enum Seen {
-    Phoenix(Video),
-    General,
-}
-
 // What stands in a place that no panel has.
+#[tactic(auto, unfolding(crate::specs::Wall::blank))]
 pub fn blank_panel() -> Panel
     ensures { result ≡ blank }
 {
@@ -79,6 +66,7 @@ pub fn empty_table() -> Table
 }
 
 // How many panels a table has.
+#[tactic(auto, using(crate::proofs::Laws::count_is))]
 pub fn count_of(t: Table) -> usize
     requires { WellFormed t }
     ensures { result ≡ length (panels_of t) }
@@ -98,6 +86,7 @@ pub fn panel_at(t: Table, k: usize) -> Panel
 }
 
 // All panels of a table, and the blanks behind them.
+#[tactic(auto, using(crate::proofs::Laws::held_places))]
 pub fn panels_of(t: Table) -> [Panel; MOST_PANELS]
     requires { WellFormed t }
     ensures { result ≡ in_places (panels_of t) }
@@ -113,9 +102,7 @@ pub fn table_of(panels: [Panel; MOST_PANELS], count: usize) -> Table
 {
     let mut places = [NOWHERE; ID_COUNT];
     let mut members = [0u8; GROUP_COUNT];
-    let mut k = count;
-    while 0 < k {
-        k -= 1;
+    for k in (0..count).rev() {
         let p = panels[k];
         places[p.id.0 as usize] = k as u8;
         members[p.group.0 as usize] += 1;
@@ -128,37 +115,33 @@ pub fn table_of(panels: [Panel; MOST_PANELS], count: usize) -> Table
     }
 }
 
-// The place of the panel with an ID.
-pub fn place_of(t: Table, id: MonitorId) -> Place
+// The place of the panel with an ID, if one has it.
+pub fn place_of(t: Table, id: MonitorId) -> Option<usize>
     requires { WellFormed t }
     ensures { result ≡ place_of id (panels_of t) }
 {
     let k = t.places[id.0 as usize] as usize;
-    if k < MOST_PANELS {
-        return Place::At(k);
-    }
-    Place::Nowhere
+    if k < MOST_PANELS { Some(k) } else { None }
 }
 
 // Whether a packet with this ID and group addresses a panel.
+#[tactic(auto, unfolding(crate::specs::Addressed::reaches))]
 pub fn reaches(id: MonitorId, group: GroupId, p: Panel) -> bool
     ensures { result ≡ reaches id group p }
 {
     if group.0 == 0 {
-        return id.0 == 0 || p.id.0 == id.0;
+        return id.0 == 0 || p.id == id;
     }
-    group.0 != 255 && p.group.0 == group.0
+    group.0 != 255 && p.group == group
 }
 
-// A Phoenix panel's video.
-pub fn video_of(p: Panel) -> Seen
+// A Phoenix panel's video as a caller sees it, with the tint's sign.
+pub fn video_of(p: Panel) -> Option<Video>
     ensures { result ≡ video_of p }
 {
-    let profile = p.profile;
-    let Profile::Phoenix = profile else {
-        return Seen::General;
+    let Profile::Phoenix = p.profile else {
+        return None;
     };
     let v = p.values;
-    let video = profiles::video_in([v[6], v[7], v[8], v[9], v[10], v[11], v[12]]);
-    Seen::Phoenix(video)
+    Some(profiles::video_in([v[6], v[7], v[8], v[9], v[10], v[11], v[12]]))
 }
