@@ -131,12 +131,10 @@ fn salvage(
     name: Option<String>,
 ) -> io::Result<()> {
     let mut lines = [0u8; LINES_CAP];
-    let salvaged = image_salvage::salvage(image, &mut lines);
-    let refusal = salvaged.refusal;
-    let number = refusals::refusal_number(refusal);
-    if number != 0 {
-        return print_line(rt, number);
-    }
+    let salvaged = match image_salvage::salvage(image, &mut lines) {
+        Ok(salvaged) => salvaged,
+        Err(refusal) => return print_line(rt, u8::from(refusal)),
+    };
     if let Err(error) = rt.write_all(text::front(&lines, salvaged.told)) {
         return tell(rt, "standard output", &error);
     }
