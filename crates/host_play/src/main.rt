@@ -38,7 +38,7 @@ fn print_outcome(rt: &impl Print, outcome: Outcome, values: &[u8]) -> io::Result
         Outcome::Resting => print!(rt; "resting"),
         Outcome::Waiting => print!(rt; "waiting"),
         Outcome::Over(end, n) => print_end(rt, end, n as u64, values),
-        Outcome::Refused(refusal) => print!(rt; "refused {}", host::refusal_number(refusal)),
+        Outcome::Refused(refusal) => print!(rt; "refused {}", u8::from(refusal)),
     }
 }
 
