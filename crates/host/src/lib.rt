@@ -3,6 +3,7 @@
 
 mod hearing;
 mod sending;
+mod words;
 
 ghost use Rattle.std.specs.Prelude.{◌≡◌, ℕ, ◌+◌, ◌≤◌, ltb, length};
 ghost use mathlib.Core.List.{List, flatten};
@@ -42,7 +43,7 @@ pub struct Host {
 }
 
 // Why a call did nothing.
-#[derive(Clone, Copy)]
+#[derive(Clone, Copy, Debug, PartialEq, Eq)]
 pub enum Refusal {
     NoRoom,
     Busy,
@@ -51,7 +52,7 @@ pub enum Refusal {
 }
 
 // How a request ended. A power off that was sent more than once and got NAV has left the panel off, or was refused.
-#[derive(Clone, Copy)]
+#[derive(Clone, Copy, Debug, PartialEq, Eq)]
 pub enum End {
     Unheard,
     Ack,
@@ -62,7 +63,7 @@ pub enum End {
 }
 
 // What has become of the request; where it is over, how it ended and how often its packet was sent.
-#[derive(Clone, Copy)]
+#[derive(Clone, Copy, Debug, PartialEq, Eq)]
 pub enum Outcome {
     Idle,
     Resting,

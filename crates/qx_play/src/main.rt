@@ -48,7 +48,11 @@ fn unknown(rt: &impl Print) -> io::Result<()> {
 }
 
 // Translates the request that a step tells; it is then the last.
-fn play_request(rt: &impl Print, last: Option<Request>, told: Option<Request>) -> io::Result<Option<Request>> {
+fn play_request(
+    rt: &impl Print,
+    last: Option<Request>,
+    told: Option<Request>,
+) -> io::Result<Option<Request>> {
     let Some(request) = told else {
         unknown(rt)?;
         return Ok(last);
