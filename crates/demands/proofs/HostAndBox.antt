@@ -30,7 +30,6 @@ use Rattle.packet.specs.Answered.{is_heard}
 use Rattle.packet.proofs.EachEdition.{head_few, group-none}
 use Rattle.packet.proofs.Packets.{packet_verdict, packet_data_lem}
 use Rattle.panels.specs.declared.Panel.{Panel}
-use Rattle.panels.specs.declared.Place.{Place}
 use Rattle.panels.specs.Wall.{Wall, model_of, blank, place_of, panels_of}
 use Rattle.panels.specs.WellFormed.{GoodPanel}
 use Rattle.panels.proofs.Laws.{place_there}
@@ -113,7 +112,7 @@ may_hold p row vs may = go (eqb row tiling_row) (eqb (get_or vs 3 0) 0) refl ref
         subst (λ (r : ℕ). allowed_for model r (held_then r vs p) ≡ not (past_wall r vs p)) (sym same_row)
         (open_wall p vs (four ∙ ap byte_count same_row ∙ tiling_count) (subst (λ (r : ℕ). may_set model r vs ≡ true) same_row may) (eqb-true (get_or vs 3 0) 0 ez))
 
-module _ (edition : Edition) (w : Wall) (r : Request) (k : ℕ) (asked : is_request edition r ≡ true) (due : is_heard r.id r.group ≡ true) (there : place_of r.id w ≡ Place.At k)
+module _ (edition : Edition) (w : Wall) (r : Request) (k : ℕ) (asked : is_request edition r ≡ true) (due : is_heard r.id r.group ≡ true) (there : place_of r.id w ≡ Some k)
     (told : model_of (get_or w k blank) ≡ r.model) where
   abbrev panel : Panel
   panel = get_or w k blank

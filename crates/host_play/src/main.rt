@@ -7,24 +7,15 @@ use packet::{Edition, LONGEST};
 use requests::Request;
 use settings::Profile;
 use std::io;
-use text::{LONGEST_STEP, Read};
+use text::Hex;
 use tiling::Kind;
-
-// Prints the bytes of a packet in hex.
-fn print_hex(rt: &impl Print, bytes: &[u8]) -> io::Result<()> {
-    let mut digits = [0u8; 2 * LONGEST];
-    let n = text::hex(bytes, &mut digits);
-    rt.write_all(&digits[..n])
-}
 
 // Prints what has become of the request, and behind it a report's values.
 fn print_outcome(rt: &impl Print, outcome: Outcome, values: &[u8]) -> io::Result<()> {
-    print!(rt; "{outcome}")?;
-    let Outcome::Over(End::Report, _) = outcome else {
-        return Ok(());
-    };
-    print!(rt; " ")?;
-    print_hex(rt, values)
+    match outcome {
+        Outcome::Over(End::Report, _) => print!(rt; "{outcome} {}", Hex(values)),
+        _ => print!(rt; "{outcome}"),
+    }
 }
 
 // Prints the packet given out or a dash, what has become of the request, and what was wrong with the burst.
@@ -32,7 +23,7 @@ fn show(rt: &impl Print, step: Step, out: &[u8]) -> io::Result<Host> {
     if step.length == 0 {
         print!(rt; "-")?;
     } else {
-        print_hex(rt, text::front(out, step.length))?;
+        print!(rt; "{}", Hex(text::front(out, step.length)))?;
     }
     print!(rt; " ")?;
     let values = step.values;
@@ -113,22 +104,12 @@ fn play(rt: &impl Print, host: Host, step: &[u8]) -> io::Result<Host> {
     }
 }
 
-// Every step of standard input, in order. The loop counts its turns, since a proved loop has to end and nothing says that the
-// input does.
+// Every step of standard input, in order.
 fn run(rt: &(impl Print + Input)) -> io::Result<()> {
-    let mut host = Host::open(Edition::Sicp201);
-    let mut reader = rt.reader();
-    for number in 0..u64::MAX {
-        let mut buffer = [0u8; LONGEST_STEP];
-        match text::read_step(&mut reader, &mut buffer)? {
-            Read::Step(n) => {
-                print!(rt; "{} ", number + 1)?;
-                host = play(rt, host, text::front(&buffer, n))?;
-            }
-            Read::Cut => return println!(rt; "cut {number}"),
-            Read::End => return println!(rt; "end {number}"),
-        }
-    }
+    text::each_step(rt, Host::open(Edition::Sicp201), |host, number, step| {
+        print!(rt; "{number} ")?;
+        play(rt, host, step)
+    })?;
     Ok(())
 }
 
