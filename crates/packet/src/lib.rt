@@ -3,6 +3,7 @@
 
 mod by_front;
 mod editions;
+mod words;
 
 ghost use Rattle.std.specs.Prelude.{◌≡◌, Some};
 ghost use Rattle.packet.specs.Control.{control_byte};
