@@ -114,13 +114,15 @@ pub fn damage_number(damage: Option<Damage>) -> u8
     damage.map_or(0, u8::from)
 }
 
-// What is wrong with a burst that has this verdict.
-pub fn damage_in(verdict: Verdict) -> Option<Damage>
-    ensures { result ≡ damage_in verdict }
-{
-    match verdict {
-        Verdict::Damaged(damage) => Some(damage),
-        Verdict::Empty | Verdict::Intact { .. } => None,
+impl Verdict {
+    // What is wrong with a burst that has this verdict.
+    pub fn damage(self) -> Option<Damage>
+        ensures { result ≡ damage_in self }
+    {
+        match self {
+            Verdict::Damaged(damage) => Some(damage),
+            Verdict::Empty | Verdict::Intact { .. } => None,
+        }
     }
 }
 
