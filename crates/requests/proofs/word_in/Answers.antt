@@ -1,9 +1,17 @@
-use mathlib.Core.Path.{◌≡◌, sym, subst, ◌∙◌}
-use Rattle.codes.specs.declared.Found.{Found}
-use Rattle.codes.proofs.Laws.{IsFound, found_right}
-use Rattle.requests.specs.Said.{ended_by, word_in}
+use mathlib.Core.Path.{◌≡◌, sym, ap, ◌∙◌}
+use Rattle.std.proofs.Common.{ℕ, List, Bool, false, Option, Some}
+use Rattle.codes.specs.declared.Code.{Code}
+use Rattle.codes.specs.Found.{found_by}
+use Rattle.models.specs.declared.Model.{Model}
+use Rattle.packet.specs.declared.Control.{Control}
+use Rattle.requests.specs.Said.{is_control, ended_by, word_in}
 use Rattle.requests.proofs.Words.{word_found}
 use Rattle.requests.proofs.word_in.Goals as goal
+
+-- No NACK and no NAV: what was found by the code says the rest. Assumes nothing.
+found : (model : Model) (code : ℕ) (d : List ℕ) {nack nav : Bool} {found f : Option Code} → nack ≡ is_control Control.Nack d → nack ≡ false
+    → nav ≡ is_control Control.Nav d → nav ≡ false → found ≡ found_by code → found ≡ f → word_in model code d ≡ ended_by model f d
+found model code d nack no_nack nav no_nav is e = word_found model code d _ (sym nack ∙ no_nack) (sym nav ∙ no_nav) (sym is ∙ e)
 
 pub returns-then-is_control : goal.returns-then-is_control
 unfolding word_in
@@ -13,35 +21,26 @@ pub returns-then-is_control-2 : goal.returns-then-is_control-2
 unfolding word_in
 returns-then-is_control-2 c = simp (sym c.is_control.ensures ∙ c.if-is_control.false, sym c.is_control-2.ensures ∙ c.if-is_control-2.true)
 
-pub is_report-requires : goal.is_report-requires
-is_report-requires c = (subst (IsFound _) (sym c.found_by-found.ensures ∙ c.in-Get.is) (found_right _)).0
-
 pub returns-then-is_control-3 : goal.returns-then-is_control-3
 unfolding ended_by
 returns-then-is_control-3 c =
-    let past : (f : Found) → c.found_by-found.result ≡ f → let a = c.args in word_in a.model a.code a.d.now ≡ ended_by a.model f a.d.now = λ f e. word_found _ _ _ f (sym c.is_control.ensures ∙ c.if-is_control.false) (sym c.is_control-2.ensures ∙ c.if-is_control-2.false) (sym c.found_by-found.ensures ∙ e) in
-    sym (past _ c.in-Set.is ∙ simp (sym c.is_control-in-Set.ensures ∙ c.if-is_control-3.true))
+    sym (found _ _ _ c.is_control.ensures c.if-is_control.false c.is_control-2.ensures c.if-is_control-2.false c.found_by-found.ensures (c.in-Some.is ∙ ap Some c.in-Set.is) ∙ simp (sym c.is_control-in-Set.ensures ∙ c.if-is_control-3.true))
 
 pub returns-else-is_control-3 : goal.returns-else-is_control-3
 unfolding ended_by
 returns-else-is_control-3 c =
-    let past : (f : Found) → c.found_by-found.result ≡ f → let a = c.args in word_in a.model a.code a.d.now ≡ ended_by a.model f a.d.now = λ f e. word_found _ _ _ f (sym c.is_control.ensures ∙ c.if-is_control.false) (sym c.is_control-2.ensures ∙ c.if-is_control-2.false) (sym c.found_by-found.ensures ∙ e) in
-    sym (past _ c.in-Set.is ∙ simp (sym c.is_control-in-Set.ensures ∙ c.if-is_control-3.false))
+    sym (found _ _ _ c.is_control.ensures c.if-is_control.false c.is_control-2.ensures c.if-is_control-2.false c.found_by-found.ensures (c.in-Some.is ∙ ap Some c.in-Set.is) ∙ simp (sym c.is_control-in-Set.ensures ∙ c.if-is_control-3.false))
 
 pub returns-then-is_report : goal.returns-then-is_report
 unfolding ended_by
 returns-then-is_report c =
-    let past : (f : Found) → c.found_by-found.result ≡ f → let a = c.args in word_in a.model a.code a.d.now ≡ ended_by a.model f a.d.now = λ f e. word_found _ _ _ f (sym c.is_control.ensures ∙ c.if-is_control.false) (sym c.is_control-2.ensures ∙ c.if-is_control-2.false) (sym c.found_by-found.ensures ∙ e) in
-    sym (past _ c.in-Get.is ∙ simp (sym c.is_report.ensures ∙ c.if-is_report.true))
+    sym (found _ _ _ c.is_control.ensures c.if-is_control.false c.is_control-2.ensures c.if-is_control-2.false c.found_by-found.ensures (c.in-Some.is ∙ ap Some c.in-Get.is) ∙ simp (sym c.is_report.ensures ∙ c.if-is_report.true))
 
 pub returns-else-is_report : goal.returns-else-is_report
 unfolding ended_by
 returns-else-is_report c =
-    let past : (f : Found) → c.found_by-found.result ≡ f → let a = c.args in word_in a.model a.code a.d.now ≡ ended_by a.model f a.d.now = λ f e. word_found _ _ _ f (sym c.is_control.ensures ∙ c.if-is_control.false) (sym c.is_control-2.ensures ∙ c.if-is_control-2.false) (sym c.found_by-found.ensures ∙ e) in
-    sym (past _ c.in-Get.is ∙ simp (sym c.is_report.ensures ∙ c.if-is_report.false))
+    sym (found _ _ _ c.is_control.ensures c.if-is_control.false c.is_control-2.ensures c.if-is_control-2.false c.found_by-found.ensures (c.in-Some.is ∙ ap Some c.in-Get.is) ∙ simp (sym c.is_report.ensures ∙ c.if-is_report.false))
 
-pub returns-in-Nothing : goal.returns-in-Nothing
+pub returns-in_default : goal.returns-in_default
 unfolding ended_by
-returns-in-Nothing c =
-    let past : (f : Found) → c.found_by-found.result ≡ f → let a = c.args in word_in a.model a.code a.d.now ≡ ended_by a.model f a.d.now = λ f e. word_found _ _ _ f (sym c.is_control.ensures ∙ c.if-is_control.false) (sym c.is_control-2.ensures ∙ c.if-is_control-2.false) (sym c.found_by-found.ensures ∙ e) in
-    sym (past _ c.in-Nothing.is)
+returns-in_default c = sym (found _ _ _ c.is_control.ensures c.if-is_control.false c.is_control-2.ensures c.if-is_control-2.false c.found_by-found.ensures c.in_default.is)
