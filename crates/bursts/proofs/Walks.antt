@@ -36,3 +36,26 @@ module _ (list : List ℕ) (at d n : ℕ) (is : n ≡ get_or list at d) (inside 
       go false s =
           let cut : true ≡ false = sym (ap (λ (b : Bursts). b.cut) (cut_at (leb-false _ _ s))) ∙ e in
           absurd (omega (arith, ap {B = ℕ} (λ (t : Bool). cond t 1 0) cut))
+
+-- a list with a count byte at its front
+module _ (list bytes : List ℕ) (n : ℕ) (is : list ≡ n ∷ bytes) where
+  pub front_burst : n ≤ length bytes → bursts_in list ≡ first_of (take n bytes) (bursts_in (drop n bytes))
+  front_burst h = ap bursts_in is ∙ next-burst n bytes h
+
+  pub front_cut : length bytes < n → bursts_in list ≡ record { whole = []; cut = true }
+  front_cut h = ap bursts_in is ∙ cut-burst n bytes h
+
+  -- where it is not cut, the first burst is whole
+  pub front_whole : (bursts_in list).cut ≡ false → n ≤ length bytes
+  front_whole e = go (leb n (length bytes)) refl
+    where
+      go : (t : Bool) → leb n (length bytes) ≡ t → n ≤ length bytes
+      go true s = leb-true _ _ s
+      go false s =
+          let cut : true ≡ false = sym (ap (λ (b : Bursts). b.cut) (front_cut (leb-false _ _ s))) ∙ e in
+          absurd (omega (arith, ap {B = ℕ} (λ (t : Bool). cond t 1 0) cut))
+
+-- and an empty one
+pub front_none : (list : List ℕ) → length list ≡ 0 → bursts_in list ≡ record { whole = []; cut = false }
+front_none [] e = no_burst
+front_none (n ∷ bytes) e = absurd (omega arith)
