@@ -1,7 +1,7 @@
 -- A report's bytes: the get code, and the values behind it. Assumes nothing.
 use mathlib.Core.Path.{◌≡◌, sym, ap, ◌∙◌}
 use mathlib.Core.List.{List, ◌∷◌, ◌++◌}
-use Prim.Native.Nat.{ℕ, ◌+◌, ◌<◌}
+use Prim.Native.Nat.{ℕ, ◌+◌, ◌≤◌, ◌<◌}
 use native.Mathlib.Nat.{add_comm, suc-sub-suc}
 use native.Mathlib.Numerals.{add-one, one-add}
 use native.Mathlib.Omega.{arith}
@@ -9,17 +9,16 @@ use lib.ListN.{length, get_or, drop, set, replicate, length-take, length-drop}
 use lib.Seq.{paste, paste-suc, get_or-take, get_or-drop, take_all}
 use Rattle.lists.proofs.Places.{drop-replicate}
 use Rattle.panels.proofs.Values.{length-values}
-use Rattle.settings.specs.Settings.{byte_count, place, most_values, value_count, row_count, values_of}
-use Rattle.settings.proofs.Laws.{place_fits, byte-count-few}
+use Rattle.settings.specs.Settings.{byte_count, place, most_values, value_count, values_of}
+use Rattle.settings.proofs.Laws.{place_fits}
 use Rattle.packet.specs.Packet.{monitor_id}
 use Rattle.answers.specs.Reply.{report_from, most_reported}
 
 -- one value more behind the get code
-pub copied : (bytes vs : List ℕ) (row k : ℕ) → row < row_count → length bytes ≡ most_reported → length vs ≡ value_count → k < byte_count row
+pub copied : (bytes vs : List ℕ) (row k : ℕ) → byte_count row ≤ most_values → length bytes ≡ most_reported → length vs ≡ value_count → k < byte_count row
     → set (paste bytes 1 (values_of row vs) k) (k + 1) (get_or vs (place row + k) 0) ≡ paste bytes 1 (values_of row vs) (k + 1)
 copied bytes vs row k few n m h =
     let fits = place_fits row in
-    let count = byte-count-few few in
     let here : get_or vs (place row + k) 0 ≡ get_or (values_of row vs) k 0 =
     sym (get_or-take (byte_count row) (drop (place row) vs) k 0 h ∙ get_or-drop (place row) vs k 0) in
     rw (here, add_comm k 1) (paste-suc bytes 1 (values_of row vs) k 0 (omega arith) (simp (length-take, length-drop) (omega arith)) ∙ rw (add_comm 1 k, add-one))

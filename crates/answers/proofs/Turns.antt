@@ -9,7 +9,6 @@ use native.Mathlib.Omega.{arith}
 use borrow.Author.Tests.{eq-eqb, ne_eqb, eqb-true, eqb-false, lt-ltb, ltb-true, ltb-false}
 use lib.Dec.{eqb, ltb}
 use lib.ListN.{length, get_or, drop}
-use Rattle.settings.specs.Settings.{row_count}
 use Rattle.packet.specs.declared.Addressee.{Addressee}
 use Rattle.packet.specs.declared.GroupId.{GroupId}
 use Rattle.packet.specs.declared.MonitorId.{MonitorId}
@@ -104,18 +103,17 @@ module _ (i : MonitorId) (g : GroupId) (w : Wall) (few : length w ≤ most_panel
       go false ea b eb = group (eqb-false _ _ ea) (members_of g w) refl
 
   -- what a set changes, in the places of its packet
-  set_change : (row : ℕ) (d : List ℕ) → row < row_count → 0 < length d → command d ≡ set_of row (drop 1 d)
+  set_change : (row : ℕ) (d : List ℕ) → 0 < length d → command d ≡ set_of row (drop 1 d)
       → let c = change_of (entry_of w (named i g)) i g (set_of row (drop 1 d)) in
       (c.first ≡ c.end → map (turned i g (command d)) w ≡ w)
       × Fits c d w × (map (turned i g (command d)) w ≡ map (turned_by c d) w)
   unfolding change_of
-  set_change row d r h e =
+  set_change row d h e =
       let s = span_holds in
       let stay : (k : ℕ) → k < length w → Outside k (span_of (entry_of w (named i g)) i g) → (c : Command) → turned i g c (get_or w k blank) ≡ get_or w k blank =
       λ k h o c. stays i g c (get_or w k blank) (s.others k h o) in (
         (λ none. map_same (turned i g (command d)) blank w (λ k h. stay k h (no_span k _ _ none) (command d))),
         record {
-          is_row = r;
           has_code = h;
           judged = refl;
           ordered = s.ordered;
@@ -181,8 +179,8 @@ module _ (w : Wall) (few : length w ≤ most_panels) (good : GoodWall w) where
   unfolding change_of turned
   order_leaves i g d (get_of row) s (_, e) =
       leaves_same d w _ (map_same _ blank w (λ k h. either_way (reaches i g _) (ap (λ (j : Judged). panel_after j (get_or w k blank)) (judge-get (command d) row (get_or w k blank) e))))
-  order_leaves i g d (set_of row values) s (r, h, e) =
-      let (none, fits, same) = set_change i g w few good row d r h e in
+  order_leaves i g d (set_of row values) s (_, h, e) =
+      let (none, fits, same) = set_change i g w few good row d h e in
       subst (λ (c : Command). Leaves (change_of (entry_of w (named i g)) i g c) d w (map (turned i g (command d)) w)) (sym e ∙ s) (none, λ some. (fits, same))
   order_leaves i g d unavailable s n =
       leaves_same d w _ (map_same _ blank w (λ k h. either_way (reaches i g _) (ap (λ (j : Judged). panel_after j (get_or w k blank)) (n (get_or w k blank)))))

@@ -2,7 +2,7 @@
 -- are. It is how the box goes about it (02, A8); what is right says `answered`, and `answered_on` is that.
 use Rattle.std.specs.Prelude.{ℕ, suc, ◌≤◌, ◌<◌, Bool, false, cond, ◌&&◌, List, [], ◌∷◌, ◌≡◌, eqb, ltb, length, get_or, drop, replicate}
 use Rattle.settings.specs.declared.Profile.{Profile}
-use Rattle.settings.specs.Settings.{in_ranges, row_count}
+use Rattle.settings.specs.Settings.{in_ranges}
 use Rattle.packet.specs.declared.Addressee.{Addressee}
 use Rattle.packet.specs.declared.Control.{Control}
 use Rattle.packet.specs.declared.Edition.{Edition}
@@ -86,7 +86,6 @@ turned_by c d = turned c.id c.group (set_of c.row (drop 1 d))
 
 -- a change that is one of this wall: outside of its places nothing would be stored
 pub record Fits (c : Change) (d : List ℕ) (w : Wall) : Type 0 where
-  pub is_row : c.row < row_count
   pub has_code : 0 < length d
   pub judged : c.allowed ≡ allowed_by c.row (drop 1 d)
   pub ordered : c.first ≤ c.end

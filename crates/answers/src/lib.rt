@@ -11,7 +11,7 @@ pub use judging::{is_stored, with_values};
 use packet::{Control, Damage, GroupId, MonitorId};
 use panels::{Panel, Table};
 pub use playing::{answered_on, hear, play, stored};
-use settings::MOST_VALUES;
+use settings::{MOST_VALUES, Row};
 pub use turning::names_in;
 
 // A report's data at its longest: the get code, and the values of the largest row.
@@ -43,8 +43,8 @@ pub struct Reply {
 // or nothing that is available.
 #[derive(Clone, Copy)]
 enum Order {
-    Report(usize),
-    Store(usize),
+    Report(Row),
+    Store(Row),
     NotAvailable,
 }
 
@@ -78,7 +78,7 @@ pub struct Span {
 pub struct Change {
     pub id: MonitorId,
     pub group: GroupId,
-    pub row: usize,
+    pub row: Row,
     pub allowed: [bool; PROFILE_COUNT],
     pub first: usize,
     pub end: usize,

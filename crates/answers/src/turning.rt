@@ -7,6 +7,7 @@ ghost use Rattle.answers.specs.Private.Orders.{order_of, allowed_in};
 use crate::{Change, Entry, Names, Order, PROFILE_COUNT, Reply, Span, Turn, answering, judging};
 use packet::{Addressee, Control, GroupId, MonitorId, Verdict};
 use panels::{MOST_PANELS, Panel};
+use settings::Row;
 
 // A damaged burst names the panel that it seems to be for.
 pub fn names_in(verdict: Verdict, seems: Addressee) -> Names
@@ -69,7 +70,7 @@ fn nothing() -> Change
     Change {
         id: MonitorId(0),
         group: GroupId(0),
-        row: 0,
+        row: Row::KIND,
         allowed: [false; PROFILE_COUNT],
         first: 0,
         end: 0,
@@ -77,11 +78,11 @@ fn nothing() -> Change
 }
 
 // What a packet changes, if it is a set.
-fn change_of(entry: Entry, id: MonitorId, group: GroupId, order: Order, d: &[u8]) -> Change
-    requires { order ≡ order_of (command d.now) }
+fn change_of(entry: Entry, id: MonitorId, group: GroupId, order: &Order, d: &[u8]) -> Change
+    requires { order.now ≡ order_of (command d.now) }
     ensures { result ≡ change_of entry id group (command d.now) }
 {
-    match order {
+    match *order {
         Order::Report(_) => nothing(),
         Order::Store(row) => {
             let span = span_of(entry, id, group);
@@ -100,12 +101,12 @@ fn change_of(entry: Entry, id: MonitorId, group: GroupId, order: Order, d: &[u8]
 }
 
 // A panel's own reply: the report of a get, ACK to a set that it takes, else NAV.
-fn reply_from(p: Panel, order: Order, allowed: [bool; PROFILE_COUNT], d: &[u8]) -> Reply
-    requires { (order ≡ order_of (command d.now)) × (allowed ≡ allowed_in order (drop 1 d.now)) }
+fn reply_from(p: Panel, order: &Order, allowed: [bool; PROFILE_COUNT], d: &[u8]) -> Reply
+    requires { (order.now ≡ order_of (command d.now)) × (allowed ≡ allowed_in order.now (drop 1 d.now)) }
     ensures { result ≡ reply_by p.id (judge (command d.now) p) }
 {
     let id = p.id;
-    match order {
+    match *order {
         Order::Report(row) => judging::report_of(p, row),
         Order::Store(row) => {
             if judging::takes(p, row, allowed, d) {
@@ -122,11 +123,11 @@ fn reply_to(
     entry: Entry,
     id: MonitorId,
     group: GroupId,
-    order: Order,
+    order: &Order,
     allowed: [bool; PROFILE_COUNT],
     d: &[u8],
 ) -> Reply
-    requires { (order ≡ order_of (command d.now)) × (allowed ≡ allowed_in order (drop 1 d.now)) }
+    requires { (order.now ≡ order_of (command d.now)) × (allowed ≡ allowed_in order.now (drop 1 d.now)) }
     ensures { result ≡ reply_to entry id group (command d.now) }
 {
     if !packet::is_heard(id, group) {
@@ -157,9 +158,9 @@ fn turn_by(entry: Entry, id: MonitorId, group: GroupId, d: &[u8]) -> Turn
     ensures { result ≡ record { reply = reply_to entry id group (command d.now); change = change_of entry id group (command d.now) } }
 {
     let order = judging::order_of(d);
-    let change = change_of(entry, id, group, order, d);
+    let change = change_of(entry, id, group, &order, d);
     let allowed = change.allowed;
-    let reply = reply_to(entry, id, group, order, allowed, d);
+    let reply = reply_to(entry, id, group, &order, allowed, d);
     Turn { reply, change }
 }
 

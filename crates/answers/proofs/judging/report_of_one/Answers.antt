@@ -17,14 +17,14 @@ one_value row vs e h = rw (e, drop-cons vs (place row) 0)
 
 pub bounds-values-first : goal.bounds-values-first
 bounds-values-first c =
-    let small : c.place_of-first.result < value_count = omega (arith, place_fits c.args.row, c.place_of-first.ensures, c.requires.1) in
+    let small : c.place-first.result < value_count = omega (arith, place_fits c.args.row, c.place-first.ensures, c.requires) in
     small
 
 pub returns : goal.returns
 returns c =
-    let small : c.place_of-first.result < value_count = omega (arith, place_fits c.args.row, c.place_of-first.ensures, c.requires.1) in
+    let small : c.place-first.result < value_count = omega (arith, place_fits c.args.row, c.place-first.ensures, c.requires) in
     let a = c.args in
     let full : length a.p.values ≡ value_count = search rules in
-    let one = one_value a.row a.p.values c.requires.1 (omega (arith, small, c.place_of-first.ensures)) in
-    ap₂ {C = Reply} (λ (x v : ℕ). report_from a.p.id (x ∷ v ∷ [])) c.get_code.ensures (ap (λ (k : ℕ). get_or a.p.values k 0) c.place_of-first.ensures)
+    let one = one_value a.row a.p.values c.requires (omega (arith, small, c.place-first.ensures)) in
+    ap₂ {C = Reply} (λ (x v : ℕ). report_from a.p.id (x ∷ v ∷ [])) c.get_code.ensures (ap (λ (k : ℕ). get_or a.p.values k 0) c.place-first.ensures)
     ∙ ap (λ (l : List ℕ). report_from a.p.id (get_code a.row ∷ l)) (sym one)

@@ -13,7 +13,7 @@ loop-k-init c = (c.requires.1.ordered, pass_first c.requires.0 c.args.change c.a
 pub with_values-p-requires : goal.with_values-p-requires
 with_values-p-requires c =
     let fits = c.requires.1 in
-    (fits.is_row, stored_many _ _ _ c.args.d.now _ fits.has_code (sym c.is_stored.ensures ∙ c.if-is_stored.true))
+    stored_many _ _ _ c.args.d.now _ fits.has_code (sym c.is_stored.ensures ∙ c.if-is_stored.true)
 
 pub loop-k-preserved : goal.loop-k-preserved
 loop-k-preserved c =

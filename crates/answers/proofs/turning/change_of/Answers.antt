@@ -24,8 +24,7 @@ not_stored e i g unavailable h = refl
 
 pub allowed_by-allowed-requires : goal.allowed_by-allowed-requires
 allowed_by-allowed-requires c =
-    let told : (o : Order) → c.args.order ≡ o → OrderIs c.args.d.now o = λ o e. subst (OrderIs _) (sym c.requires ∙ e) (order_right _) in
-    let o = told _ c.in-Store.is in (o.0, o.1)
+    let o = subst (OrderIs _) (sym c.requires ∙ c.in-Store.is) (order_right _) in o.1
 
 pub returns-in-Report : goal.returns-in-Report
 returns-in-Report c = c.nothing.ensures ∙ sym (not_stored _ _ _ _ (subst NotStore (sym c.in-Report.is ∙ c.requires) tt))
@@ -33,7 +32,7 @@ returns-in-Report c = c.nothing.ensures ∙ sym (not_stored _ _ _ _ (subst NotSt
 pub returns-in-Store : goal.returns-in-Store
 unfolding change_of
 returns-in-Store c =
-    let told : (o : Order) → c.args.order ≡ o → OrderIs c.args.d.now o = λ o e. subst (OrderIs _) (sym c.requires ∙ e) (order_right _) in
+    let told : (o : Order) → c.args.order.now ≡ o → OrderIs c.args.d.now o = λ o e. subst (OrderIs _) (sym c.requires ∙ e) (order_right _) in
     let o = told _ c.in-Store.is in
     rw (o.2, c.allowed_by-allowed.ensures, c.span_of-span.ensures)
 
