@@ -4,6 +4,7 @@ use mathlib.Core.Bool.{Bool, true, false, cond, false≢true, ◌&&◌}
 use mathlib.Core.Logic.{inl, inr}
 use mathlib.Core.Path.{◌≡◌, refl, sym, ap, ◌∙◌}
 use mathlib.Core.List.{List, [], ◌∷◌, flatten}
+use Rattle.std.specs.Prelude.{Ok, Err}
 use lib.Dec.{leb, eqb}
 use lib.ListN.{length, get_or, drop}
 use Rattle.lists.proofs.Laid.{behind-over}
@@ -25,8 +26,8 @@ use Rattle.answers.specs.Played.{turned, answered_by, answered}
 use Rattle.lists.proofs.Mapped.{map_same}
 use Rattle.answers.proofs.Turned.{either_way, stays}
 use Rattle.image_forms.specs.declared.Form.{Form}
-use Rattle.image_write.specs.declared.Written.{Written}
-use Rattle.image_write.specs.Written.{setup_of, size_of, loses_nothing, written_of, refusal_number as image_number, output_of as image_output}
+use Rattle.image_write.specs.declared.Refusal.{Refusal as WriteRefusal}
+use Rattle.image_write.specs.Written.{setup_of, size_of, loses_nothing, written_of, written_number as image_number, output_of as image_output}
 use Rattle.refusals.specs.declared.Refusal.{Refusal as ImageRefusal}
 use Rattle.image_frame.specs.Frame.{form_of, frame_refusal, records_in}
 use Rattle.refusals.specs.Refusals.{is_sound}
@@ -92,7 +93,7 @@ unfolding written_of image_output
 image_alone form t f out = go (loses_nothing form (panels_of t)) (leb (size_of form (panels_of t)) (length out))
   where
     go : (a b : Bool)
-        → let n = cond (eqb (image_number (cond a (cond b (Written.Bytes (size_of form (panels_of t))) Written.NoRoom) Written.WouldLose)) 0) (size_of form (panels_of t)) 0 in
+        → let n = cond (eqb (image_number (cond a (cond b (Ok (size_of form (panels_of t))) (Err WriteRefusal.NoRoom)) (Err WriteRefusal.WouldLose))) 0) (size_of form (panels_of t)) 0 in
         drop n (cond (a && b) (laid_over (setup_of form (panels_of t)) out) out) ≡ drop n out
     go true true = rw (← image_size form (panels_of t) f.good) (behind-over (setup_of form (panels_of t)) out)
     go true false = refl

@@ -4,6 +4,7 @@ use mathlib.Core.Path.{◌≡◌, refl, ap, ◌∙◌}
 use mathlib.Core.Bool.{Bool, true, false, cond, ◌&&◌, ◌||◌}
 use mathlib.Core.List.{List, [], ◌∷◌, flatten}
 use mathlib.Core.Option.{none, some}
+use Rattle.std.specs.Prelude.{Ok, Err}
 use lib.Dec.{leb, ltb, eqb}
 use lib.ListN.{length, length-replicate}
 use Rattle.settings.specs.declared.Profile.{Profile}
@@ -33,10 +34,10 @@ use Rattle.host.specs.declared.Host.{Host}
 use Rattle.host.specs.Heard.{said_to}
 use Rattle.host.specs.Machine.{Happening, start, burst, mark, State, Move, most_sendings, sendings, waits, quiet, unasked, again, ending, heard, step}
 use Rattle.host.specs.Calls.{state_of, step_of}
-use Rattle.image_write.specs.declared.Written.{Written as ImageWritten}
+use Rattle.image_write.specs.declared.Refusal.{Refusal as ImageRefusal}
 use Rattle.image_forms.specs.declared.Form.{Form}
 use Rattle.image_forms.specs.Forms.{keeps}
-use Rattle.image_write.specs.Written.{size_of, loses_nothing, written_of as image_written, refusal_number as image_number}
+use Rattle.image_write.specs.Written.{size_of, loses_nothing, written_of as image_written, written_number as image_number}
 use Rattle.image_write.proofs.Losing.{two_holds}
 use Rattle.demands.specs.HostCalls.{has_room, answer_to}
 use Rattle.demands.proofs.HostCalls.{start_by, start_by_lem, refused, roomy}
@@ -86,7 +87,7 @@ image_number_lem : (form : Form) (w : Wall) (out : List ℕ)
 unfolding image_written
 image_number_lem form w out = go (loses_nothing form w) (leb (size_of form w) (length out))
   where
-    go : (a b : Bool) → image_number (cond a (cond b (ImageWritten.Bytes (size_of form w)) ImageWritten.NoRoom) ImageWritten.WouldLose) ≡ cond a (cond b 0 19) 31
+    go : (a b : Bool) → image_number (cond a (cond b (Ok (size_of form w)) (Err ImageRefusal.NoRoom)) (Err ImageRefusal.WouldLose)) ≡ cond a (cond b 0 19) 31
     go true true = refl
     go true false = refl
     go false b = refl

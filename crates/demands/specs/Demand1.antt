@@ -20,7 +20,7 @@ use Rattle.answers.specs.Judged.{command, judge, not_available}
 use Rattle.answers.specs.Played.{answered}
 use Rattle.image_forms.specs.declared.Form.{Form}
 use Rattle.refusals.specs.declared.Refusal.{Refusal as ImageRefusal}
-use Rattle.image_write.specs.Written.{size_of, written_of, refusal_number as image_number, output_of as image_output}
+use Rattle.image_write.specs.Written.{size_of, written_of, written_number as image_number, output_of as image_output}
 use Rattle.image_read.specs.Read.{read_of}
 use Rattle.host.specs.declared.Host.{Host}
 use Rattle.host.specs.declared.Refusal.{Refusal as HostRefusal}

@@ -1,6 +1,6 @@
 -- Demand 2. Each burst gets exactly the answer that 01 gives: that is `played`, to which `answers::play` is proved
 -- equal. It goes by what is read of the burst, and what it never does is said here of every reading, and so of both editions.
-use Rattle.std.specs.Prelude.{ℕ, ◌≤◌, ◌<◌, true, ◌⊎◌, ◌≡◌, length, get_or, take}
+use Rattle.std.specs.Prelude.{Ok, ℕ, ◌≤◌, ◌<◌, true, ◌⊎◌, ◌≡◌, length, get_or, take}
 use mathlib.Core.List.{List, [], ◌∷◌, map, Forall₂}
 use Rattle.settings.specs.declared.Profile.{Profile}
 use Rattle.std.specs.Prelude.{Some}
@@ -32,7 +32,6 @@ use Rattle.line.specs.Receiver.{Event, bursts_after, receiver_of, streamed}
 use Rattle.image_forms.specs.declared.Form.{Form}
 use Rattle.image_forms.specs.Forms.{has_field}
 use Rattle.refusals.specs.declared.Refusal.{Refusal}
-use Rattle.image_write.specs.declared.Written.{Written}
 use Rattle.image_write.specs.Written.{written_of, output_of}
 use Rattle.image_frame.specs.Frame.{form_of, frame_refusal, records_in}
 use Rattle.image_read.specs.Fields.{fields_in}
@@ -106,7 +105,7 @@ InRange = (t : Table) → Comes t → WellFormed t
 -- A written setup of either form reads back as the same table: all that is not refused, by 31 or 19.
 abbrev pub ReadsBack : Type 0
 ReadsBack =
-    (form : Form) (t : Table) → WellFormed t → (out : List ℕ) (n : ℕ) → written_of form (panels_of t) out ≡ Written.Bytes n
+    (form : Form) (t : Table) → WellFormed t → (out : List ℕ) (n : ℕ) → written_of form (panels_of t) out ≡ Ok n
     → let image = take n (output_of form (panels_of t) out) in
     ((in_table (read_of image)).refusal ≡ Refusal.Nothing) × ((in_table (read_of image)).table ≡ t)
 

@@ -1,10 +1,9 @@
 -- A setup moved from form to form. 02, A2.
-use Rattle.std.specs.Prelude.{ℕ, true, ◌≡◌, List, take}
+use Rattle.std.specs.Prelude.{Ok, ℕ, true, ◌≡◌, List, take}
 use Rattle.image_forms.specs.declared.Form.{Form}
 use Rattle.refusals.specs.declared.Refusal.{Refusal}
 use Rattle.image_frame.specs.Frame.{form_of}
 use Rattle.image_read.specs.Read.{read_of}
-use Rattle.image_write.specs.declared.Written.{Written}
 use Rattle.image_write.specs.Written.{loses_nothing, written_of, output_of}
 
 -- an image is read without fault, and what a form's writer puts out of the table, where it does not refuse, is the other
@@ -12,7 +11,7 @@ pub record Moved (form : Form) (image other : List ℕ) : Type 0 where
   pub sound : (read_of image).refusal ≡ Refusal.Nothing
   pub out : List ℕ
   pub count : ℕ
-  pub written : written_of form (read_of image).wall out ≡ Written.Bytes count
+  pub written : written_of form (read_of image).wall out ≡ Ok count
   pub moved : take count (output_of form (read_of image).wall out) ≡ other
 
 -- The same table is read from both.

@@ -21,7 +21,7 @@ use Rattle.host.specs.declared.Outcome.{Outcome}
 use Rattle.host.specs.Machine.{Happening, start, burst, mark}
 use Rattle.host.specs.Calls.{refusal_number as host_number}
 use Rattle.image_forms.specs.declared.Form.{Form}
-use Rattle.image_write.specs.Written.{written_of as image_written, refusal_number as image_number}
+use Rattle.image_write.specs.Written.{written_of as image_written, written_number as image_number}
 use Rattle.demands.specs.HostCalls.{Call, answer_to}
 
 -- 32 panels are there, ID 0, ID in the table, group 0, a profile that is neither 0 nor 1, a kind that is neither

@@ -7,6 +7,7 @@ use Prim.Native.Nat.{ℕ, zero, suc, ◌+◌, ◌≤◌, ◌<◌}
 use native.Mathlib.Nat.{add-zero, eq-or-lt_of_le}
 use native.Mathlib.Omega.{arith}
 use borrow.Author.Tests.{eq-eqb, ne_eqb}
+use Rattle.std.specs.Prelude.{Ok}
 use lib.ListN.{length, get_or, take, length-map}
 use lib.Seq.{append_snoc, take_at}
 use Rattle.models.specs.declared.Model.{Model}
@@ -22,7 +23,6 @@ use Rattle.refusals.specs.declared.Refusal.{Refusal}
 use Rattle.image_forms.specs.declared.Form.{Form}
 use Rattle.image_forms.specs.Forms.{has_field, keeps}
 use Rattle.image_forms.proofs.Laws.{kept_profile, kept_fresh}
-use Rattle.image_write.specs.declared.Written.{Written}
 use Rattle.image_write.specs.Written.{field, field_in, fields_of, record_of, records_of, setup_of, size_of, loses_nothing, written_of, output_of}
 use Rattle.image_read.specs.Fields.{fields_in}
 use Rattle.image_read.specs.Read.{ReadImage, record_refusal, panel_in, read_records, read_of}
@@ -182,14 +182,14 @@ module _ (form : Form) where
   image_size w good =
       image-length form (records_of form w) ∙ rw (records_long form w good, length-map w (record_of form)) (omega (arith, (products form 0 (length w)).0))
 
-  pub front_is_image : (w : Wall) → GoodWall w → (out : List ℕ) (n : ℕ) → written_of form w out ≡ Written.Bytes n → take n (output_of form w out) ≡ setup_of form w
+  pub front_is_image : (w : Wall) → GoodWall w → (out : List ℕ) (n : ℕ) → written_of form w out ≡ Ok n → take n (output_of form w out) ≡ setup_of form w
   unfolding laid_over
   front_is_image w good out n e =
       let (held, room, size) = was_written form w out n e in
       rw (size, (is_written form w out held room).1) (take_at (setup_of form w) _ (size_of form w) (image_size w good))
 
   -- ReadImage what was written of a table gives that table.
-  pub written_back : (w : Wall) → GoodWall w → length w ≤ most_panels → (out : List ℕ) (n : ℕ) → written_of form w out ≡ Written.Bytes n
+  pub written_back : (w : Wall) → GoodWall w → length w ≤ most_panels → (out : List ℕ) (n : ℕ) → written_of form w out ≡ Ok n
       → read_of (take n (output_of form w out)) ≡ record { refusal = Refusal.Nothing; wall = w }
   written_back w good few out n e =
       ap read_of (front_is_image w good out n e) ∙ reads_back w good few (was_written form w out n e).0

@@ -6,7 +6,7 @@ ghost use Rattle.std.specs.Prelude.{◌≤◌, ◌<◌, length};
 ghost use Rattle.panels.specs.WellFormed.{WellFormed};
 
 use image_forms::Form;
-use image_write::{LARGEST, Written};
+use image_write::LARGEST;
 use panels::Table;
 use std::io;
 
@@ -63,10 +63,9 @@ fn print_image(rt: &impl Print, form: Form, t: Table) -> io::Result<()>
     requires { WellFormed t }
 {
     let mut out = image_write::room();
-    let written = image_write::write_image(form, t, &mut out);
-    match written {
-        Written::Bytes(n) => print_hex(rt, text::front(&out, n)),
-        _ => print_refusal(rt, image_write::refusal_number(written)),
+    match image_write::write_image(form, t, &mut out) {
+        Ok(n) => print_hex(rt, text::front(&out, n)),
+        Err(refusal) => print_refusal(rt, refusal.into()),
     }
 }
 

@@ -18,7 +18,6 @@ use Rattle.panels.specs.Wall.{Wall, blank}
 use Rattle.panels.specs.WellFormed.{GoodWall}
 use Rattle.lists.proofs.Mapped.{at_map}
 use Rattle.panels.proofs.Formed.{good_at}
-use Rattle.image_write.specs.declared.Written.{Written}
 use Rattle.image_write.specs.Written.{field, field_in, fields_of, record_of, records_of, high_low, starts_of, image_of, record_size}
 use Rattle.image_write.specs.Private.Sizes.{fields_size}
 use Rattle.lists.proofs.Flat.{alike_long}
@@ -133,9 +132,3 @@ Products size k n = ((size + 2) * n ≡ size * n + 2 * n) × (k < n → size * k
 pub products : (form : Form) (k n : ℕ) → Products (record_size form) k n
 products Form.One k n = (omega arith, (λ h. omega arith), (λ h. omega arith), omega arith, omega arith)
 products Form.Two k n = (omega arith, (λ h. omega arith), (λ h. omega arith), omega arith, omega arith)
-
--- how many bytes were written, none on a refusal
-abbrev pub bytes_written : Written → ℕ
-bytes_written (Written.Bytes n) = n
-bytes_written Written.WouldLose = 0
-bytes_written Written.NoRoom = 0

@@ -1,9 +1,9 @@
 -- Which walls a form holds whole. Assumes nothing.
-use mathlib.Core.Path.{◌≡◌, refl, sym, ap}
+use mathlib.Core.Path.{◌≡◌, refl}
 use mathlib.Core.Bool.{Bool, true, false, cond}
 use mathlib.Core.List.{List, [], ◌∷◌, ◌++◌}
 use Prim.Native.Nat.{ℕ, ◌≤◌}
-use native.Mathlib.Omega.{arith}
+use Rattle.std.specs.Prelude.{Ok, Err}
 use borrow.Author.Tests.{leb-true, le-leb}
 use lib.Dec.{leb}
 use lib.ListN.{length}
@@ -12,7 +12,7 @@ use Rattle.panels.specs.Wall.{Wall}
 use Rattle.image_forms.specs.declared.Form.{Form}
 use Rattle.image_forms.specs.Forms.{keeps}
 use Rattle.image_forms.proofs.Laws.{two_keeps}
-use Rattle.image_write.specs.declared.Written.{Written}
+use Rattle.image_write.specs.declared.Refusal.{Refusal}
 use Rattle.image_write.specs.Written.{setup_of, size_of, loses_nothing, written_of, output_of}
 use Rattle.lists.specs.Lists.{laid_over}
 use Rattle.lists.proofs.Both.{both}
@@ -38,23 +38,18 @@ module _ (form : Form) where
 
   -- where nothing is lost and there is room an image is written, and there alone
   pub is_written : (w : Wall) (out : List ℕ) → loses_nothing form w ≡ true → size_of form w ≤ length out
-      → (written_of form w out ≡ Written.Bytes (size_of form w)) × (output_of form w out ≡ laid_over (setup_of form w) out)
+      → (written_of form w out ≡ Ok (size_of form w)) × (output_of form w out ≡ laid_over (setup_of form w) out)
   unfolding written_of output_of
   is_written w out held room = (simp (held, le-leb _ _ room), simp (held, le-leb _ _ room))
 
-  pub was_written : (w : Wall) (out : List ℕ) (n : ℕ) → written_of form w out ≡ Written.Bytes n
+  pub was_written : (w : Wall) (out : List ℕ) (n : ℕ) → written_of form w out ≡ Ok n
       → (loses_nothing form w ≡ true) × (size_of form w ≤ length out) × (n ≡ size_of form w)
   unfolding written_of
   was_written w out n e = go (loses_nothing form w) (leb (size_of form w) (length out)) refl refl e
     where
       go : (s t : Bool) → loses_nothing form w ≡ s → leb (size_of form w) (length out) ≡ t
-          → cond s (cond t (Written.Bytes (size_of form w)) Written.NoRoom) Written.WouldLose ≡ Written.Bytes n
+          → cond s (cond t (Ok (size_of form w)) (Err Refusal.NoRoom)) (Err Refusal.WouldLose) ≡ Ok n
           → (loses_nothing form w ≡ true) × (size_of form w ≤ length out) × (n ≡ size_of form w)
-      go true true es et e = (es, leb-true _ _ et, sym (ap size e))
-        where
-          size : Written → ℕ
-          size (Written.Bytes k) = k
-          size Written.WouldLose = 0
-          size Written.NoRoom = 0
-      go true false es et e = let z : ◌≡◌ {A = ℕ} 0 1 = cc in absurd (omega arith)
-      go false t es et e = let z : ◌≡◌ {A = ℕ} 0 1 = cc in absurd (omega arith)
+      go true true es et e = (es, leb-true _ _ et, cc)
+      go true false es et e = cc
+      go false t es et e = cc

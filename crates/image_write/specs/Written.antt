@@ -1,5 +1,5 @@
 -- The setup image of a wall, in either form. 01, "Setup image, form 1"; 02, A2, and refusal 31; A6.
-use Rattle.std.specs.Prelude.{ℕ, ◌+◌, ◌*◌, ◌/◌, ◌%◌, Bool, true, cond, ◌&&◌, leb, length}
+use Rattle.std.specs.Prelude.{ℕ, ◌+◌, ◌*◌, ◌/◌, ◌%◌, Bool, true, cond, ◌&&◌, leb, length, Result, Ok, Err}
 use mathlib.Core.List.{List, [], ◌∷◌, ◌++◌, map, flatten}
 use Rattle.settings.specs.Settings.{set_code, byte_count, values_of, row_count}
 use Rattle.image_forms.specs.declared.Form.{Form}
@@ -8,7 +8,7 @@ use Rattle.lists.specs.Lists.{start_of, each, laid_over}
 use Rattle.panels.specs.declared.Panel.{Panel}
 use Rattle.panels.specs.Wall.{Wall, most_panels}
 use Rattle.refusals.specs.Refusals.{no_room, would_lose}
-use Rattle.image_write.specs.declared.Written.{Written}
+use Rattle.image_write.specs.declared.Refusal.{Refusal}
 
 -- the bytes of a record with all fields of its form, 01's and 02's (A2, A6), and of a panel in all, with the two of its start
 abbrev pub record_size : Form → ℕ
@@ -67,14 +67,17 @@ loses_nothing form [] = true
 loses_nothing form (p ∷ w) = keeps form p.profile p.values && loses_nothing form w
 
 -- what writing answers: 31 comes before 19
-unfoldable pub written_of : Form → Wall → List ℕ → Written
-written_of form w out = cond (loses_nothing form w) (cond (leb (size_of form w) (length out)) (Written.Bytes (size_of form w)) Written.NoRoom) Written.WouldLose
+unfoldable pub written_of : Form → Wall → List ℕ → Result ℕ Refusal
+written_of form w out = cond (loses_nothing form w) (cond (leb (size_of form w) (length out)) (Ok (size_of form w)) (Err Refusal.NoRoom)) (Err Refusal.WouldLose)
 
--- its number, 0 where the image is written
-abbrev pub refusal_number : Written → ℕ
-refusal_number (Written.Bytes n) = 0
-refusal_number Written.WouldLose = would_lose
-refusal_number Written.NoRoom = no_room
+-- a refusal's number, and that of what writing answers, 0 where the image is written
+abbrev pub refusal_number : Refusal → ℕ
+refusal_number Refusal.WouldLose = would_lose
+refusal_number Refusal.NoRoom = no_room
+
+abbrev pub written_number : Result ℕ Refusal → ℕ
+written_number (Ok n) = 0
+written_number (Err refusal) = refusal_number refusal
 
 -- the output after it: past the image it is untouched, and on a refusal it is as before
 unfoldable pub output_of : Form → Wall → List ℕ → List ℕ

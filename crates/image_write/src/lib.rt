@@ -32,22 +32,22 @@ const TRAILER_SIZE: usize = 2;
 // The bytes of the largest image, that of a full table in form 2, whose records have a head of 3 bytes.
 pub const LARGEST: usize = (3 + ALL_FIELDS + START_SIZE) * MOST_PANELS + TRAILER_SIZE;
 
-// An image's size, once it is written; or the form would lose something; or the output has no room for it.
-#[derive(Clone, Copy)]
-pub enum Written {
-    Bytes(usize),
+// Why a table's image is not written: the form would lose something, or the output has no room for it.
+#[derive(Clone, Copy, Debug, PartialEq, Eq)]
+pub enum Refusal {
     WouldLose,
     NoRoom,
 }
 
-// 01's number for what writing answers, 0 where the image is written.
-pub fn refusal_number(written: Written) -> u8
-    ensures { result ≡ refusal_number written }
-{
-    match written {
-        Written::Bytes(_) => 0,
-        Written::WouldLose => WOULD_LOSE,
-        Written::NoRoom => NO_ROOM,
+// 01's number for a refusal.
+impl From<Refusal> for u8 {
+    ghost from_gives = { λ refusal n. n ≡ refusal_number refusal };
+
+    fn from(refusal: Refusal) -> u8 {
+        match refusal {
+            Refusal::WouldLose => WOULD_LOSE,
+            Refusal::NoRoom => NO_ROOM,
+        }
     }
 }
 
@@ -103,18 +103,18 @@ pub fn loses_nothing(form: Form, t: Table) -> bool
     true
 }
 
-// The table's image at the front of out, of which the rest stays as it was.
-pub fn write_image(form: Form, t: Table, out: &mut [u8]) -> Written
+// The table's image at the front of out, of which the rest stays as it was, and the image's size.
+pub fn write_image(form: Form, t: Table, out: &mut [u8]) -> Result<usize, Refusal>
     requires { WellFormed t }
     ensures value { result ≡ written_of form (panels_of t) out.old }
     ensures out_after { out.new ≡ output_of form (panels_of t) out.old }
 {
     if !loses_nothing(form, t) {
-        return Written::WouldLose;
+        return Err(Refusal::WouldLose);
     }
     let size = size_of(form, t);
     if out.len() < size {
-        return Written::NoRoom;
+        return Err(Refusal::NoRoom);
     }
     let n = panels::count_of(t);
     let end = size - TRAILER_SIZE;
@@ -122,5 +122,5 @@ pub fn write_image(form: Form, t: Table, out: &mut [u8]) -> Written
     write::starts(form, out, n);
     out[end] = n as u8;
     out[end + 1] = image_forms::form_byte(form);
-    Written::Bytes(size)
+    Ok(size)
 }

@@ -10,7 +10,6 @@ ghost use Rattle.image_write.specs.Written.{setup_of, size_of, largest};
 
 use image_forms::Form;
 use image_salvage::LINES_CAP;
-use image_write::Written;
 use panels::Table;
 use std::fmt::Display;
 use std::fs::{File, OpenFile};
@@ -108,12 +107,7 @@ fn write_kept(t: Table, out: &mut [u8]) -> usize
     ensures value { result ≡ size_of Form.Two (panels_of t) }
     ensures out_after { out.new ≡ laid_over (setup_of Form.Two (panels_of t)) out.old }
 {
-    let written = image_write::write_image(Form::Two, t, out);
-    match written {
-        Written::Bytes(n) => n,
-        Written::WouldLose => 0,
-        Written::NoRoom => 0,
-    }
+    image_write::write_image(Form::Two, t, out).unwrap()
 }
 
 // Fills a file that was made and closes it; it is well where all of it is on the disk.

@@ -9,7 +9,6 @@ ghost use Rattle.undivarro.specs.Private.Opened.{opened_as};
 
 use crate::{Opened, Outcome};
 use image_forms::Form;
-use image_write::Written;
 use packet::{Edition, Numbered};
 use panels::Table;
 use refusals::{NO_ROOM, Refusal, UNKNOWN_EDITION, WOULD_LOSE};
@@ -76,12 +75,7 @@ pub(crate) fn put_setup(form: Form, t: Table, out: &mut [u8]) -> usize
     ensures value { result ≡ length (setup_of form (panels_of t)) }
     ensures out_after { out.new ≡ laid_over (setup_of form (panels_of t)) out.old }
 {
-    let written = image_write::write_image(form, t, out);
-    match written {
-        Written::Bytes(n) => n,
-        Written::WouldLose => 0,
-        Written::NoRoom => 0,
-    }
+    image_write::write_image(form, t, out).unwrap()
 }
 
 // The first bytes of a text at the front of an output.

@@ -10,7 +10,7 @@ use Rattle.panels.specs.Wall.{Wall, panels_of}
 use Rattle.panels.specs.WellFormed.{GoodWall}
 use Rattle.image_forms.specs.declared.Form.{Form}
 use Rattle.image_forms.specs.Forms.{form_byte}
-use Rattle.image_write.specs.declared.Written.{Written}
+use Rattle.std.specs.Prelude.{Ok}
 use Rattle.image_write.specs.Written.{high_low, records_of, image_of, setup_of, record_of, size_of, loses_nothing, written_of, output_of, record_size, panel_size}
 use Rattle.lists.proofs.Laid.{length_laid, laid_over_lem, laid_two, laid_then}
 use Rattle.image_write.proofs.Lengths.{records_long, starts_are, starts_count, products}
@@ -92,7 +92,7 @@ returns-clause-value c =
     let size = c.size_of-size.ensures in
     let room = enough in
     let (answer, after) = is_written form w out all_held room in
-    ap Written.Bytes size ∙ sym answer
+    ap Ok size ∙ sym answer
 
 pub returns-clause-out_after : goal.returns-clause-out_after
 returns-clause-out_after c =
