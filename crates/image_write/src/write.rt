@@ -1,7 +1,7 @@
 // An image's parts, laid into the output one behind the other.
 ghost use Rattle.std.specs.Prelude.{◌≡◌, ◌+◌, ◌*◌, ◌≤◌, ◌<◌, length};
 ghost use mathlib.Core.List.{flatten};
-ghost use Rattle.settings.specs.Settings.{byte_count, values_of, row_count, value_count};
+ghost use Rattle.settings.specs.Settings.{byte_count, values_of, value_count};
 ghost use Rattle.lists.specs.Lists.{each, laid_at};
 ghost use Rattle.panels.specs.Wall.{panels_of, most_panels};
 ghost use Rattle.panels.specs.WellFormed.{WellFormed};
@@ -12,23 +12,23 @@ ghost use Rattle.image_forms.specs.Forms.{head_size, head_of};
 use crate::{FIELD_HEAD, START_SIZE};
 use image_forms::Form;
 use panels::{Panel, Table};
-use settings::{ROW_COUNT, VALUE_COUNT};
+use settings::{Row, VALUE_COUNT};
 
 // A row's field: set code, length, values.
-fn one_field(out: &mut [u8], at: usize, row: usize, values: [u8; VALUE_COUNT])
-    requires { (row < row_count) × (at + field_head + byte_count row ≤ length out.old) }
+fn one_field(out: &mut [u8], at: usize, row: Row, values: [u8; VALUE_COUNT])
+    requires { at + field_head + byte_count row ≤ length out.old }
     ensures { out.new ≡ laid_at at (field row (values_of row values)) out.old }
 {
-    let count = settings::byte_count(row);
-    let first = settings::place_of(row);
-    out[at] = settings::set_code(row);
+    let count = row.byte_count();
+    let first = row.place();
+    out[at] = row.set_code();
     out[at + 1] = count as u8;
     lists::copy(&values[first..first + count], &mut out[at + FIELD_HEAD..]);
 }
 
 // A row's field where the form has one, and where the next begins.
-fn field_in(form: Form, out: &mut [u8], at: usize, row: usize, values: [u8; VALUE_COUNT]) -> usize
-    requires { (row < row_count) × (at + length (field_in form values row) ≤ length out.old) }
+fn field_in(form: Form, out: &mut [u8], at: usize, row: Row, values: [u8; VALUE_COUNT]) -> usize
+    requires { at + length (field_in form values row) ≤ length out.old }
     ensures value { result ≡ at + length (field_in form values row) }
     ensures out_after { out.new ≡ laid_at at (field_in form values row) out.old }
 {
@@ -36,7 +36,7 @@ fn field_in(form: Form, out: &mut [u8], at: usize, row: usize, values: [u8; VALU
         return at;
     }
     one_field(out, at, row, values);
-    at + FIELD_HEAD + settings::byte_count(row)
+    at + FIELD_HEAD + row.byte_count()
 }
 
 // All fields that the form has, by rising code.
@@ -45,10 +45,8 @@ fn all_fields(form: Form, out: &mut [u8], at: usize, values: [u8; VALUE_COUNT])
     ensures { out.new ≡ laid_at at (flatten (fields_of form values)) out.old }
 {
     let mut next = at;
-    let mut row = 0;
-    while row < ROW_COUNT {
+    for row in Row::ALL {
         next = field_in(form, out, next, row, values);
-        row += 1;
     }
 }
 

@@ -14,7 +14,7 @@ use packet::{Edition, GroupId, LONGEST, MonitorId, Written};
 use panels::{Panel, Place, Seen, Table};
 use profiles::Video;
 use requests::Request;
-use settings::{Profile, TILING_ROW};
+use settings::{Profile, Row};
 use std::io;
 use tiling::{Coded, Kind, Size};
 
@@ -87,9 +87,9 @@ fn set_place(rt: &impl Print, t: Table, position: u8, height: u8, width: u8) -> 
         model,
         id: MonitorId(2),
         group: GroupId(0),
-        code: settings::set_code(TILING_ROW),
+        code: Row::TILING.set_code(),
         values: [1, 0, position, byte, 0, 0, 0],
-        count: settings::byte_count(TILING_ROW),
+        count: Row::TILING.byte_count(),
     };
     send_request(rt, t, request)
 }
@@ -131,7 +131,7 @@ fn print_place(rt: &impl Print, position: u8, width: u8) -> io::Result<()> {
 
 fn show_place(rt: &impl Print, p: Panel) -> io::Result<()> {
     let values = p.values;
-    let first = settings::place_of(TILING_ROW);
+    let first = Row::TILING.place();
     let size = tiling::size_in(Kind::FifteenByTen, values[first + 3]);
     if let Size::HighWide(_, width) = size {
         print_place(rt, values[first + 2], width)?;

@@ -9,7 +9,7 @@ ghost use Rattle.table_calls.specs.Calls.{refusal_number, added_to, without, rem
 use packet::{GroupId, MonitorId};
 use panels::{MOST_PANELS, Panel, Place, Table};
 use profiles::Numbered;
-use settings::{KIND_ROW, Profile};
+use settings::{Profile, Row};
 use tiling::Kind;
 
 // What a table call refused, if anything.
@@ -43,7 +43,7 @@ fn fresh_panel(id: MonitorId, group: GroupId, profile: Profile, kind: Kind) -> P
 {
     let mut values = settings::fresh(profile);
     let number = [tiling::kind_number(kind)];
-    settings::store(KIND_ROW, &number, &mut values);
+    Row::KIND.store(&number, &mut values);
     Panel {
         id,
         group,

@@ -159,7 +159,7 @@ bounds-t-k-then-is_stored c =
 pub with_values-p-requires : goal.with_values-p-requires
 with_values-p-requires c =
     let there = (c.loop-k.invariant.1 (λ e. omega (arith, c.loop-k.invariant.0, e))).0 in
-    (there.is_row, stored_many _ _ _ c.data_of-d.result.now _ there.has_code (sym c.is_stored.ensures ∙ c.if-is_stored.true))
+    stored_many _ _ _ c.data_of-d.result.now _ there.has_code (sym c.is_stored.ensures ∙ c.if-is_stored.true)
 
 pub offset_bounds-t-k-then-is_stored-2 : goal.offset_bounds-t-k-then-is_stored-2
 offset_bounds-t-k-then-is_stored-2 c =

@@ -1,4 +1,4 @@
-use mathlib.Core.Path.{◌≡◌, refl, sym, ap, subst, ◌∙◌}
+use mathlib.Core.Path.{◌≡◌, refl, sym, ap, ◌∙◌}
 use mathlib.Core.Bool.{Bool, true, false, cond}
 use mathlib.Core.List.{List}
 use Prim.Native.Nat.{ℕ, ◌+◌, ◌-◌, ◌≤◌, ◌<◌}
@@ -7,16 +7,15 @@ use borrow.Author.Tests.{le-ltb, lt-ltb, eq-eqb, ne_eqb}
 use lib.Dec.{eqb}
 use lib.ListN.{length, get_or, take, drop}
 use Rattle.settings.specs.declared.Profile.{Profile}
-use Rattle.std.proofs.Common.{Option, Some, None}
+use Rattle.std.proofs.Common.{Some}
 use Rattle.codes.specs.declared.Code.{Code}
-use Rattle.settings.specs.Settings.{byte_count, row_count}
+use Rattle.settings.specs.Settings.{byte_count}
 use Rattle.codes.specs.Found.{field_by}
 use Rattle.models.specs.Models.{allowed_for, model_in}
 use Rattle.settings.proofs.Laws.{place_fits}
-use Rattle.codes.proofs.Laws.{IsField, field_right}
 use Rattle.image_forms.specs.declared.Form.{Form}
 use Rattle.image_record.specs.declared.Step.{Step}
-use Rattle.image_record.specs.Field.{values_in, misplaced, field_of, step_at}
+use Rattle.image_record.specs.Field.{values_in, misplaced, step_at}
 use Rattle.image_record.proofs.fields.step_at.Goals as goal
 
 module _ (form : Form) (profile : Profile) (seen : List Bool) (values left : List ℕ) where

@@ -19,7 +19,7 @@ pub one_field-requires : goal.one_field-requires
 one_field-requires c =
     let has : has_field c.args.form c.args.row ≡ true = sym c.has_field.ensures ∙ c.if-not-has_field.false in
     let long : let a = c.args in length (field_in a.form a.values a.row) ≡ 2 + byte_count a.row = let a = c.args in field-length a.form a.values (omega arith) a.row ∙ rw has in
-    (c.requires.0, omega (arith, long))
+    omega (arith, long)
 
 pub overflow_add-result-2 : goal.overflow_add-result-2
 overflow_add-result-2 c =

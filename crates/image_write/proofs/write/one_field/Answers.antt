@@ -46,5 +46,5 @@ slice_bounds-copy-end c = omega (arith, place_fits c.args.row)
 
 pub returns : goal.returns
 returns c =
-    laid _ _ _ _ _ _ _ _ c.set_code.ensures c.byte_count-count.ensures c.place_of-first.ensures
+    laid _ _ _ _ _ _ _ _ c.set_code.ensures c.byte_count-count.ensures.count c.place-first.ensures
     (omega arith) (omega arith) c.copy.ensures.laid
