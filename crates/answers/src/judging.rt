@@ -90,7 +90,7 @@ pub fn takes(p: Panel, row: Row, allowed: [bool; PROFILE_COUNT], d: &[u8]) -> bo
     ensures { result ≡ takes row (drop 1 d.now) p }
 {
     let profile = p.profile;
-    let number = profiles::profile_number(profile) as usize;
+    let number = u8::from(profile) as usize;
     if !allowed[number] {
         return false;
     }

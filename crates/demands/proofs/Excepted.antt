@@ -8,7 +8,7 @@ use lib.ListN.{get_or}
 use Rattle.lists.specs.Lists.{laid_at, same}
 use Rattle.settings.specs.Settings.{settings, allowed_by_row, fresh_values, within, all_allowed}
 use Rattle.codes.specs.Found.{found_from}
-use Rattle.profiles.specs.Numbers.{profile_with}
+use Rattle.settings.specs.Profiles.{profile_with}
 use Rattle.tiling.specs.Kinds.{kind_with}
 use Rattle.models.specs.Models.{filled}
 use Rattle.packet.specs.declared.Edition.{Edition}

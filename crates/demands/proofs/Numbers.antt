@@ -7,15 +7,14 @@ use mathlib.Core.Option.{none, some}
 use Rattle.std.specs.Prelude.{Ok, Err}
 use lib.Dec.{leb, ltb, eqb}
 use lib.ListN.{length, length-replicate}
+use Rattle.std.specs.Prelude.{Some, None}
+use Rattle.std.specs.Option.{option_map_or}
 use Rattle.settings.specs.declared.Profile.{Profile}
 use Rattle.tiling.specs.declared.Kind.{Kind}
-use Rattle.tiling.specs.declared.Numbered.{Numbered as KindNumbered}
-use Rattle.tiling.specs.Kinds.{kind_with, if_known as if_kind}
+use Rattle.tiling.specs.Kinds.{kind_with}
 use Rattle.settings.specs.Settings.{settings, fresh_values, allowed_by_row}
-use Rattle.profiles.specs.declared.Numbered.{Numbered}
-use Rattle.profiles.specs.Numbers.{profile_with, if_known}
+use Rattle.settings.specs.Profiles.{profile_with}
 use Rattle.packet.specs.declared.Edition.{Edition}
-use Rattle.packet.specs.declared.Numbered.{Numbered as EditionNumbered}
 use Rattle.packet.specs.declared.Written.{Written}
 use Rattle.packet.specs.Reading.{reading_of}
 use Rattle.packet.specs.Answered.{is_heard}
@@ -48,7 +47,7 @@ pub add_number : Add
 unfolding add_refusal profile_with kind_with
 add_number w i g n k = go (leb 32 (length w)) (eqb i.0 0) (place_of i w) (eqb g.0 0) (eqb n 0) (eqb n 1)
   where
-    kinds : (d e : Bool) → table_number (if_kind (cond d (KindNumbered.Known Kind.FiveByFive) (cond e (KindNumbered.Known Kind.FifteenByTen) KindNumbered.Unknown)) (λ kind. Refusal.Nothing) Refusal.UnknownKind) ≡ cond (d || e) 0 7
+    kinds : (d e : Bool) → table_number (option_map_or (λ kind. Refusal.Nothing) (cond d (Some Kind.FiveByFive) (cond e (Some Kind.FifteenByTen) None)) Refusal.UnknownKind) ≡ cond (d || e) 0 7
     kinds true e = refl
     kinds false true = refl
     kinds false false = refl
@@ -59,7 +58,7 @@ add_number w i g n k = go (leb 32 (length w)) (eqb i.0 0) (place_of i w) (eqb g.
         (cond b Refusal.IdZero
         (if_there q Refusal.IdTaken
         (cond c Refusal.GroupZero
-        (if_known (cond d (Numbered.Known Profile.General) (cond e (Numbered.Known Profile.Phoenix) Numbered.Unknown)) (λ profile. if_kind (kind_with k) (λ kind. Refusal.Nothing) Refusal.UnknownKind) Refusal.UnknownProfile)))))
+        (option_map_or (λ profile. option_map_or (λ kind. Refusal.Nothing) (kind_with k) Refusal.UnknownKind) (cond d (Some Profile.General) (cond e (Some Profile.Phoenix) None)) Refusal.UnknownProfile)))))
         ≡ cond a 1 (cond b 2 (if_there q 3 (cond c 4 (cond (d || e) (cond (eqb k 0 || eqb k 1) 0 7) 5))))
     go true b q c d e = refl
     go false true q c d e = refl
@@ -124,7 +123,7 @@ pub open_number : Open
 unfolding edition_with
 open_number n = go (eqb n 185) (eqb n 201)
   where
-    go : (a b : Bool) → open_refusal (cond a (EditionNumbered.Known Edition.Sicp185) (cond b (EditionNumbered.Known Edition.Sicp201) EditionNumbered.Unknown)) ≡ cond (a || b) 0 23
+    go : (a b : Bool) → open_refusal (cond a (Some Edition.Sicp185) (cond b (Some Edition.Sicp201) None)) ≡ cond (a || b) 0 23
     go true b = refl
     go false true = refl
     go false false = refl

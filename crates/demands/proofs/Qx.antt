@@ -10,7 +10,7 @@ use lib.ListN.{length, get_or, length-map}
 use Rattle.lists.specs.Lists.{laid_over}
 use Rattle.settings.specs.Settings.{settings, set_code, get_code, byte_count, power_row, video_row}
 use Rattle.settings.specs.declared.Profile.{Profile}
-use Rattle.profiles.specs.Numbers.{profile_number}
+use Rattle.settings.specs.Profiles.{profile_number}
 use Rattle.std.proofs.Common.{Some}
 use Rattle.codes.specs.declared.Code.{Code}
 use Rattle.codes.specs.Found.{found_from, found_by}

@@ -7,9 +7,9 @@ use mathlib.Core.List.{List, [], ◌∷◌, ◌++◌, append_assoc, append-nil, 
 use Prim.Native.Nat.{ℕ, ◌<◌}
 use native.Mathlib.Omega.{arith}
 use lib.ListN.{get_or, drop, replicate}
+use Rattle.std.specs.Prelude.{Option, Some, None}
 use Rattle.settings.specs.declared.Profile.{Profile}
 use Rattle.settings.specs.Settings.{set_code, fresh_values, values_of, row_count}
-use Rattle.profiles.specs.declared.Numbered.{Numbered}
 use Rattle.panels.specs.Wall.{Wall, table_of, panels_of}
 use Rattle.panels.proofs.Laws.{panels_of_table}
 use Rattle.image_forms.specs.declared.Form.{Form}
@@ -71,7 +71,7 @@ module _ (form : Form) (bytes : List ℕ) (profile : Profile) where
   row_told : (row : ℕ) → row < row_count → RowTold profile walk.last kept.values walk.es walk.fs row
   row_told row h = walked_row (none_gathered form profile) walk.walk row h (none_seen row_count row)
 
-  tells : (w : Wall) → head_in form (id_in w) bytes ≡ Numbered.Known profile → Tells form bytes kept.faults (headed bytes profile kept.values)
+  tells : (w : Wall) → head_in form (id_in w) bytes ≡ Some profile → Tells form bytes kept.faults (headed bytes profile kept.values)
   tells w e =
       record {
         head = refl;
@@ -101,14 +101,14 @@ from_told form w (bytes ∷ records) = go (head_in form (id_in w) bytes) refl (�
     so : {s : Salvage} → salvaged_from form w (bytes ∷ records) ≡ s → ToldOn form w (bytes ∷ records) s → ToldOn form w (bytes ∷ records) (salvaged_from form w (bytes ∷ records))
     so e t = subst (ToldOn form w (bytes ∷ records)) (sym e) t
 
-    go : (n : Numbered) → head_in form (id_in w) bytes ≡ n → ((v : Wall) → ToldOn form v records (salvaged_from form v records))
+    go : (n : Option Profile) → head_in form (id_in w) bytes ≡ n → ((v : Wall) → ToldOn form v records (salvaged_from form v records))
         → ToldOn form w (bytes ∷ records) (salvaged_from form w (bytes ∷ records))
-    go (Numbered.Known profile) e ih =
+    go (Some profile) e ih =
         let p = headed bytes profile (kept form bytes profile).values in
         let rest = ih (w ++ p ∷ []) in
         so (record_kept form w bytes records profile e)
         (record { more = p ∷ rest.more; wall = rest.wall ∙ append_assoc w (p ∷ []) rest.more; told = panel (tells form bytes profile w e) rest.told })
-    go Numbered.Unknown e ih =
+    go None e ih =
         let rest = ih w in
         so (record_dropped form w bytes records e) (record { more = rest.more; wall = rest.wall; told = dropped rest.told })
 

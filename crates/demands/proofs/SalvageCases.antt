@@ -7,7 +7,7 @@ use Rattle.lists.specs.Lists.{laid_at}
 use Rattle.tiling.specs.Kinds.{kind_with, in_wall}
 use Rattle.tiling.specs.Walls.{up_to}
 use Rattle.panels.specs.Wall.{place_from}
-use Rattle.profiles.specs.Numbers.{profile_with}
+use Rattle.settings.specs.Profiles.{profile_with}
 use Rattle.answers.specs.Judged.{stored}
 use Rattle.image_forms.specs.Forms.{form_with}
 use Rattle.image_faults.specs.Lines.{line_of}

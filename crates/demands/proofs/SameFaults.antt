@@ -5,9 +5,9 @@ use mathlib.Core.List.{List, [], ◌∷◌, ◌++◌}
 use Prim.Native.Nat.{ℕ, suc}
 use borrow.Author.Tests.{eqb-false}
 use lib.ListN.{drop, replicate}
+use Rattle.std.specs.Prelude.{Option, Some, None}
 use Rattle.settings.specs.declared.Profile.{Profile}
 use Rattle.settings.specs.Settings.{fresh_values, row_count}
-use Rattle.profiles.specs.declared.Numbered.{Numbered}
 use Rattle.panels.specs.declared.Panel.{Panel}
 use Rattle.panels.specs.Wall.{Wall}
 use Rattle.image_forms.specs.declared.Form.{Form}
@@ -84,7 +84,7 @@ module _ (form : Form) (w : Wall) (bytes : List ℕ) (records : List (List ℕ))
   first_read e = rw e
 
   -- the record is dropped
-  agree_dropped : head_in form (id_in w) bytes ≡ Numbered.Unknown → Agree (read_records form w (bytes ∷ records)) (salvaged_from form w (bytes ∷ records))
+  agree_dropped : head_in form (id_in w) bytes ≡ None → Agree (read_records form w (bytes ∷ records)) (salvaged_from form w (bytes ∷ records))
   unfolding record_refusal
   agree_dropped e =
       let read = first_refused {why = Refusal.Record} (rw e) refl in
@@ -94,7 +94,7 @@ module _ (form : Form) (w : Wall) (bytes : List ℕ) (records : List (List ℕ))
         kept = λ s. absurd (false≢true (ap is_sound (ap (λ (r : ReadImage). r.refusal) (sym read) ∙ s)));
       }
 
-  module _ (profile : Profile) (e : head_in form (id_in w) bytes ≡ Numbered.Known profile) where
+  module _ (profile : Profile) (e : head_in form (id_in w) bytes ≡ Some profile) where
     abbrev left : List ℕ
     left = drop (head_size form) bytes
 
@@ -151,10 +151,10 @@ unfolding read_records salvaged_from text_from
 agree_from form w [] = record { number = refl; kept = λ s. (refl, λ k. refl) }
 agree_from form w (bytes ∷ records) = go (head_in form (id_in w) bytes) refl (λ v. agree_from form v records)
   where
-    go : (n : Numbered) → head_in form (id_in w) bytes ≡ n → ((v : Wall) → Agree (read_records form v records) (salvaged_from form v records))
+    go : (n : Option Profile) → head_in form (id_in w) bytes ≡ n → ((v : Wall) → Agree (read_records form v records) (salvaged_from form v records))
         → Agree (read_records form w (bytes ∷ records)) (salvaged_from form w (bytes ∷ records))
-    go Numbered.Unknown e ih = agree_dropped form w bytes records e
-    go (Numbered.Known profile) e ih = by_fault (is_sound (fields_in form profile (drop (head_size form) bytes)).refusal) refl
+    go None e ih = agree_dropped form w bytes records e
+    go (Some profile) e ih = by_fault (is_sound (fields_in form profile (drop (head_size form) bytes)).refusal) refl
       where
         by_fault : (b : Bool) → is_sound (fields_in form profile (drop (head_size form) bytes)).refusal ≡ b → Agree (read_records form w (bytes ∷ records)) (salvaged_from form w (bytes ∷ records))
         by_fault true s = agree_sound form w bytes records profile e (sound-nothing _ s) (ih _)

@@ -7,11 +7,12 @@ use native.Mathlib.Omega.{arith}
 use borrow.Author.Tests.{le-leb}
 use lib.Dec.{leb, eqb}
 use lib.ListN.{get_or, take, drop, set}
+use Rattle.std.specs.Prelude.{Option, Some, None}
+use Rattle.std.specs.Option.{option_map_or}
 use Rattle.lists.proofs.Both.{both}
 use Rattle.tiling.specs.declared.Kind.{Kind}
-use Rattle.tiling.specs.declared.Numbered.{Numbered}
 use Rattle.tiling.specs.Walls.{up_to}
-use Rattle.tiling.specs.Kinds.{kind_number, kind_with, if_known, largest, in_wall}
+use Rattle.tiling.specs.Kinds.{kind_number, kind_with, largest, in_wall}
 use Rattle.tiling.proofs.Walls.{in_bounds, height_back, width_back, byte_fits, byte_back, height_fits, width_fits}
 use Rattle.tiling.proofs.Sizes.{largest-few, panels_few}
 use Rattle.tiling.proofs.Numbers.{number_back}
@@ -55,7 +56,7 @@ sits_in_wall n position byte = go (eqb n 0) (eqb n 1)
     go : (t s : Bool)
         → let widest : ℕ = cond t 5 15 in
         (up_to (cond t 25 150) byte && up_to (((byte - 1) / widest + 1) * ((byte - 1) % widest + 1)) position)
-        ≡ in_wall (if_known (cond t (Numbered.Known Kind.FiveByFive) (cond s (Numbered.Known Kind.FifteenByTen) Numbered.Unknown)) (λ kind. kind) Kind.FifteenByTen) position byte
+        ≡ in_wall (option_map_or (λ kind. kind) (cond t (Some Kind.FiveByFive) (cond s (Some Kind.FifteenByTen) None)) Kind.FifteenByTen) position byte
     go true s = refl
     go false true = refl
     go false false = refl
@@ -178,7 +179,7 @@ in_largest Kind.FifteenByTen position = refl
 
 sits_by : (kind : Kind) (position byte : ℕ) → in_wall kind position byte ≡ sits (kind_number kind) position byte
 sits_by kind position byte =
-    ap (λ (n : Numbered). in_wall (if_known n (λ k. k) Kind.FifteenByTen) position byte) (sym (number_back kind)) ∙ sym (sits_in_wall (kind_number kind) position byte)
+    ap (λ (n : Option Kind). in_wall (option_map_or (λ k. k) n Kind.FifteenByTen) position byte) (sym (number_back kind)) ∙ sym (sits_in_wall (kind_number kind) position byte)
 
 pub host_tiling : HostTiling
 unfolding settings is_report filled

@@ -1,8 +1,7 @@
 -- Lines that speak 1.85, and lines that speak 2.01. 02, A11; 001, 2.3. That a number opens a line, and 23 where it opens none, is in
 -- `Numbers`.
-use Rattle.std.specs.Prelude.{ℕ, Bool, cond, ◌&&◌, ◌≡◌, List, [], map, eqb, get_or}
+use Rattle.std.specs.Prelude.{ℕ, Bool, cond, ◌&&◌, ◌≡◌, List, [], map, eqb, get_or, Some}
 use Rattle.packet.specs.declared.Edition.{Edition}
-use Rattle.packet.specs.declared.Numbered.{Numbered}
 use Rattle.packet.specs.Edition.{edition_number, edition_with}
 use Rattle.packet.specs.Packet.{is_intact, data_of}
 use Rattle.packet.specs.Reading.{reading_of}
@@ -21,7 +20,7 @@ use Rattle.host.specs.Machine.{Happening, State, step}
 
 -- an edition is opened by its number
 abbrev pub OpenedByNumber : Type 0
-OpenedByNumber = (edition : Edition) → edition_with (edition_number edition) ≡ Numbered.Known edition
+OpenedByNumber = (edition : Edition) → edition_with (edition_number edition) ≡ Some edition
 
 -- A line never guesses: whatever it has heard before, each burst is read by the edition that the line was opened with,
 abbrev pub NeverGuesses : Type 0

@@ -5,7 +5,7 @@ use Rattle.lists.specs.Lists.{same}
 use Rattle.xor.specs.Xor.{xor_all}
 use Rattle.settings.specs.declared.Profile.{Profile}
 use Rattle.tiling.specs.declared.Kind.{Kind}
-use Rattle.profiles.specs.Numbers.{profile_number}
+use Rattle.settings.specs.Profiles.{profile_number}
 use Rattle.packet.specs.declared.Edition.{Edition}
 use Rattle.packet.specs.Packet.{monitor_id, group_id}
 use Rattle.packet.specs.Spoiled.{Spoiling, spoiled, Spoils}

@@ -1,10 +1,9 @@
 -- Salvage of a setup image (02, A7): what the reader and the salvage say of an image, what is kept, and that the lines tell all of
 -- it that is not from the image.
-use Rattle.std.specs.Prelude.{ℕ, ◌≤◌, ◌<◌, Bool, true, false, ◌⊎◌, ◌≡◌, length, get_or, drop}
+use Rattle.std.specs.Prelude.{ℕ, ◌≤◌, ◌<◌, Bool, true, false, ◌⊎◌, ◌≡◌, length, get_or, drop, Some}
 use mathlib.Core.List.{List, [], ◌∷◌, ◌++◌, flatten, Memᴰ}
 use Rattle.settings.specs.declared.Profile.{Profile}
 use Rattle.settings.specs.Settings.{set_code, fresh_values, values_of, row_count}
-use Rattle.profiles.specs.declared.Numbered.{Numbered}
 use Rattle.panels.specs.declared.Panel.{Panel}
 use Rattle.panels.specs.Wall.{Wall, table_of}
 use Rattle.panels.specs.WellFormed.{WellFormed}
@@ -58,7 +57,7 @@ TellsRow profile es faults row vs =
 -- code is told; the rows seen there are those of the fields.
 pub record Tells (form : Form) (bytes : List ℕ) (faults : List Fault) (p : Panel) : Type 0 where
   pub head : p ≡ headed bytes p.profile p.values
-  pub known : profile_in form bytes ≡ Numbered.Known p.profile
+  pub known : profile_in form bytes ≡ Some p.profile
   pub es : List Entry
   pub rest : List ℕ
   pub fields : drop (head_size form) bytes ≡ bytes_of es ++ rest

@@ -89,13 +89,16 @@ fn play_start(rt: &impl Print, host: Host, told: Told) -> io::Result<Host> {
 
 // The host is opened anew on a line of the edition that has this number; where none has, it stays.
 fn play_open(rt: &impl Print, host: Host, number: u8) -> io::Result<Host> {
-    let numbered = packet::edition_with(number as u32);
-    let packet::Numbered::Known(edition) = numbered else {
-        println!(rt; "- refused {}", packet::open_refusal(numbered))?;
-        return Ok(host);
-    };
-    println!(rt; "- idle")?;
-    Ok(Host::open(edition))
+    match Edition::try_from(u32::from(number)) {
+        Ok(edition) => {
+            println!(rt; "- idle")?;
+            Ok(Host::open(edition))
+        }
+        Err(unknown) => {
+            println!(rt; "- refused {}", u8::from(unknown))?;
+            Ok(host)
+        }
+    }
 }
 
 // One step: its kind, 1 for a start, 2 for a burst, 3 for the mark, 4 for a start with a model, 5 for a line opened, and what

@@ -9,12 +9,12 @@ use native.Mathlib.Omega.{arith}
 use borrow.Author.Tests.{le-ltb, lt-ltb, eq-eqb}
 use lib.ListN.{length, get_or, take, drop, length-append, get_or-append}
 use lib.Seq.{take_at, drop_at, take_all, get_or-append-add}
+use Rattle.std.specs.Prelude.{Some}
 use Rattle.panels.specs.Wall.{most_panels}
 use Rattle.lists.specs.Lists.{start_of, each}
 use Rattle.lists.proofs.Flat.{in_flat, flat_more, flat_at}
 use Rattle.lists.proofs.Each.{in_each, each_alike, each_get_d}
 use Rattle.image_forms.specs.declared.Form.{Form}
-use Rattle.image_forms.specs.declared.Numbered.{Numbered}
 use Rattle.image_forms.specs.Forms.{form_byte, form_with}
 use Rattle.image_forms.proofs.Laws.{byte_back}
 use Rattle.image_write.specs.Written.{high_low, starts_of, image_of}
@@ -36,7 +36,7 @@ module _ (form : Form) (records : List (List ℕ)) where
       let e : length (image_of form records) - 1 ≡ length (flatten records) + 2 * length records + 1 = omega (arith, image-length form records) in
       rw e (in_trailer 1)
 
-  form_known : form_with (last_byte (image_of form records)) ≡ Numbered.Known form
+  form_known : form_with (last_byte (image_of form records)) ≡ Some form
   form_known = ap form_with form_is ∙ byte_back form
 
   pub form_back : form_of (image_of form records) ≡ form

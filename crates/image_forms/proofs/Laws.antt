@@ -8,18 +8,17 @@ use native.Mathlib.Omega.{arith}
 use borrow.Author.Tests.{eqb-true, eq-eqb}
 use lib.Dec.{eqb}
 use lib.ListN.{length, drop}
+use Rattle.std.specs.Prelude.{Some}
 use Rattle.lists.specs.Lists.{same}
 use Rattle.lists.proofs.Both.{both}
 use Rattle.lists.proofs.Same.{same_is}
 use Rattle.settings.specs.declared.Profile.{Profile}
 use Rattle.settings.specs.Settings.{values_of, fresh_values, row_count, kind_row, tiling_row}
-use Rattle.profiles.specs.declared.Numbered.{Numbered as ProfileNumbered}
-use Rattle.profiles.proofs.Numbers.{number_back}
+use Rattle.settings.proofs.Profiles.{number_back}
 use Rattle.image_forms.specs.declared.Form.{Form}
-use Rattle.image_forms.specs.declared.Numbered.{Numbered}
 use Rattle.image_forms.specs.Forms.{form_byte, form_with, head_size, head_of, profile_in, holds, has_field, keeps}
 
-pub byte_back : (form : Form) → form_with (form_byte form) ≡ Numbered.Known form
+pub byte_back : (form : Form) → form_with (form_byte form) ≡ Some form
 unfolding form_with
 byte_back Form.One = refl
 byte_back Form.Two = refl
@@ -40,7 +39,7 @@ module _ (id group : ℕ) (profile : Profile) where
   head-length Form.One = refl
   head-length Form.Two = refl
 
-  pub profile_back : (form : Form) (rest : List ℕ) → holds form profile ≡ true → profile_in form (head_of form id group profile ++ rest) ≡ ProfileNumbered.Known profile
+  pub profile_back : (form : Form) (rest : List ℕ) → holds form profile ≡ true → profile_in form (head_of form id group profile ++ rest) ≡ Some profile
   profile_back Form.One rest h = rw (holds_general profile h)
   profile_back Form.Two rest h = number_back profile
 

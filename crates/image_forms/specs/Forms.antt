@@ -1,26 +1,19 @@
 -- The forms of a setup image, and all that differs between them. 01, "Setup image, form 1". 02, A2: form 2 puts the profile byte
 -- after the group, the form byte is 2, all else is as before; A6: the kind and the tiling are fields of form 2 alone.
-use Rattle.std.specs.Prelude.{ℕ, Bool, true, cond, not, ◌&&◌, ◌||◌, List, [], ◌∷◌, eqb, get_or}
+use Rattle.std.specs.Prelude.{ℕ, Bool, true, cond, not, ◌&&◌, ◌||◌, List, [], ◌∷◌, eqb, get_or, Option, Some, None}
 use Rattle.lists.specs.Lists.{same}
 use Rattle.settings.specs.declared.Profile.{Profile}
 use Rattle.settings.specs.Settings.{fresh_values, values_of, kind_row, tiling_row}
-use Rattle.profiles.specs.declared.Numbered.{Numbered as ProfileNumbered}
-use Rattle.profiles.specs.Numbers.{profile_number, profile_with}
+use Rattle.settings.specs.Profiles.{profile_number, profile_with}
 use Rattle.image_forms.specs.declared.Form.{Form}
-use Rattle.image_forms.specs.declared.Numbered.{Numbered}
 
 -- the form byte
 abbrev pub form_byte : Form → ℕ
 form_byte Form.One = 1
 form_byte Form.Two = 2
 
-unfoldable pub form_with : ℕ → Numbered
-form_with byte = cond (eqb byte 1) (Numbered.Known Form.One) (cond (eqb byte 2) (Numbered.Known Form.Two) Numbered.Unknown)
-
--- what comes of the form that a byte says, and what comes where it says none
-abbrev pub if_known : {A : Type 0} → Numbered → (Form → A) → A → A
-if_known (Numbered.Known form) some none = some form
-if_known Numbered.Unknown some none = none
+unfoldable pub form_with : ℕ → Option Form
+form_with byte = cond (eqb byte 1) (Some Form.One) (cond (eqb byte 2) (Some Form.Two) None)
 
 -- a record's head: ID, group, and in form 2 the profile's number
 abbrev pub head_size : Form → ℕ
@@ -35,8 +28,8 @@ abbrev pub head_of : Form → ℕ → ℕ → Profile → List ℕ
 head_of form id group profile = id ∷ group ∷ profile_bytes form profile
 
 -- the profile that a record says: form 1 has no room for one, and its records are general
-abbrev pub profile_in : Form → List ℕ → ProfileNumbered
-profile_in Form.One bytes = ProfileNumbered.Known Profile.General
+abbrev pub profile_in : Form → List ℕ → Option Profile
+profile_in Form.One bytes = Some Profile.General
 profile_in Form.Two bytes = profile_with (get_or bytes 2 0)
 
 -- so that it has room for no other

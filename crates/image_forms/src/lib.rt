@@ -1,46 +1,48 @@
 // The two forms of a setup image, which differ in the form byte, in a record's head, and in the fields that they have.
 #![tactic(auto)]
 
-ghost use Rattle.std.specs.Prelude.{◌≡◌, length};
+ghost use Rattle.std.specs.Prelude.{◌≡◌, length, ok_or};
 ghost use Rattle.settings.specs.Settings.{value_count};
 ghost use Rattle.image_forms.specs.Forms.{form_byte, form_with, head_size, holds, has_field, is_fresh, keeps};
 
 use settings::{Profile, Row};
 
-#[derive(Clone, Copy)]
+#[derive(Clone, Copy, Debug, PartialEq, Eq)]
 pub enum Form {
     One,
     Two,
 }
 
-// The form that has a form byte, if one does.
-#[derive(Clone, Copy)]
-pub enum Numbered {
-    Known(Form),
-    Unknown,
-}
+// A form byte that no form has.
+#[derive(Clone, Copy, Debug, PartialEq, Eq)]
+pub struct UnknownForm;
 
 // The byte that an image of a form ends with.
-pub fn form_byte(form: Form) -> u8
-    ensures { result ≡ form_byte form }
-{
-    match form {
-        Form::One => 1,
-        Form::Two => 2,
+impl From<Form> for u8 {
+    ghost from_gives = { λ form byte. byte ≡ form_byte form };
+
+    fn from(form: Form) -> u8 {
+        match form {
+            Form::One => 1,
+            Form::Two => 2,
+        }
     }
 }
 
-// The form of an image that ends with this byte, if one does.
-pub fn form_with(byte: u8) -> Numbered
-    ensures { result ≡ form_with byte }
-{
-    if byte == 1 {
-        return Numbered::Known(Form::One);
+// The form of an image that ends with a byte, if one does.
+impl TryFrom<u8> for Form {
+    type Error = UnknownForm;
+
+    ghost try_from_gives = { λ byte r. r ≡ ok_or (form_with byte) (record {}) };
+
+    #[tactic(auto, unfolding(crate::specs::Forms::form_with))]
+    fn try_from(byte: u8) -> Result<Form, UnknownForm> {
+        match byte {
+            1 => Ok(Form::One),
+            2 => Ok(Form::Two),
+            _ => Err(UnknownForm),
+        }
     }
-    if byte == 2 {
-        return Numbered::Known(Form::Two);
-    }
-    Numbered::Unknown
 }
 
 // The bytes before a record's fields: ID, group, and in form 2 the profile.
@@ -58,7 +60,7 @@ pub fn holds(form: Form, profile: Profile) -> bool
     ensures { result ≡ holds form profile }
 {
     match form {
-        Form::One => profiles::profile_number(profile) == 0,
+        Form::One => profile == Profile::General,
         Form::Two => true,
     }
 }

@@ -11,12 +11,14 @@ use borrow.Author.Tests.{ltb-true, ltb-false, eqb-true, le-ltb}
 use lib.Dec.{ltb, eqb}
 use lib.ListN.{length, drop}
 use lib.Seq.{drop-cons}
+use Rattle.image_forms.specs.declared.Form.{Form}
+use Rattle.std.specs.Prelude.{Option, Some, None}
+use Rattle.std.specs.Option.{option_map_or}
 use Rattle.panels.specs.Wall.{most_panels}
 use Rattle.lists.specs.Lists.{each}
 use Rattle.lists.proofs.Both.{both}
 use Rattle.lists.proofs.Each.{in_each, length-each}
-use Rattle.image_forms.specs.declared.Numbered.{Numbered}
-use Rattle.image_forms.specs.Forms.{form_with, if_known}
+use Rattle.image_forms.specs.Forms.{form_with}
 use Rattle.refusals.specs.declared.Refusal.{Refusal}
 use Rattle.image_frame.specs.Frame.{last_byte, count_of, starts_at, edge, rises, starts_fit, frame_refusal, record_in, records_in}
 use Rattle.refusals.specs.Refusals.{is_sound}
@@ -31,15 +33,15 @@ pub fits : (image : List ℕ) → is_sound (frame_refusal image) ≡ true → Fi
 unfolding frame_refusal
 fits image e = go _ _ _ _ _ refl refl refl refl refl e
   where
-    go : (a : Bool) (b : Numbered) (c d f : Bool) → ltb (length image) 2 ≡ a → form_with (last_byte image) ≡ b → ltb most_panels (count_of image) ≡ c
+    go : (a : Bool) (b : Option Form) (c d f : Bool) → ltb (length image) 2 ≡ a → form_with (last_byte image) ≡ b → ltb most_panels (count_of image) ≡ c
         → ltb (length image) (2 * count_of image + 2) ≡ d → starts_fit image ≡ f
-        → is_sound (cond a Refusal.TooShort (if_known b (λ form. cond c Refusal.TooMany (cond d Refusal.NoStarts (cond f Refusal.Nothing Refusal.Starts))) Refusal.OtherForm)) ≡ true → Fits image
+        → is_sound (cond a Refusal.TooShort (option_map_or (λ form. cond c Refusal.TooMany (cond d Refusal.NoStarts (cond f Refusal.Nothing Refusal.Starts))) b Refusal.OtherForm)) ≡ true → Fits image
     go true b c d f ea eb ec ed ef e = absurd (false≢true e)
-    go false Numbered.Unknown c d f ea eb ec ed ef e = absurd (false≢true e)
-    go false (Numbered.Known form) true d f ea eb ec ed ef e = absurd (false≢true e)
-    go false (Numbered.Known form) false true f ea eb ec ed ef e = absurd (false≢true e)
-    go false (Numbered.Known form) false false false ea eb ec ed ef e = absurd (false≢true e)
-    go false (Numbered.Known form) false false true ea eb ec ed ef e =
+    go false None c d f ea eb ec ed ef e = absurd (false≢true e)
+    go false (Some form) true d f ea eb ec ed ef e = absurd (false≢true e)
+    go false (Some form) false true f ea eb ec ed ef e = absurd (false≢true e)
+    go false (Some form) false false false ea eb ec ed ef e = absurd (false≢true e)
+    go false (Some form) false false true ea eb ec ed ef e =
         record { two = ltb-false _ _ ea; few = ltb-false _ _ ec; room = ltb-false _ _ ed; starts = ef }
 
 rising : (image : List ℕ) (k m : ℕ) → rises image k m ≡ true → (j : ℕ) → k ≤ j → j < k + m → edge image j < edge image (suc j)

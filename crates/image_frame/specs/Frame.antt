@@ -1,10 +1,11 @@
 -- A setup image as a whole: its trailer, and where its records begin and end. 01, "Setup image, form 1", refusals 11 to 15;
 -- 02, A2: 12 is neither form.
-use Rattle.std.specs.Prelude.{ℕ, zero, suc, ◌+◌, ◌-◌, ◌*◌, Bool, true, cond, ◌&&◌, List, ltb, eqb, length, get_or, take, drop}
+use Rattle.std.specs.Option.{option_map_or}
+use Rattle.std.specs.Prelude.{ℕ, zero, suc, ◌+◌, ◌-◌, ◌*◌, Bool, true, cond, ◌&&◌, List, ltb, eqb, length, get_or, take, drop, unwrap_or}
 use Rattle.panels.specs.Wall.{most_panels}
 use Rattle.lists.specs.Lists.{each}
 use Rattle.image_forms.specs.declared.Form.{Form}
-use Rattle.image_forms.specs.Forms.{form_with, if_known}
+use Rattle.image_forms.specs.Forms.{form_with}
 use Rattle.refusals.specs.declared.Refusal.{Refusal}
 
 -- n starts of two bytes, then n, then the form byte
@@ -13,7 +14,7 @@ last_byte image = get_or image (length image - 1) 0
 
 -- an image that is read ends with a form's byte; any other would stand for form 2
 abbrev pub form_of : List ℕ → Form
-form_of image = if_known (form_with (last_byte image)) (λ form. form) Form.Two
+form_of image = unwrap_or (form_with (last_byte image)) Form.Two
 
 abbrev pub count_of : List ℕ → ℕ
 count_of image = get_or image (length image - 2) 0
@@ -44,9 +45,8 @@ starts_fit image = eqb (edge image 0) 0 && rises image 0 (count_of image)
 unfoldable pub frame_refusal : List ℕ → Refusal
 frame_refusal image =
     cond (ltb (length image) 2) Refusal.TooShort
-    (if_known (form_with (last_byte image))
-    (λ form. cond (ltb most_panels (count_of image)) Refusal.TooMany
-    (cond (ltb (length image) (2 * count_of image + 2)) Refusal.NoStarts (cond (starts_fit image) Refusal.Nothing Refusal.Starts))) Refusal.OtherForm)
+    (option_map_or (λ form. cond (ltb most_panels (count_of image)) Refusal.TooMany
+    (cond (ltb (length image) (2 * count_of image + 2)) Refusal.NoStarts (cond (starts_fit image) Refusal.Nothing Refusal.Starts))) (form_with (last_byte image)) Refusal.OtherForm)
 
 -- record k runs from its start to the next one, the last to the first byte of the starts
 abbrev pub record_in : List ℕ → ℕ → List ℕ

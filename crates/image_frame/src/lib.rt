@@ -4,7 +4,7 @@
 ghost use Rattle.std.specs.Prelude.{◌≡◌, ◌+◌, ◌*◌, ◌≤◌, ◌<◌, length};
 ghost use Rattle.image_frame.specs.Frame.{form_of, count_of, edge, starts_fit, frame_refusal};
 
-use image_forms::{Form, Numbered};
+use image_forms::Form;
 use panels::MOST_PANELS;
 use refusals::Refusal;
 
@@ -20,11 +20,7 @@ pub fn form_of(image: &[u8]) -> Form
     ensures { result ≡ form_of image.now }
 {
     let n = image.len();
-    let numbered = image_forms::form_with(image[n - 1]);
-    match numbered {
-        Numbered::Known(form) => form,
-        Numbered::Unknown => Form::Two,
-    }
+    Form::try_from(image[n - 1]).unwrap_or(Form::Two)
 }
 
 // The trailer's count, of an image of at least two bytes.
@@ -77,8 +73,8 @@ pub fn frame_refusal(image: &[u8]) -> Refusal
     if len < 2 {
         return Refusal::TooShort;
     }
-    let numbered = image_forms::form_with(image[len - 1]);
-    let Numbered::Known(_) = numbered else {
+    let form = Form::try_from(image[len - 1]);
+    let Ok(_) = form else {
         return Refusal::OtherForm;
     };
     let n = count_of(image);

@@ -4,9 +4,9 @@ use mathlib.Core.Bool.{Bool, true}
 use mathlib.Core.List.{List}
 use Prim.Native.Nat.{ℕ}
 use lib.ListN.{drop}
+use Rattle.std.specs.Prelude.{Option, Some, None}
+use Rattle.std.specs.Option.{option_map_or}
 use Rattle.settings.specs.declared.Profile.{Profile}
-use Rattle.profiles.specs.declared.Numbered.{Numbered}
-use Rattle.profiles.specs.Numbers.{if_known}
 use Rattle.panels.specs.Wall.{Wall}
 use Rattle.image_forms.specs.declared.Form.{Form}
 use Rattle.image_forms.specs.Forms.{head_size}
@@ -29,9 +29,9 @@ module _ {seen : List Bool} {w : Wall} (m : Marks seen w) (form : Form) (bytes :
   unfolding panel_by record_refusal read_with
   refusal_alike = rw (head_alike m form bytes) (go (head_in form (id_in w) bytes))
     where
-      go : (n : Numbered) → (if_known n read_with no_panel).refusal ≡ if_known n (λ profile. (read_with profile).refusal) Refusal.Record
-      go (Numbered.Known profile) = refl
-      go Numbered.Unknown = refl
+      go : (n : Option Profile) → (option_map_or read_with n no_panel).refusal ≡ option_map_or (λ profile. (read_with profile).refusal) n Refusal.Record
+      go (Some profile) = refl
+      go None = refl
 
   pub panel_alike : is_sound (record_refusal form w bytes) ≡ true → (panel_by form seen bytes).panel ≡ panel_in form bytes
   unfolding panel_by

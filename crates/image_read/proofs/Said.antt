@@ -7,9 +7,9 @@ use native.Mathlib.Omega.{arith}
 use borrow.Author.Tests.{le-leb}
 use lib.Dec.{eqb}
 use lib.ListN.{length, length-append}
+use Rattle.std.specs.Prelude.{Some, None}
+use Rattle.std.specs.Option.{option_map_or}
 use Rattle.settings.specs.declared.Profile.{Profile}
-use Rattle.profiles.specs.declared.Numbered.{Numbered}
-use Rattle.profiles.specs.Numbers.{if_known}
 use Rattle.packet.specs.Packet.{monitor_id, group_id}
 use Rattle.panels.specs.declared.Panel.{Panel}
 use Rattle.panels.specs.Wall.{Wall}
@@ -39,7 +39,7 @@ module _ (form : Form) (id group : ℕ) (profile : Profile) (rest : List ℕ) (h
       rw (le-leb _ _ long, profile_back id group profile form rest held, behind-head id group profile form rest)
       (go (not (eqb id 0) && not (eqb group 0) && not (id_in w id)))
     where
-      go : (t : Bool) → if_known (cond t (Numbered.Known profile) Numbered.Unknown) (λ p. (fields_in form p rest).refusal) Refusal.Record ≡ cond t (fields_in form profile rest).refusal Refusal.Record
+      go : (t : Bool) → option_map_or (λ p. (fields_in form p rest).refusal) (cond t (Some profile) None) Refusal.Record ≡ cond t (fields_in form profile rest).refusal Refusal.Record
       go true = refl
       go false = refl
 

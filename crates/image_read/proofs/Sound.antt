@@ -5,9 +5,9 @@ use mathlib.Core.List.{List, [], ◌∷◌}
 use Prim.Native.Nat.{ℕ, ◌+◌, ◌≤◌, ◌<◌}
 use native.Mathlib.Omega.{arith}
 use lib.ListN.{length, drop, length-append}
+use Rattle.std.specs.Prelude.{Option, Some, None}
+use Rattle.std.specs.Option.{option_map_or}
 use Rattle.settings.specs.declared.Profile.{Profile}
-use Rattle.profiles.specs.declared.Numbered.{Numbered}
-use Rattle.profiles.specs.Numbers.{if_known}
 use Rattle.settings.specs.Settings.{fresh_values, values_of}
 use Rattle.lists.specs.Lists.{each}
 use Rattle.lists.proofs.Each.{length-each}
@@ -43,17 +43,17 @@ fields_gathered form profile left = at_last (run_gathers form profile _ _ left (
 
 -- a record that is not refused has a head that fits and a profile that is known
 pub head_of : (form : Form) (w : Wall) (bytes : List ℕ) → is_sound (record_refusal form w bytes) ≡ true
-    → (profile : Profile) × (head_in form (id_in w) bytes ≡ Numbered.Known profile) × (profile_in form bytes ≡ Numbered.Known profile)
+    → (profile : Profile) × (head_in form (id_in w) bytes ≡ Some profile) × (profile_in form bytes ≡ Some profile)
 unfolding record_refusal
 head_of form w bytes e = go (head_in form (id_in w) bytes) refl e
   where
-    go : (n : Numbered) → head_in form (id_in w) bytes ≡ n
-        → is_sound (if_known n (λ profile. (fields_in form profile (drop (head_size form) bytes)).refusal) Refusal.Record) ≡ true
-        → (profile : Profile) × (head_in form (id_in w) bytes ≡ Numbered.Known profile) × (profile_in form bytes ≡ Numbered.Known profile)
-    go (Numbered.Known profile) h e = (profile, h, (head-known form (id_in w) bytes profile h).1)
-    go Numbered.Unknown h e = absurd (false≢true e)
+    go : (n : Option Profile) → head_in form (id_in w) bytes ≡ n
+        → is_sound (option_map_or (λ profile. (fields_in form profile (drop (head_size form) bytes)).refusal) n Refusal.Record) ≡ true
+        → (profile : Profile) × (head_in form (id_in w) bytes ≡ Some profile) × (profile_in form bytes ≡ Some profile)
+    go (Some profile) h e = (profile, h, (head-known form (id_in w) bytes profile h).1)
+    go None h e = absurd (false≢true e)
 
-pub panel-known : (form : Form) (bytes : List ℕ) (profile : Profile) → profile_in form bytes ≡ Numbered.Known profile → panel_in form bytes ≡ panel_with form bytes profile
+pub panel-known : (form : Form) (bytes : List ℕ) (profile : Profile) → profile_in form bytes ≡ Some profile → panel_in form bytes ≡ panel_with form bytes profile
 unfolding panel_in
 panel-known form bytes profile known = rw known
 

@@ -1,8 +1,8 @@
 -- A setup image of either form read. 01, "Setup image, form 1", refusals 11 to 18: 11 to 15 on the whole, then records in order,
 -- each its 16 and then field after field its 17 and then 18; the first fault counts. 02, A2: 16 also goes by the form's head.
+use Rattle.std.specs.Option.{option_map_or}
 use Rattle.std.specs.Prelude.{ℕ, cond, List, [], ◌∷◌, ◌++◌, drop}
 use Rattle.settings.specs.declared.Profile.{Profile}
-use Rattle.profiles.specs.Numbers.{if_known}
 use Rattle.panels.specs.declared.Panel.{Panel}
 use Rattle.panels.specs.Wall.{Wall, blank, table_of}
 use Rattle.image_forms.specs.declared.Form.{Form}
@@ -25,14 +25,14 @@ refused r = record { refusal = r; wall = [] }
 -- 16, where the IDs seen before are those of the wall so far; then the fields' 17 and 18
 unfoldable pub record_refusal : Form → Wall → List ℕ → Refusal
 record_refusal form w bytes =
-    if_known (head_in form (id_in w) bytes) (λ profile. (fields_in form profile (drop (head_size form) bytes)).refusal) Refusal.Record
+    option_map_or (λ profile. (fields_in form profile (drop (head_size form) bytes)).refusal) (head_in form (id_in w) bytes) Refusal.Record
 
 -- the panel of a record, once its profile is known
 abbrev pub panel_with : Form → List ℕ → Profile → Panel
 panel_with form bytes profile = headed bytes profile (fields_in form profile (drop (head_size form) bytes)).values
 
 unfoldable pub panel_in : Form → List ℕ → Panel
-panel_in form bytes = if_known (profile_in form bytes) (panel_with form bytes) blank
+panel_in form bytes = option_map_or (panel_with form bytes) (profile_in form bytes) blank
 
 -- records in order, each a panel at the end of the wall
 unfoldable pub read_records : Form → Wall → List (List ℕ) → ReadImage

@@ -9,7 +9,6 @@ use crate::{Read, ReadPanel, walk};
 use image_forms::Form;
 use packet::{GroupId, MonitorId};
 use panels::{ID_COUNT, MOST_PANELS, Panel};
-use profiles::Numbered;
 use refusals::Refusal;
 
 // 16, and no panel.
@@ -28,7 +27,7 @@ fn panel_of(form: Form, bytes: &[u8], seen: &[bool; ID_COUNT]) -> ReadPanel
     ensures { result ≡ panel_by form seen.now bytes.now }
 {
     let head = image_record::head_in(form, bytes, seen);
-    let Numbered::Known(profile) = head else {
+    let Some(profile) = head else {
         return no_panel();
     };
     let fields = walk::fields_of(form, profile, &bytes[image_forms::head_size(form)..]);

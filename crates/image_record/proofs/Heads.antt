@@ -8,8 +8,8 @@ use native.Mathlib.Omega.{arith}
 use lib.Dec.{leb, eqb}
 use lib.ListN.{length, get_or, set, replicate}
 use lib.Seq.{get_or-set_same, get_or-set_other}
+use Rattle.std.specs.Prelude.{Some, None}
 use Rattle.settings.specs.declared.Profile.{Profile}
-use Rattle.profiles.specs.declared.Numbered.{Numbered}
 use Rattle.lists.proofs.Both.{both}
 use Rattle.packet.specs.Packet.{monitor_id}
 use Rattle.panels.specs.declared.Panel.{Panel}
@@ -42,21 +42,21 @@ head_fits_lem form w bytes e =
     nowhere Place.Nowhere e = refl
 
 -- where a profile comes of it, the head fits and says that profile
-pub head-known : (form : Form) (seen : ℕ → Bool) (bytes : List ℕ) (profile : Profile) → head_in form seen bytes ≡ Numbered.Known profile
-    → (head_fits form seen bytes ≡ true) × (profile_in form bytes ≡ Numbered.Known profile)
+pub head-known : (form : Form) (seen : ℕ → Bool) (bytes : List ℕ) (profile : Profile) → head_in form seen bytes ≡ Some profile
+    → (head_fits form seen bytes ≡ true) × (profile_in form bytes ≡ Some profile)
 unfolding head_in
 head-known form seen bytes profile e = go (head_fits form seen bytes) refl e
   where
-    go : (t : Bool) → head_fits form seen bytes ≡ t → cond t (profile_in form bytes) Numbered.Unknown ≡ Numbered.Known profile
-        → (head_fits form seen bytes ≡ true) × (profile_in form bytes ≡ Numbered.Known profile)
+    go : (t : Bool) → head_fits form seen bytes ≡ t → cond t (profile_in form bytes) None ≡ Some profile
+        → (head_fits form seen bytes ≡ true) × (profile_in form bytes ≡ Some profile)
     go true f e = (f, e)
     go false f e = absurd (different e)
       where
-        different : Numbered.Unknown ≡ Numbered.Known profile → ⊥
+        different : None ≡ Some profile → ⊥
         different e = let z : ◌≡◌ {A = ℕ} 0 1 = cc in omega arith
 
 -- and is whole
-pub head-whole : (form : Form) (seen : ℕ → Bool) (bytes : List ℕ) (profile : Profile) → head_in form seen bytes ≡ Numbered.Known profile → head_size form ≤ length bytes
+pub head-whole : (form : Form) (seen : ℕ → Bool) (bytes : List ℕ) (profile : Profile) → head_in form seen bytes ≡ Some profile → head_size form ≤ length bytes
 unfolding head_fits
 head-whole form seen bytes profile e =
     let (abc, _) = both _ _ (head-known form seen bytes profile e).0 in
@@ -105,7 +105,7 @@ unfolding head_in head_fits
 head_alike m form bytes = rw (m.alike (get_or bytes 0 0))
 
 -- the panel of a record whose head fits, with values that are in range, is good behind the wall
-pub headed-good : (form : Form) (w : Wall) (bytes : List ℕ) (profile : Profile) {values : List ℕ} → head_in form (id_in w) bytes ≡ Numbered.Known profile
+pub headed-good : (form : Form) (w : Wall) (bytes : List ℕ) (profile : Profile) {values : List ℕ} → head_in form (id_in w) bytes ≡ Some profile
     → InRange profile values → GoodWall w → GoodWall (w ++ headed bytes profile values ∷ [])
 headed-good form w bytes profile {values} known i good =
     let h = head_fits_lem form w bytes (head-known form (id_in w) bytes profile known).0 in

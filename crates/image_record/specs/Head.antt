@@ -1,6 +1,5 @@
 -- The head of a record. 01, "Table calls and numbers", refusal 16; 02, A2: it goes by the form's head.
-use Rattle.std.specs.Prelude.{ℕ, Bool, true, false, cond, not, ◌&&◌, List, leb, eqb, length, get_or}
-use Rattle.profiles.specs.declared.Numbered.{Numbered}
+use Rattle.std.specs.Prelude.{ℕ, Bool, true, false, cond, not, ◌&&◌, List, leb, eqb, length, get_or, Option, None}
 use Rattle.settings.specs.declared.Profile.{Profile}
 use Rattle.packet.specs.Packet.{monitor_id, group_id}
 use Rattle.panels.specs.declared.Panel.{Panel}
@@ -24,8 +23,8 @@ unfoldable pub head_fits : Form → (ℕ → Bool) → List ℕ → Bool
 head_fits form seen bytes = head_stands form bytes && not (seen (get_or bytes 0 0))
 
 -- the profile of a record whose head fits; any other, and one with an unknown profile, is refused by 16
-unfoldable pub head_in : Form → (ℕ → Bool) → List ℕ → Numbered
-head_in form seen bytes = cond (head_fits form seen bytes) (profile_in form bytes) Numbered.Unknown
+unfoldable pub head_in : Form → (ℕ → Bool) → List ℕ → Option Profile
+head_in form seen bytes = cond (head_fits form seen bytes) (profile_in form bytes) None
 
 -- the panel of such a record, with these values
 abbrev pub headed : List ℕ → Profile → List ℕ → Panel

@@ -10,7 +10,6 @@ ghost use Rattle.image_record.specs.Run.{run_from, stop_of};
 
 use image_forms::Form;
 use panels::ID_COUNT;
-use profiles::Numbered;
 use settings::{Profile, ROW_COUNT, Row, VALUE_COUNT};
 
 // What stands at the front of a record's bytes: a field of a row, one whose values are not allowed, a broken one, or the end.
@@ -47,22 +46,22 @@ fn head_fits(form: Form, bytes: &[u8], seen: &[bool; ID_COUNT]) -> bool
 }
 
 // The profile that a whole head says. Form 1 has none: its records are general.
-fn profile_in(form: Form, bytes: &[u8]) -> Numbered
+fn profile_in(form: Form, bytes: &[u8]) -> Option<Profile>
     requires { head_size form ≤ length bytes.now }
     ensures { result ≡ profile_in form bytes.now }
 {
     match form {
-        Form::One => Numbered::Known(Profile::General),
-        Form::Two => profiles::profile_with(bytes[2]),
+        Form::One => Some(Profile::General),
+        Form::Two => Profile::try_from(bytes[2]).ok(),
     }
 }
 
 // The profile of a record whose head fits, where the IDs seen before are marked; any other is refused by 16.
-pub fn head_in(form: Form, bytes: &[u8], seen: &[bool; ID_COUNT]) -> Numbered
+pub fn head_in(form: Form, bytes: &[u8], seen: &[bool; ID_COUNT]) -> Option<Profile>
     ensures { result ≡ head_in form (marked seen.now) bytes.now }
 {
     if !head_fits(form, bytes, seen) {
-        return Numbered::Unknown;
+        return None;
     }
     profile_in(form, bytes)
 }

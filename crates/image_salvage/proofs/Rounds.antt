@@ -8,12 +8,12 @@ use native.Mathlib.Numerals.{add-one}
 use native.Mathlib.Omega.{arith}
 use lib.ListN.{length, take, drop, set, replicate, length-set}
 use lib.Seq.{drop-length}
+use Rattle.std.specs.Prelude.{Option, Some, None}
+use Rattle.std.specs.Option.{option_map_or}
 use Rattle.settings.specs.declared.Profile.{Profile}
 use Rattle.settings.specs.Settings.{fresh_values, row_count}
 use Rattle.lists.specs.Lists.{laid_at, laid_over}
 use Rattle.lists.proofs.Laid.{laid_over_lem}
-use Rattle.profiles.specs.declared.Numbered.{Numbered}
-use Rattle.profiles.specs.Numbers.{if_known}
 use Rattle.panels.specs.declared.Panel.{Panel}
 use Rattle.panels.specs.Wall.{Wall, blank, in_places, most_panels, id_count}
 use Rattle.panels.proofs.Laws.{none-held, one-held}
@@ -35,30 +35,30 @@ use Rattle.image_salvage.proofs.Sound.{record_dropped, record_kept}
 
 module _ (form : Form) (number from : ℕ) (seen : List Bool) (bytes : List ℕ) where
   -- a record is kept where its head fits, and else dropped
-  kept_by : (record_by form number from seen bytes).kept ≡ true → (profile : Profile) × (head_in form (marked seen) bytes ≡ Numbered.Known profile)
+  kept_by : (record_by form number from seen bytes).kept ≡ true → (profile : Profile) × (head_in form (marked seen) bytes ≡ Some profile)
   unfolding record_by
   kept_by e = go (head_in form (marked seen) bytes) refl e
     where
-      go : (n : Numbered) → head_in form (marked seen) bytes ≡ n → if_known n (λ (p : Profile). true) false ≡ true → (profile : Profile) × (head_in form (marked seen) bytes ≡ Numbered.Known profile)
-      go (Numbered.Known profile) h e = (profile, h)
-      go Numbered.Unknown h e = absurd (false≢true e)
+      go : (n : Option Profile) → head_in form (marked seen) bytes ≡ n → option_map_or (λ (p : Profile). true) n false ≡ true → (profile : Profile) × (head_in form (marked seen) bytes ≡ Some profile)
+      go (Some profile) h e = (profile, h)
+      go None h e = absurd (false≢true e)
 
-  dropped_by : (record_by form number from seen bytes).kept ≡ false → head_in form (marked seen) bytes ≡ Numbered.Unknown
+  dropped_by : (record_by form number from seen bytes).kept ≡ false → head_in form (marked seen) bytes ≡ None
   unfolding record_by
   dropped_by e = go (head_in form (marked seen) bytes) refl e
     where
-      go : (n : Numbered) → head_in form (marked seen) bytes ≡ n → if_known n (λ (p : Profile). true) false ≡ false → head_in form (marked seen) bytes ≡ Numbered.Unknown
-      go (Numbered.Known profile) h e = absurd (false≢true (sym e))
-      go Numbered.Unknown h e = h
+      go : (n : Option Profile) → head_in form (marked seen) bytes ≡ n → option_map_or (λ (p : Profile). true) n false ≡ false → head_in form (marked seen) bytes ≡ None
+      go (Some profile) h e = absurd (false≢true (sym e))
+      go None h e = h
 
   -- its faults are few, and so its lines are short
   pub lines_few : length (lines_of number (faults_by form seen bytes)) ≤ most_faults * longest_line
   unfolding faults_by
   lines_few = go (head_in form (marked seen) bytes)
     where
-      go : (n : Numbered) → length (lines_of number (if_known n (λ profile. (kept_of form profile (drop (head_size form) bytes)).faults) (Fault.Dropped ∷ []))) ≤ most_faults * longest_line
-      go (Numbered.Known profile) = omega (arith, lines_short number (kept_of form profile (drop (head_size form) bytes)).faults, faults-few form profile most_faults (replicate row_count false) (fresh_values profile) (drop (head_size form) bytes))
-      go Numbered.Unknown = omega (arith, lines_short number (Fault.Dropped ∷ []))
+      go : (n : Option Profile) → length (lines_of number (option_map_or (λ profile. (kept_of form profile (drop (head_size form) bytes)).faults) n (Fault.Dropped ∷ []))) ≤ most_faults * longest_line
+      go (Some profile) = omega (arith, lines_short number (kept_of form profile (drop (head_size form) bytes)).faults, faults-few form profile most_faults (replicate row_count false) (fresh_values profile) (drop (head_size form) bytes))
+      go None = omega (arith, lines_short number (Fault.Dropped ∷ []))
 
 module _ (image first : List ℕ) where
   abbrev form : Form

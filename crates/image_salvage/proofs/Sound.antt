@@ -5,8 +5,8 @@ use mathlib.Core.List.{List, [], ◌∷◌, ◌++◌}
 use Prim.Native.Nat.{ℕ, zero, suc, ◌+◌, ◌≤◌}
 use native.Mathlib.Omega.{arith}
 use lib.ListN.{length, drop, length-append}
+use Rattle.std.specs.Prelude.{Option, Some, None}
 use Rattle.settings.specs.declared.Profile.{Profile}
-use Rattle.profiles.specs.declared.Numbered.{Numbered}
 use Rattle.panels.specs.Wall.{Wall, table_of, most_panels}
 use Rattle.panels.specs.WellFormed.{GoodWall, WellFormed}
 use Rattle.panels.proofs.Formed.{formed, empty_formed}
@@ -56,18 +56,18 @@ module _ (form : Form) (profile : Profile) where
   kept_in_range left = from_in_range most_faults _ _ left (none_gathered form profile)
 
 -- a record is dropped or kept
-pub record_dropped : (form : Form) (w : Wall) (bytes : List ℕ) (records : List (List ℕ)) → head_in form (id_in w) bytes ≡ Numbered.Unknown
+pub record_dropped : (form : Form) (w : Wall) (bytes : List ℕ) (records : List (List ℕ)) → head_in form (id_in w) bytes ≡ None
     → salvaged_from form w (bytes ∷ records) ≡ behind_faults (Fault.Dropped ∷ []) (salvaged_from form w records)
 unfolding salvaged_from
 record_dropped form w bytes records e = rw e
 
-pub record_kept : (form : Form) (w : Wall) (bytes : List ℕ) (records : List (List ℕ)) (profile : Profile) → head_in form (id_in w) bytes ≡ Numbered.Known profile
+pub record_kept : (form : Form) (w : Wall) (bytes : List ℕ) (records : List (List ℕ)) (profile : Profile) → head_in form (id_in w) bytes ≡ Some profile
     → let kept = kept_of form profile (drop (head_size form) bytes) in
     salvaged_from form w (bytes ∷ records) ≡ behind_faults kept.faults (salvaged_from form (w ++ headed bytes profile kept.values ∷ []) records)
 unfolding salvaged_from
 record_kept form w bytes records profile e = rw e
 
-pub kept-good : (form : Form) (w : Wall) (bytes : List ℕ) (profile : Profile) → head_in form (id_in w) bytes ≡ Numbered.Known profile → GoodWall w
+pub kept-good : (form : Form) (w : Wall) (bytes : List ℕ) (profile : Profile) → head_in form (id_in w) bytes ≡ Some profile → GoodWall w
     → GoodWall (w ++ headed bytes profile (kept_of form profile (drop (head_size form) bytes)).values ∷ [])
 kept-good form w bytes profile e good = headed-good form w bytes profile e (kept_in_range form profile (drop (head_size form) bytes)) good
 
@@ -82,10 +82,10 @@ from_formed form w (bytes ∷ records) few good = go (head_in form (id_in w) byt
     so : {s : Salvage} → salvaged_from form w (bytes ∷ records) ≡ s → WellFormed (table_of s.wall) → Formed form w (bytes ∷ records)
     so e f = subst (λ (s : Salvage). WellFormed (table_of s.wall)) (sym e) f
 
-    go : (n : Numbered) → head_in form (id_in w) bytes ≡ n → ((v : Wall) → length v + length records ≤ most_panels → GoodWall v → Formed form v records)
+    go : (n : Option Profile) → head_in form (id_in w) bytes ≡ n → ((v : Wall) → length v + length records ≤ most_panels → GoodWall v → Formed form v records)
         → Formed form w (bytes ∷ records)
-    go (Numbered.Known profile) e ih = so (record_kept form w bytes records profile e) (ih _ (simp length-append (omega arith)) (kept-good form w bytes profile e good))
-    go Numbered.Unknown e ih = so (record_dropped form w bytes records e) (ih w (omega arith) good)
+    go (Some profile) e ih = so (record_kept form w bytes records profile e) (ih _ (simp length-append (omega arith)) (kept-good form w bytes profile e good))
+    go None e ih = so (record_dropped form w bytes records e) (ih w (omega arith) good)
 
 -- Whatever the image, what is kept of it is well-formed.
 pub salvage_formed : (image : List ℕ) → WellFormed (table_of (salvage_of image).wall)

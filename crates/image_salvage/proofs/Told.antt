@@ -5,8 +5,9 @@ use mathlib.Core.List.{List, [], ◌∷◌, flatten}
 use Prim.Native.Nat.{ℕ, suc, ◌*◌, ◌≤◌}
 use native.Mathlib.Omega.{arith}
 use lib.ListN.{length, drop, replicate, length-append}
+use Rattle.settings.specs.declared.Profile.{Profile}
+use Rattle.std.specs.Prelude.{Option, Some, None}
 use Rattle.settings.specs.Settings.{fresh_values, row_count}
-use Rattle.profiles.specs.declared.Numbered.{Numbered}
 use Rattle.panels.specs.Wall.{Wall, most_panels}
 use Rattle.image_forms.specs.declared.Form.{Form}
 use Rattle.image_forms.specs.Forms.{head_size}
@@ -40,16 +41,16 @@ from_each form w (bytes ∷ records) = go (head_in form (id_in w) bytes) refl (�
         → Each (suc (length records)) (salvaged_from form w (bytes ∷ records)).faults
     so e each = subst (λ (s : Salvage). Each (suc (length records)) s.faults) (sym e) each
 
-    go : (n : Numbered) → head_in form (id_in w) bytes ≡ n → ((v : Wall) → Each (length records) (salvaged_from form v records).faults)
+    go : (n : Option Profile) → head_in form (id_in w) bytes ≡ n → ((v : Wall) → Each (length records) (salvaged_from form v records).faults)
         → Each (suc (length records)) (salvaged_from form w (bytes ∷ records)).faults
-    go (Numbered.Known profile) e ih =
+    go (Some profile) e ih =
         let i = ih _ in
         so (record_kept form w bytes records profile e)
         (record {
           as_many = ap suc i.as_many;
           few = (faults-few form profile most_faults (replicate row_count false) (fresh_values profile) (drop (head_size form) bytes), i.few);
         })
-    go Numbered.Unknown e ih = let i = ih w in so (record_dropped form w bytes records e) (record { as_many = ap suc i.as_many; few = (omega arith, i.few) })
+    go None e ih = let i = ih w in so (record_dropped form w bytes records e) (record { as_many = ap suc i.as_many; few = (omega arith, i.few) })
 
 lines_in : (number : ℕ) (faults : List (List Fault)) → Few faults → length (text_from number faults) ≤ most_faults * longest_line * length faults
 unfolding text_from

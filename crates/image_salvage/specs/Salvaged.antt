@@ -1,7 +1,7 @@
 -- What is kept of a setup image that passes 11 to 15, the faults in order, and their lines. 02, A7.
+use Rattle.std.specs.Option.{option_map_or}
 use Rattle.std.specs.Prelude.{ℕ, suc, ◌*◌, cond, length, drop}
 use mathlib.Core.List.{List, [], ◌∷◌, ◌++◌, map, flatten}
-use Rattle.profiles.specs.Numbers.{if_known}
 use Rattle.panels.specs.Wall.{Wall, table_of, most_panels}
 use Rattle.image_forms.specs.declared.Form.{Form}
 use Rattle.image_forms.specs.Forms.{head_size}
@@ -27,9 +27,9 @@ behind_faults faults s = record { wall = s.wall; faults = faults ∷ s.faults }
 unfoldable pub salvaged_from : Form → Wall → List (List ℕ) → Salvage
 salvaged_from form w [] = record { wall = w; faults = [] }
 salvaged_from form w (bytes ∷ records) =
-    if_known (head_in form (id_in w) bytes) (λ profile.
+    option_map_or (λ profile.
     let kept = kept_of form profile (drop (head_size form) bytes) in
-    behind_faults kept.faults (salvaged_from form (w ++ headed bytes profile kept.values ∷ []) records))
+    behind_faults kept.faults (salvaged_from form (w ++ headed bytes profile kept.values ∷ []) records)) (head_in form (id_in w) bytes)
     (behind_faults (Fault.Dropped ∷ []) (salvaged_from form w records))
 
 -- nothing of an image that 11 to 15 refuse

@@ -13,7 +13,6 @@ use image_faults::Fault;
 use image_forms::Form;
 use packet::{GroupId, MonitorId};
 use panels::{ID_COUNT, MOST_PANELS, Panel};
-use profiles::Numbered;
 use refusals::Refusal;
 
 // What is kept of the record with this number, behind others whose IDs are marked as seen; its faults are told from a place of
@@ -31,7 +30,7 @@ fn record(
     ensures lines_after { lines.new ≡ laid_at from (lines_of number (faults_by form seen.now bytes.now)) lines.old }
 {
     let head = image_record::head_in(form, bytes, seen);
-    let Numbered::Known(profile) = head else {
+    let Some(profile) = head else {
         let panel = panels::blank_panel();
         let next = fields::tell(number, Fault::Dropped, lines, from);
         return KeptRecord {

@@ -59,6 +59,9 @@ module _ (form : Form) (values : List ℕ) where
       go true = omega (arith, length-values row values full)
       go false = refl
 
+  pub field_has : length values ≡ value_count → (row : ℕ) → has_field form row ≡ true → length (field_in form values row) ≡ 2 + byte_count row
+  field_has full row has = field-length full row ∙ ap (λ (t : Bool). cond t (2 + byte_count row) 0) has
+
   pub fields-length : length values ≡ value_count → length (flatten (fields_of form values)) ≡ fields_size form
   unfolding fields_of
   fields-length full =

@@ -1,5 +1,6 @@
 -- The setup image of a wall, in either form. 01, "Setup image, form 1"; 02, A2, and refusal 31; A6.
-use Rattle.std.specs.Prelude.{ℕ, ◌+◌, ◌*◌, ◌/◌, ◌%◌, Bool, true, cond, ◌&&◌, leb, length, Result, Ok, Err}
+use Rattle.std.specs.Prelude.{ℕ, ◌+◌, ◌*◌, ◌/◌, ◌%◌, Bool, cond, ◌&&◌, leb, length, Result, Ok, Err}
+use Rattle.std.specs.List.{list_all}
 use mathlib.Core.List.{List, [], ◌∷◌, ◌++◌, map, flatten}
 use Rattle.settings.specs.Settings.{set_code, byte_count, values_of, row_count}
 use Rattle.image_forms.specs.declared.Form.{Form}
@@ -63,8 +64,7 @@ largest = panel_size Form.Two * most_panels + 2
 
 -- a form keeps all that a wall has
 unfoldable pub loses_nothing : Form → Wall → Bool
-loses_nothing form [] = true
-loses_nothing form (p ∷ w) = keeps form p.profile p.values && loses_nothing form w
+loses_nothing form w = list_all (λ p. keeps form p.profile p.values) w
 
 -- what writing answers: 31 comes before 19
 unfoldable pub written_of : Form → Wall → List ℕ → Result ℕ Refusal

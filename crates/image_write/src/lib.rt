@@ -88,19 +88,10 @@ pub fn loses_nothing(form: Form, t: Table) -> bool
     requires { WellFormed t }
     ensures { result ≡ loses_nothing form (panels_of t) }
 {
-    let n = panels::count_of(t);
     let places = panels::panels_of(t);
-    let mut k = 0;
-    while k < n {
-        let p = places[k];
-        let profile = p.profile;
-        let values = p.values;
-        if !image_forms::keeps(form, profile, &values) {
-            return false;
-        }
-        k += 1;
-    }
-    true
+    places[..panels::count_of(t)]
+        .iter()
+        .all(|p| image_forms::keeps(form, p.profile, &p.values))
 }
 
 // The table's image at the front of out, of which the rest stays as it was, and the image's size.
@@ -119,8 +110,8 @@ pub fn write_image(form: Form, t: Table, out: &mut [u8]) -> Result<usize, Refusa
     let n = panels::count_of(t);
     let end = size - TRAILER_SIZE;
     write::records(form, out, t);
-    write::starts(form, out, n);
+    write::starts(form, &mut out[end - START_SIZE * n..], n);
     out[end] = n as u8;
-    out[end + 1] = image_forms::form_byte(form);
+    out[end + 1] = u8::from(form);
     Ok(size)
 }

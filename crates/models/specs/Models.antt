@@ -1,14 +1,14 @@
 -- What a panel may hold goes by its model, its profile and its kind. 01, "The settings"; 02, A1 and A6.
-use Rattle.std.specs.Prelude.{ℕ, Bool, cond, not, ◌&&◌, ◌||◌, List, eqb, get_or, set}
+use Rattle.std.specs.Prelude.{ℕ, Bool, cond, not, ◌&&◌, ◌||◌, List, eqb, get_or, set, unwrap_or}
 use Rattle.tiling.specs.declared.Kind.{Kind}
-use Rattle.tiling.specs.Kinds.{kind_with, if_known, in_wall}
+use Rattle.tiling.specs.Kinds.{kind_with, in_wall}
 use Rattle.settings.specs.declared.Profile.{Profile}
 use Rattle.settings.specs.Settings.{in_ranges, values_of, kind_row, tiling_row}
 use Rattle.models.specs.declared.Model.{Model}
 
 -- the kind that a panel's value says; none holds a number that is no kind's, which would be the larger kind's
 abbrev pub kind_for : ℕ → Kind
-kind_for n = if_known (kind_with n) (λ kind. kind) Kind.FifteenByTen
+kind_for n = unwrap_or (kind_with n) Kind.FifteenByTen
 
 -- the kind is among a panel's values
 abbrev pub model_in : Profile → List ℕ → Model

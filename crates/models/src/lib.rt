@@ -6,7 +6,7 @@ ghost use Rattle.settings.specs.Settings.{value_count};
 ghost use Rattle.models.specs.Models.{kind_for, model_in, allowed_for, filled};
 
 use settings::{Profile, Row};
-use tiling::{Kind, Numbered};
+use tiling::Kind;
 
 // What a panel's ranges go by.
 #[derive(Clone, Copy)]
@@ -19,11 +19,7 @@ pub struct Model {
 fn kind_for(number: u8) -> Kind
     ensures { result ≡ kind_for number }
 {
-    let numbered = tiling::kind_with(number);
-    match numbered {
-        Numbered::Known(kind) => kind,
-        Numbered::Unknown => Kind::FifteenByTen,
-    }
+    Kind::try_from(number).unwrap_or(Kind::FifteenByTen)
 }
 
 // The model of a panel of this profile that has these values.

@@ -4,13 +4,13 @@ use mathlib.Core.Bool.{true}
 use Prim.Native.Nat.{◌≤◌}
 use native.Mathlib.Omega.{arith}
 use borrow.Author.Tests.{eqb-true}
+use Rattle.std.specs.Prelude.{Some}
 use Rattle.packet.specs.declared.Edition.{Edition}
 use Rattle.packet.specs.declared.GroupId.{GroupId}
-use Rattle.packet.specs.declared.Numbered.{Numbered}
 use Rattle.packet.specs.Edition.{edition_number, edition_with, group_on, carries, head_size}
 use Rattle.packet.specs.Packet.{group_id}
 
-pub number_back : (edition : Edition) → edition_with (edition_number edition) ≡ Numbered.Known edition
+pub number_back : (edition : Edition) → edition_with (edition_number edition) ≡ Some edition
 unfolding edition_with
 number_back Edition.Sicp185 = refl
 number_back Edition.Sicp201 = refl

@@ -1,27 +1,22 @@
 -- The editions of the protocol, and all in which they differ: a packet has a group byte on 2.01 and none on 1.85. 000, 2.2.1;
 -- 001, 2.3; 02, A11.
-use Rattle.std.specs.Prelude.{ℕ, Bool, cond, List, [], ◌∷◌, eqb}
+use Rattle.std.specs.Prelude.{ℕ, Bool, cond, List, [], ◌∷◌, eqb, Option, Some, None}
+use Rattle.std.specs.Option.{option_map_or}
 use Rattle.refusals.specs.Refusals.{unknown_edition}
 use Rattle.packet.specs.declared.Edition.{Edition}
 use Rattle.packet.specs.declared.GroupId.{GroupId}
-use Rattle.packet.specs.declared.Numbered.{Numbered}
 
 -- an edition's number is its name without the point
 abbrev pub edition_number : Edition → ℕ
 edition_number Edition.Sicp185 = 185
 edition_number Edition.Sicp201 = 201
 
-unfoldable pub edition_with : ℕ → Numbered
-edition_with n = cond (eqb n 185) (Numbered.Known Edition.Sicp185) (cond (eqb n 201) (Numbered.Known Edition.Sicp201) Numbered.Unknown)
-
--- what comes of the edition that a number has, and what comes where it has none
-abbrev pub if_known : {A : Type 0} → Numbered → (Edition → A) → A → A
-if_known (Numbered.Known edition) some none = some edition
-if_known Numbered.Unknown some none = none
+unfoldable pub edition_with : ℕ → Option Edition
+edition_with n = cond (eqb n 185) (Some Edition.Sicp185) (cond (eqb n 201) (Some Edition.Sicp201) None)
 
 -- what opening a line or a host with a number is refused by, 0 where it is not
-abbrev pub open_refusal : Numbered → ℕ
-open_refusal numbered = if_known numbered (λ edition. 0) unknown_edition
+abbrev pub open_refusal : Option Edition → ℕ
+open_refusal numbered = option_map_or (λ edition. 0) numbered unknown_edition
 
 -- the group's byte in a packet
 abbrev pub group_bytes : Edition → ℕ → List ℕ

@@ -1,8 +1,8 @@
 // The editions by number, and all in which they differ.
-ghost use Rattle.std.specs.Prelude.{◌≡◌, ◌≤◌, length, get_or};
+ghost use Rattle.std.specs.Prelude.{◌≡◌, ◌≤◌, None, length, get_or, ok_or};
 ghost use Rattle.packet.specs.Edition.{edition_number, edition_with, open_refusal, group_on, carries, head_size};
 
-use crate::{Edition, GroupId, Numbered};
+use crate::{Edition, GroupId};
 use refusals::UNKNOWN_EDITION;
 
 // The numbers of the editions: their names without the point.
@@ -13,36 +13,44 @@ pub const SICP_201: u32 = 201;
 // The bytes before the data of a 2.01 packet: size, monitor ID, group.
 pub const HEAD_201: usize = 3;
 
+// A number that no edition has.
+#[derive(Clone, Copy, Debug, PartialEq, Eq)]
+pub struct UnknownEdition;
+
 // An edition's number.
-pub fn edition_number(edition: Edition) -> u32
-    ensures { result ≡ edition_number edition }
-{
-    match edition {
-        Edition::Sicp185 => SICP_185,
-        Edition::Sicp201 => SICP_201,
+impl From<Edition> for u32 {
+    ghost from_gives = { λ edition n. n ≡ edition_number edition };
+
+    fn from(edition: Edition) -> u32 {
+        match edition {
+            Edition::Sicp185 => SICP_185,
+            Edition::Sicp201 => SICP_201,
+        }
     }
 }
 
-// The edition that has this number, if one does.
-pub fn edition_with(number: u32) -> Numbered
-    ensures { result ≡ edition_with number }
-{
-    if number == SICP_185 {
-        return Numbered::Known(Edition::Sicp185);
+// The edition that has a number, if one does.
+impl TryFrom<u32> for Edition {
+    type Error = UnknownEdition;
+
+    ghost try_from_gives = { λ n r. r ≡ ok_or (edition_with n) (record {}) };
+
+    #[tactic(auto, unfolding(crate::specs::Edition::edition_with))]
+    fn try_from(number: u32) -> Result<Edition, UnknownEdition> {
+        match number {
+            SICP_185 => Ok(Edition::Sicp185),
+            SICP_201 => Ok(Edition::Sicp201),
+            _ => Err(UnknownEdition),
+        }
     }
-    if number == SICP_201 {
-        return Numbered::Known(Edition::Sicp201);
-    }
-    Numbered::Unknown
 }
 
-// What opening a line or a host with a number is refused by, 0 where it is not.
-pub fn open_refusal(numbered: Numbered) -> u8
-    ensures { result ≡ open_refusal numbered }
-{
-    match numbered {
-        Numbered::Known(_) => 0,
-        Numbered::Unknown => UNKNOWN_EDITION,
+// What opening a line or a host with a number that no edition has is refused by.
+impl From<UnknownEdition> for u8 {
+    ghost from_gives = { λ _ n. n ≡ open_refusal None };
+
+    fn from(_: UnknownEdition) -> u8 {
+        UNKNOWN_EDITION
     }
 }
 

@@ -11,23 +11,16 @@ ghost use Rattle.packet.specs.Packet.{damage_of, damage_number, verdict_of, dama
 ghost use Rattle.packet.specs.Reading.{seems_for};
 
 pub use by_front::{data_by, verdict_by};
-pub use editions::{HEAD_201, SICP_201, carries, edition_number, edition_with, open_refusal};
+pub use editions::{HEAD_201, SICP_201, UnknownEdition, carries};
 
 // The bytes of the longest packet.
 pub const LONGEST: usize = 40;
 
 // An edition of the protocol, 1.85 or 2.01, by which a line's packets are read and written.
-#[derive(Clone, Copy)]
+#[derive(Clone, Copy, Debug, PartialEq, Eq)]
 pub enum Edition {
     Sicp185,
     Sicp201,
-}
-
-// The edition that has a number, if one does.
-#[derive(Clone, Copy)]
-pub enum Numbered {
-    Known(Edition),
-    Unknown,
 }
 
 #[derive(Clone, Copy)]

@@ -1,3 +1,2 @@
--- What is right of the profiles. `Numbers` is their numbers, `Video` a Phoenix panel's video: its bytes, and what a caller sees.
-pub mod Numbers
+-- What is right of a Phoenix panel's video: its bytes, and what a caller sees.
 pub mod Video

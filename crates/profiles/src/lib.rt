@@ -1,18 +1,10 @@
-// The profiles by number, and a Phoenix panel's video: the seven bytes on the line, and what a caller sees and sets.
+// A Phoenix panel's video: the seven bytes on the line, and what a caller sees and sets.
 #![tactic(auto)]
 
 ghost use Rattle.std.specs.Prelude.{◌≡◌};
-ghost use Rattle.profiles.specs.Numbers.{profile_number, profile_with};
 ghost use Rattle.profiles.specs.Video.{tint_of, tint_byte, video_in, bytes_of};
 
-use settings::{MOST_VALUES, Profile};
-
-// The profile that has a number, if one does.
-#[derive(Clone, Copy)]
-pub enum Numbered {
-    Known(Profile),
-    Unknown,
-}
+use settings::MOST_VALUES;
 
 // A Phoenix panel's seven video values, of which the tint has a sign.
 #[derive(Clone, Copy)]
@@ -24,29 +16,6 @@ pub struct Video {
     pub tint: i8,
     pub black: u8,
     pub gamma: u8,
-}
-
-// A profile's number.
-pub fn profile_number(profile: Profile) -> u8
-    ensures { result ≡ profile_number profile }
-{
-    match profile {
-        Profile::General => 0,
-        Profile::Phoenix => 1,
-    }
-}
-
-// The profile that has this number, if one does.
-pub fn profile_with(number: u8) -> Numbered
-    ensures { result ≡ profile_with number }
-{
-    if number == 0 {
-        return Numbered::Known(Profile::General);
-    }
-    if number == 1 {
-        return Numbered::Known(Profile::Phoenix);
-    }
-    Numbered::Unknown
 }
 
 // The tint that a byte holds as two's complement; !x is -1 - x.

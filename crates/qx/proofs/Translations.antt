@@ -8,7 +8,7 @@ use lib.Dec.{eqb}
 use lib.ListN.{length, get_or}
 use Rattle.lists.specs.Lists.{laid_over}
 use Rattle.settings.specs.declared.Profile.{Profile}
-use Rattle.profiles.specs.Numbers.{profile_number}
+use Rattle.settings.specs.Profiles.{profile_number}
 use Rattle.packet.specs.declared.Edition.{Edition}
 use Rattle.packet.specs.Answered.{is_heard}
 use Rattle.packet.specs.Packet.{longest}

@@ -1,12 +1,13 @@
 -- A request as a step of `host_play` or `qx_play` tells it: ID, group, code, then the values, for a panel of a model that is told
 -- beside it, or by a number in front of it, the profile's and twice the kind's.
+use Rattle.std.specs.Option.{option_map_or}
 use Rattle.std.specs.Prelude.{ℕ, ◌-◌, ◌/◌, ◌%◌, true, false, cond, List, [], ◌∷◌, ltb, length, get_or, take, drop, replicate}
 use Rattle.lists.specs.Lists.{laid_over}
 use Rattle.settings.specs.declared.Profile.{Profile}
 use Rattle.settings.specs.Settings.{most_values}
 use Rattle.tiling.specs.declared.Kind.{Kind}
 use Rattle.tiling.specs.Kinds as kinds
-use Rattle.profiles.specs.Numbers as profiles
+use Rattle.settings.specs.Profiles as profiles
 use Rattle.models.specs.declared.Model.{Model}
 use Rattle.packet.specs.Packet.{monitor_id, group_id}
 use Rattle.requests.specs.declared.Request.{Request}
@@ -36,4 +37,4 @@ told_for model s = cond (ltb (length s) step_head) nothing (record { request = r
 
 unfoldable pub told_with_model : List ℕ → Told
 told_with_model [] = nothing
-told_with_model (n ∷ s) = kinds.if_known (kinds.kind_with (n / 2)) (λ kind. profiles.if_known (profiles.profile_with (n % 2)) (λ profile. told_for (record { profile = profile; kind = kind }) s) nothing) nothing
+told_with_model (n ∷ s) = option_map_or (λ kind. option_map_or (λ profile. told_for (record { profile = profile; kind = kind }) s) (profiles.profile_with (n % 2)) nothing) (kinds.kind_with (n / 2)) nothing

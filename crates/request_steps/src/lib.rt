@@ -74,12 +74,12 @@ pub fn told_with_model(step: &[u8]) -> Told
         return nothing();
     }
     let number = step[0];
-    let kinded = tiling::kind_with(number / 2);
-    let tiling::Numbered::Known(kind) = kinded else {
+    let kinded = Kind::try_from(number / 2);
+    let Ok(kind) = kinded else {
         return nothing();
     };
-    let profiled = profiles::profile_with(number % 2);
-    let profiles::Numbered::Known(profile) = profiled else {
+    let profiled = Profile::try_from(number % 2);
+    let Ok(profile) = profiled else {
         return nothing();
     };
     told_for(Model { profile, kind }, &step[1..])

@@ -1,6 +1,7 @@
 // The nine settings and the kind as one fixed table of numbers, which box, host and image all read.
 #![tactic(auto)]
 
+mod by_number;
 mod numbers;
 mod ranges;
 mod rows;
@@ -8,6 +9,7 @@ mod rows;
 ghost use Rattle.std.specs.Prelude.{◌≡◌};
 ghost use Rattle.settings.specs.Settings.{fresh_values};
 
+pub use by_number::UnknownProfile;
 pub use ranges::in_ranges;
 pub use rows::Row;
 

@@ -7,9 +7,10 @@ use native.Mathlib.Omega.{arith}
 use borrow.Author.Tests.{eqb-false, leb-false}
 use lib.Dec.{eqb, leb}
 use lib.ListN.{length, length-append, length-take, length-drop}
-use Rattle.profiles.specs.declared.Numbered.{Numbered}
-use Rattle.profiles.specs.Numbers.{profile_with}
-use Rattle.tiling.specs.declared.Numbered.{Numbered as KindNumbered}
+use Rattle.tiling.specs.declared.Kind.{Kind}
+use Rattle.settings.specs.declared.Profile.{Profile}
+use Rattle.std.specs.Prelude.{Option, Some, None}
+use Rattle.settings.specs.Profiles.{profile_with}
 use Rattle.tiling.specs.Kinds.{kind_with}
 use Rattle.packet.specs.declared.MonitorId.{MonitorId}
 use Rattle.packet.specs.declared.GroupId.{GroupId}
@@ -54,12 +55,12 @@ may_add w i g n k e = go (leb most_panels (length w)) (eqb i.0 0) (place_of i w)
         record { room = leb-false _ _ ea; named = eqb-false _ _ eb; new = eq; grouped = eqb-false _ _ ec }
 
 -- a panel more, or none
-good_more : (w : Wall) (i : MonitorId) (g : GroupId) (numbered : Numbered) (kinded : KindNumbered) → length w ≤ most_panels → GoodWall w → MayAdd w i g
+good_more : (w : Wall) (i : MonitorId) (g : GroupId) (numbered : Option Profile) (kinded : Option Kind) → length w ≤ most_panels → GoodWall w → MayAdd w i g
     → WellFormed (table_of (w ++ fresh_of numbered kinded i g))
-good_more w i g (Numbered.Known profile) (KindNumbered.Known kind) few good m =
+good_more w i g (Some profile) (Some kind) few good m =
     formed _ (simp length-append (omega arith)) (good_snoc w _ good (fresh-good i g profile kind m.named m.grouped) (nowhere_absent i 0 w m.new))
-good_more w i g (Numbered.Known profile) KindNumbered.Unknown few good m = rw append-nil (formed w few good)
-good_more w i g Numbered.Unknown kinded few good m = rw append-nil (formed w few good)
+good_more w i g (Some profile) None few good m = rw append-nil (formed w few good)
+good_more w i g None kinded few good m = rw append-nil (formed w few good)
 
 good-added : (w : Wall) (i : MonitorId) (g : GroupId) (n k : ℕ) (r : Refusal) → length w ≤ most_panels → GoodWall w → add_refusal w i g n k ≡ r
     → WellFormed (table_of (cond (eqb (refusal_number r) 0) (w ++ fresh_of (profile_with n) (kind_with k) i g) w))

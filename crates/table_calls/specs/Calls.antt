@@ -1,10 +1,11 @@
 -- Add and remove. 01, "Table calls and numbers": lower numbers first, and a refusal changes nothing. 02, A1
 -- and A6: a profile and a kind, 5 and 7.
-use Rattle.std.specs.Prelude.{ℕ, suc, cond, [], ◌∷◌, ◌++◌, eqb, leb, length, take, drop}
-use Rattle.tiling.specs.declared.Numbered.{Numbered as KindNumbered}
-use Rattle.tiling.specs.Kinds.{kind_with, if_known as if_kind}
-use Rattle.profiles.specs.declared.Numbered.{Numbered}
-use Rattle.profiles.specs.Numbers.{profile_with, if_known}
+use Rattle.tiling.specs.declared.Kind.{Kind}
+use Rattle.settings.specs.declared.Profile.{Profile}
+use Rattle.std.specs.Option.{option_map_or}
+use Rattle.std.specs.Prelude.{ℕ, suc, cond, [], ◌∷◌, ◌++◌, eqb, leb, length, take, drop, Option}
+use Rattle.tiling.specs.Kinds.{kind_with}
+use Rattle.settings.specs.Profiles.{profile_with}
 use Rattle.packet.specs.declared.MonitorId.{MonitorId}
 use Rattle.packet.specs.declared.GroupId.{GroupId}
 use Rattle.panels.specs.declared.Place.{Place}
@@ -27,11 +28,11 @@ unfoldable pub add_refusal : Wall → MonitorId → GroupId → ℕ → ℕ → 
 add_refusal w i g n k =
     cond (leb most_panels (length w)) Refusal.Full
     (cond (eqb i.0 0) Refusal.IdZero (if_there (place_of i w) Refusal.IdTaken
-    (cond (eqb g.0 0) Refusal.GroupZero (if_known (profile_with n) (λ profile. if_kind (kind_with k) (λ kind. Refusal.Nothing) Refusal.UnknownKind) Refusal.UnknownProfile))))
+    (cond (eqb g.0 0) Refusal.GroupZero (option_map_or (λ profile. option_map_or (λ kind. Refusal.Nothing) (kind_with k) Refusal.UnknownKind) (profile_with n) Refusal.UnknownProfile))))
 
 -- the fresh panel of a profile and a kind, if there are such
-abbrev pub fresh_of : Numbered → KindNumbered → MonitorId → GroupId → Wall
-fresh_of numbered kinded i g = if_known numbered (λ profile. if_kind kinded (λ kind. fresh_panel i g profile kind ∷ []) []) []
+abbrev pub fresh_of : Option Profile → Option Kind → MonitorId → GroupId → Wall
+fresh_of numbered kinded i g = option_map_or (λ profile. option_map_or (λ kind. fresh_panel i g profile kind ∷ []) kinded []) numbered []
 
 -- that panel at the end, unless it is refused
 unfoldable pub added : Wall → MonitorId → GroupId → ℕ → ℕ → Wall

@@ -8,7 +8,6 @@ ghost use Rattle.table_calls.specs.Calls.{refusal_number, added_to, without, rem
 
 use packet::{GroupId, MonitorId};
 use panels::{MOST_PANELS, Panel, Place, Table};
-use profiles::Numbered;
 use settings::{Profile, Row};
 use tiling::Kind;
 
@@ -42,7 +41,7 @@ fn fresh_panel(id: MonitorId, group: GroupId, profile: Profile, kind: Kind) -> P
     ensures { result ≡ fresh_panel id group profile kind }
 {
     let mut values = settings::fresh(profile);
-    let number = [tiling::kind_number(kind)];
+    let number = [u8::from(kind)];
     Row::KIND.store(&number, &mut values);
     Panel {
         id,
@@ -71,12 +70,12 @@ pub fn add(t: Table, id: MonitorId, group: GroupId, number: u8, kind: u8) -> Cha
     if group.0 == 0 {
         return refused(t, Refusal::GroupZero);
     }
-    let numbered = profiles::profile_with(number);
-    let Numbered::Known(profile) = numbered else {
+    let numbered = Profile::try_from(number);
+    let Ok(profile) = numbered else {
         return refused(t, Refusal::UnknownProfile);
     };
-    let kinded = tiling::kind_with(kind);
-    let tiling::Numbered::Known(kind) = kinded else {
+    let kinded = Kind::try_from(kind);
+    let Ok(kind) = kinded else {
         return refused(t, Refusal::UnknownKind);
     };
     let p = fresh_panel(id, group, profile, kind);

@@ -1,10 +1,10 @@
 -- A kind's number is that kind's. Assumes nothing.
 use mathlib.Core.Path.{◌≡◌, refl}
 use Rattle.tiling.specs.declared.Kind.{Kind}
-use Rattle.tiling.specs.declared.Numbered.{Numbered}
+use Rattle.std.specs.Prelude.{Some}
 use Rattle.tiling.specs.Kinds.{kind_number, kind_with}
 
-pub number_back : (kind : Kind) → kind_with (kind_number kind) ≡ Numbered.Known kind
+pub number_back : (kind : Kind) → kind_with (kind_number kind) ≡ Some kind
 unfolding kind_with
 number_back Kind.FiveByFive = refl
 number_back Kind.FifteenByTen = refl

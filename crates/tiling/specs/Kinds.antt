@@ -1,7 +1,6 @@
 -- The kinds of panel, by the walls that they can stand in. 02, A6: 5 by 5, or 15 wide by 10 high; numbers 0 and 1.
-use Rattle.std.specs.Prelude.{ℕ, ◌*◌, Bool, cond, ◌&&◌, eqb}
+use Rattle.std.specs.Prelude.{ℕ, ◌*◌, Bool, cond, ◌&&◌, eqb, Option, Some, None}
 use Rattle.tiling.specs.declared.Kind.{Kind}
-use Rattle.tiling.specs.declared.Numbered.{Numbered}
 use Rattle.tiling.specs.declared.Coded.{Coded}
 use Rattle.tiling.specs.declared.Size.{Size}
 use Rattle.tiling.specs.Walls.{byte_of, height_of, width_of, up_to}
@@ -10,13 +9,8 @@ abbrev pub kind_number : Kind → ℕ
 kind_number Kind.FiveByFive = 0
 kind_number Kind.FifteenByTen = 1
 
-unfoldable pub kind_with : ℕ → Numbered
-kind_with n = cond (eqb n 0) (Numbered.Known Kind.FiveByFive) (cond (eqb n 1) (Numbered.Known Kind.FifteenByTen) Numbered.Unknown)
-
--- what comes of the kind that a number has, and what comes where it has none
-abbrev pub if_known : {A : Type 0} → Numbered → (Kind → A) → A → A
-if_known (Numbered.Known kind) some none = some kind
-if_known Numbered.Unknown some none = none
+unfoldable pub kind_with : ℕ → Option Kind
+kind_with n = cond (eqb n 0) (Some Kind.FiveByFive) (cond (eqb n 1) (Some Kind.FifteenByTen) None)
 
 abbrev pub widest : Kind → ℕ
 widest Kind.FiveByFive = 5

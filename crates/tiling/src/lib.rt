@@ -1,23 +1,20 @@
 // Where a panel sits in a wall: a wall's height and width in one byte, by the kind of panel.
 #![tactic(auto)]
 
-ghost use Rattle.std.specs.Prelude.{◌≡◌};
+ghost use Rattle.std.specs.Prelude.{◌≡◌, ok_or};
 ghost use Rattle.tiling.specs.Walls.{up_to};
 ghost use Rattle.tiling.specs.Kinds.{kind_number, kind_with, widest, highest, largest, coded_as, size_in, in_wall};
 
 // The walls that a panel can stand in: up to 5 wide and 5 high, or up to 15 wide and 10 high.
-#[derive(Clone, Copy)]
+#[derive(Clone, Copy, Debug, PartialEq, Eq)]
 pub enum Kind {
     FiveByFive,
     FifteenByTen,
 }
 
-// The kind that has a number, if one does.
-#[derive(Clone, Copy)]
-pub enum Numbered {
-    Known(Kind),
-    Unknown,
-}
+// A number that no kind has.
+#[derive(Clone, Copy, Debug, PartialEq, Eq)]
+pub struct UnknownKind;
 
 // The byte of a height and a width, if the kind has such a wall.
 #[derive(Clone, Copy)]
@@ -34,26 +31,31 @@ pub enum Size {
 }
 
 // A kind's number.
-pub fn kind_number(kind: Kind) -> u8
-    ensures { result ≡ kind_number kind }
-{
-    match kind {
-        Kind::FiveByFive => 0,
-        Kind::FifteenByTen => 1,
+impl From<Kind> for u8 {
+    ghost from_gives = { λ kind n. n ≡ kind_number kind };
+
+    fn from(kind: Kind) -> u8 {
+        match kind {
+            Kind::FiveByFive => 0,
+            Kind::FifteenByTen => 1,
+        }
     }
 }
 
-// The kind that has this number, if one does.
-pub fn kind_with(number: u8) -> Numbered
-    ensures { result ≡ kind_with number }
-{
-    if number == 0 {
-        return Numbered::Known(Kind::FiveByFive);
+// The kind that has a number, if one does.
+impl TryFrom<u8> for Kind {
+    type Error = UnknownKind;
+
+    ghost try_from_gives = { λ n r. r ≡ ok_or (kind_with n) (record {}) };
+
+    #[tactic(auto, unfolding(crate::specs::Kinds::kind_with))]
+    fn try_from(number: u8) -> Result<Kind, UnknownKind> {
+        match number {
+            0 => Ok(Kind::FiveByFive),
+            1 => Ok(Kind::FifteenByTen),
+            _ => Err(UnknownKind),
+        }
     }
-    if number == 1 {
-        return Numbered::Known(Kind::FifteenByTen);
-    }
-    Numbered::Unknown
 }
 
 // The width H of a kind's widest wall.

@@ -7,10 +7,11 @@ use native.Mathlib.Omega.{arith}
 use borrow.Author.Tests.{eq-eqb, ne_eqb, eqb-true, eqb-false, leb-true}
 use lib.Dec.{leb, eqb}
 use lib.ListN.{length}
+use Rattle.std.specs.Prelude.{Option, Some, None}
+use Rattle.std.specs.Option.{option_map_or}
 use Rattle.lists.proofs.Both.{both}
 use Rattle.packet.specs.declared.Edition.{Edition}
-use Rattle.packet.specs.declared.Numbered.{Numbered}
-use Rattle.packet.specs.Edition.{edition_with, if_known}
+use Rattle.packet.specs.Edition.{edition_with}
 use Rattle.packet.specs.Reading.{reading_of}
 use Rattle.panels.specs.declared.Table.{Table}
 use Rattle.panels.specs.Wall.{Wall, panels_of}
@@ -98,24 +99,24 @@ module _ (image : List ℕ) (read : Read) (is_read : read ≡ in_table (read_of 
   is_setup : setup ≡ refusal_for (read_of image).refusal (loses_nothing Form.Two (read_of image).wall) (leb least (length answer) && leb (size_of Form.Two (read_of image).wall) (length out))
   is_setup = refusal_is image read is_read Form.Two least (length answer) (length out) true room (sym (two_holds _)) is-room setup refl
 
-  abbrev after : Numbered → Wall → After
-  after known w = if_known known (λ (e : Edition). then e w) (refused unknown_edition answer out)
+  abbrev after : Option Edition → Wall → After
+  after known w = option_map_or (λ (e : Edition). then e w) known (refused unknown_edition answer out)
 
   -- what the number comes to, once the setup is taken
-  by_number : (known : Numbered) → let n : ℕ = if_known known (λ (e : Edition). 0) unknown_edition in
+  by_number : (known : Option Edition) → let n : ℕ = option_map_or (λ (e : Edition). 0) known unknown_edition in
       ((n ≡ 0 → ⊥) → refused n answer out ≡ after known (read_of image).wall)
-      × (n ≡ 0 → then (if_known known (λ (e : Edition). e) Edition.Sicp201) (read_of image).wall ≡ after known (read_of image).wall)
-  by_number (Numbered.Known e) = ((λ h. absurd (h refl)), (λ h. refl))
-  by_number Numbered.Unknown = ((λ h. refl), (λ h. absurd (omega arith)))
+      × (n ≡ 0 → then (option_map_or (λ (e : Edition). e) known Edition.Sicp201) (read_of image).wall ≡ after known (read_of image).wall)
+  by_number (Some e) = ((λ h. absurd (h refl)), (λ h. refl))
+  by_number None = ((λ h. refl), (λ h. absurd (omega arith)))
 
   line_is : ((o.refusal ≡ 0 → ⊥) → refused o.refusal answer out ≡ after_on number least image then answer out)
       × (o.refusal ≡ 0 → (setup ≡ 0) × (then o.edition (read_of image).wall ≡ after_on number least image then answer out))
   unfolding after_on
   line_is = subst (λ (o : Opened). ((o.refusal ≡ 0 → ⊥) → refused o.refusal answer out ≡ after_on number least image then answer out) × (o.refusal ≡ 0 → (setup ≡ 0) × (then o.edition (read_of image).wall ≡ after_on number least image then answer out))) (sym is) (go (eqb setup 0) refl)
     where
-      go : (t : Bool) → eqb setup 0 ≡ t → let n = cond t (if_known (edition_with number) (λ (e : Edition). 0) unknown_edition) setup in
+      go : (t : Bool) → eqb setup 0 ≡ t → let n = cond t (option_map_or (λ (e : Edition). 0) (edition_with number) unknown_edition) setup in
           ((n ≡ 0 → ⊥) → refused n answer out ≡ after_setup Form.Two least image (after (edition_with number)) answer out)
-          × (n ≡ 0 → (setup ≡ 0) × (then (if_known (edition_with number) (λ (e : Edition). e) Edition.Sicp201) (read_of image).wall ≡ after_setup Form.Two least image (after (edition_with number)) answer out))
+          × (n ≡ 0 → (setup ≡ 0) × (then (option_map_or (λ (e : Edition). e) (edition_with number) Edition.Sicp201) (read_of image).wall ≡ after_setup Form.Two least image (after (edition_with number)) answer out))
       go true s =
           let zero = eqb-true setup 0 s in
           let taken = setup_taken Form.Two least image (after (edition_with number)) answer out setup is_setup zero in

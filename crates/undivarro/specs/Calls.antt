@@ -1,10 +1,11 @@
 -- What a call from C leaves: four numbers, and every byte of both buffers. 01, "For C"; 02, A2: play and read write form 2, and
 -- back writes form 1; A3: play tells what is wrong with the burst; A7; A9: a list is played; A11: play takes the number of the
 -- line's edition.
+use Rattle.std.specs.Option.{option_map_or}
 use Rattle.std.specs.Prelude.{ℕ, Bool, true, cond, ◌&&◌, List, [], leb, eqb, length}
 use Rattle.packet.specs.declared.Damage.{Damage}
 use Rattle.packet.specs.declared.Edition.{Edition}
-use Rattle.packet.specs.Edition.{edition_number, edition_with, if_known}
+use Rattle.packet.specs.Edition.{edition_number, edition_with}
 use Rattle.packet.specs.Packet.{longest, damage_in, damage_number}
 use Rattle.packet.specs.Reading.{reading_of}
 use Rattle.lists.specs.Lists.{laid_over}
@@ -72,7 +73,7 @@ after_list edition w list answers out =
 -- on a line opened with this number; 23 comes after what is wrong with the setup and the room
 unfoldable pub after_on : ℕ → ℕ → List ℕ → (Edition → Wall → After) → List ℕ → List ℕ → After
 after_on number least image then answer out =
-    after_setup Form.Two least image (λ w. if_known (edition_with number) (λ edition. then edition w) (refused unknown_edition answer out)) answer out
+    after_setup Form.Two least image (λ w. option_map_or (λ edition. then edition w) (edition_with number) (refused unknown_edition answer out)) answer out
 
 -- a burst's answer needs room for any packet; what a list's need is part of what is wrong with it
 abbrev pub after_play_on : ℕ → List ℕ → List ℕ → List ℕ → List ℕ → After

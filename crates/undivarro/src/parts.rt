@@ -9,7 +9,7 @@ ghost use Rattle.undivarro.specs.Private.Opened.{opened_as};
 
 use crate::{Opened, Outcome};
 use image_forms::Form;
-use packet::{Edition, Numbered};
+use packet::Edition;
 use panels::Table;
 use refusals::{NO_ROOM, Refusal, UNKNOWN_EDITION, WOULD_LOSE};
 
@@ -43,8 +43,7 @@ pub(crate) fn opened(number: u32, read: Refusal, room: bool) -> Opened
     ensures { result ≡ opened_as number read room }
 {
     let refusal = refusal_for(read, true, room);
-    let numbered = packet::edition_with(number);
-    let Numbered::Known(edition) = numbered else {
+    let Ok(edition) = Edition::try_from(number) else {
         return Opened {
             refusal: if refusal == 0 {
                 UNKNOWN_EDITION as u32

@@ -3,7 +3,7 @@
 #![tactic(auto)]
 
 use answers::Reply;
-use packet::{Edition, LONGEST, Numbered};
+use packet::{Edition, LONGEST};
 use std::io;
 use text::{LONGEST_STEP, Read};
 
@@ -27,11 +27,10 @@ fn answer(rt: &impl Print, edition: Edition, burst: &[u8]) -> io::Result<()> {
 // A burst on a line that is opened with this number.
 fn play_on(rt: &impl Print, number: u8, burst: &[u8]) -> io::Result<()> {
     print!(rt; "{number}")?;
-    let numbered = packet::edition_with(number as u32);
-    let Numbered::Known(edition) = numbered else {
-        return println!(rt; " refused {}", packet::open_refusal(numbered));
-    };
-    answer(rt, edition, burst)
+    match Edition::try_from(u32::from(number)) {
+        Ok(edition) => answer(rt, edition, burst),
+        Err(unknown) => println!(rt; " refused {}", u8::from(unknown)),
+    }
 }
 
 fn play(rt: &impl Print, step: &[u8]) -> io::Result<()> {

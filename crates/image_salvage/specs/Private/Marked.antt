@@ -1,6 +1,6 @@
 -- A record salvaged by the code, which has the IDs seen before marked.
+use Rattle.std.specs.Option.{option_map_or}
 use Rattle.std.specs.Prelude.{ℕ, ◌+◌, Bool, true, false, List, [], ◌∷◌, length, drop}
-use Rattle.profiles.specs.Numbers.{if_known}
 use Rattle.panels.specs.Wall.{blank}
 use Rattle.image_forms.specs.declared.Form.{Form}
 use Rattle.image_forms.specs.Forms.{head_size}
@@ -12,11 +12,11 @@ use Rattle.image_salvage.specs.Salvaged.{lines_of}
 
 unfoldable pub faults_by : Form → List Bool → List ℕ → List Fault
 faults_by form seen bytes =
-    if_known (head_in form (marked seen) bytes) (λ profile. (kept_of form profile (drop (head_size form) bytes)).faults) (Fault.Dropped ∷ [])
+    option_map_or (λ profile. (kept_of form profile (drop (head_size form) bytes)).faults) (head_in form (marked seen) bytes) (Fault.Dropped ∷ [])
 
 unfoldable pub record_by : Form → ℕ → ℕ → List Bool → List ℕ → KeptRecord
 record_by form number from seen bytes = record {
-  kept = if_known (head_in form (marked seen) bytes) (λ profile. true) false;
-  panel = if_known (head_in form (marked seen) bytes) (λ profile. headed bytes profile (kept_of form profile (drop (head_size form) bytes)).values) blank;
+  kept = option_map_or (λ profile. true) (head_in form (marked seen) bytes) false;
+  panel = option_map_or (λ profile. headed bytes profile (kept_of form profile (drop (head_size form) bytes)).values) (head_in form (marked seen) bytes) blank;
   next = from + length (lines_of number (faults_by form seen bytes));
 }

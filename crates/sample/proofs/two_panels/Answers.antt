@@ -3,7 +3,7 @@ use mathlib.Core.List.{[], ◌∷◌}
 use Rattle.settings.specs.declared.Profile.{Profile}
 use Rattle.tiling.specs.declared.Kind.{Kind}
 use Rattle.tiling.specs.Kinds.{kind_with}
-use Rattle.profiles.specs.Numbers.{profile_with}
+use Rattle.settings.specs.Profiles.{profile_with}
 use Rattle.packet.specs.Packet.{monitor_id, group_id}
 use Rattle.table_calls.specs.declared.Changed.{Changed}
 use Rattle.panels.specs.Wall.{Wall, fresh_panel, table_of, panels_of, place_from}

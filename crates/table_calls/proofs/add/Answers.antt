@@ -6,10 +6,12 @@ use native.Mathlib.Omega.{arith}
 use borrow.Author.Tests.{le-leb, lt-leb, eq-eqb, ne_eqb}
 use lib.Dec.{leb, eqb}
 use lib.ListN.{length, set, length-append}
-use Rattle.tiling.specs.declared.Numbered.{Numbered as KindNumbered}
-use Rattle.tiling.specs.Kinds.{kind_with, if_known as if_kind}
-use Rattle.profiles.specs.declared.Numbered.{Numbered}
-use Rattle.profiles.specs.Numbers.{profile_with}
+use Rattle.tiling.specs.declared.Kind.{Kind}
+use Rattle.settings.specs.declared.Profile.{Profile}
+use Rattle.std.specs.Prelude.{Option, Some, None}
+use Rattle.std.specs.Option.{option_map_or}
+use Rattle.tiling.specs.Kinds.{kind_with}
+use Rattle.settings.specs.Profiles.{profile_with}
 use Rattle.packet.specs.declared.MonitorId.{MonitorId}
 use Rattle.packet.specs.declared.GroupId.{GroupId}
 use Rattle.panels.specs.declared.Panel.{Panel}
@@ -63,7 +65,7 @@ unfolding add_refusal
 returns-in_default-numbered c =
     let room : leb most_panels (length (panels_of c.args.t)) ≡ false = lt-leb most_panels (length (panels_of c.args.t)) (omega arith) in
     let nowhere = sym c.place_of-place.ensures ∙ c.in_default.is in
-    let unknown = sym c.profile_with-numbered.ensures ∙ c.in_default-numbered.is in
+    let unknown : profile_with c.args.number ≡ None = grind (arith, c.try_from-numbered.ensures, c.in_default-numbered.is) in
     c.refused-in_default-numbered.ensures
     ∙ answered c.args.t _ _ _ _ _
     (simp (room, ne_eqb _ _ c.if-id-eq0.false, nowhere, ne_eqb _ _ c.if-group-eq0.false, unknown))
@@ -73,9 +75,9 @@ pub returns-in_default-kinded : goal.returns-in_default-kinded
 unfolding add_refusal
 returns-in_default-kinded c =
     let room : leb most_panels (length (panels_of c.args.t)) ≡ false = lt-leb most_panels (length (panels_of c.args.t)) (omega arith) in
-    let known : profile_with c.args.number ≡ Numbered.Known c.in-Known.profile = sym c.profile_with-numbered.ensures ∙ c.in-Known.is in
-    let by_kind : let a = c.args in add_refusal (panels_of a.t) a.id a.group a.number a.kind ≡ if_kind (kind_with a.kind) (λ kind. Refusal.Nothing) Refusal.UnknownKind = let nowhere = sym c.place_of-place.ensures ∙ c.in_default.is in simp (room, ne_eqb _ _ c.if-id-eq0.false, nowhere, ne_eqb _ _ c.if-group-eq0.false, known) in
-    let unknown = sym c.kind_with-kinded.ensures ∙ c.in_default-kinded.is in
+    let known : profile_with c.args.number ≡ Some c.in-Ok.profile = grind (arith, c.try_from-numbered.ensures, c.in-Ok.is) in
+    let by_kind : let a = c.args in add_refusal (panels_of a.t) a.id a.group a.number a.kind ≡ option_map_or (λ kind. Refusal.Nothing) (kind_with a.kind) Refusal.UnknownKind = let nowhere = sym c.place_of-place.ensures ∙ c.in_default.is in simp (room, ne_eqb _ _ c.if-id-eq0.false, nowhere, ne_eqb _ _ c.if-group-eq0.false, known) in
+    let unknown : kind_with c.args.kind ≡ None = grind (arith, c.try_from-kinded.ensures, c.in_default-kinded.is) in
     c.refused-in_default-kinded.ensures ∙ answered c.args.t _ _ _ _ _ (by_kind ∙ rw unknown) c.requires.held
 
 -- the places hold the wall and the fresh panel
@@ -94,13 +96,13 @@ table_of-table-requires c =
 pub returns : goal.returns
 unfolding add_refusal
 returns c =
-    let known : profile_with c.args.number ≡ Numbered.Known c.in-Known.profile = sym c.profile_with-numbered.ensures ∙ c.in-Known.is in
+    let known : profile_with c.args.number ≡ Some c.in-Ok.profile = grind (arith, c.try_from-numbered.ensures, c.in-Ok.is) in
     let room : leb most_panels (length (panels_of c.args.t)) ≡ false = lt-leb most_panels (length (panels_of c.args.t)) (omega arith) in
-    let by_kind : let a = c.args in add_refusal (panels_of a.t) a.id a.group a.number a.kind ≡ if_kind (kind_with a.kind) (λ kind. Refusal.Nothing) Refusal.UnknownKind = let nowhere = sym c.place_of-place.ensures ∙ c.in_default.is in simp (room, ne_eqb _ _ c.if-id-eq0.false, nowhere, ne_eqb _ _ c.if-group-eq0.false, known) in
+    let by_kind : let a = c.args in add_refusal (panels_of a.t) a.id a.group a.number a.kind ≡ option_map_or (λ kind. Refusal.Nothing) (kind_with a.kind) Refusal.UnknownKind = let nowhere = sym c.place_of-place.ensures ∙ c.in_default.is in simp (room, ne_eqb _ _ c.if-id-eq0.false, nowhere, ne_eqb _ _ c.if-group-eq0.false, known) in
     let a = c.args in
     let w = panels_of a.t in
     let e = grown (panels_of c.args.t) _ _ c.fresh_panel-p.result c.panels_of-places.ensures c.count_of-n.ensures (omega arith) in
-    let kind : kind_with a.kind ≡ KindNumbered.Known c.in-Known-kinded.kind = sym c.kind_with-kinded.ensures ∙ c.in-Known-kinded.is in
+    let kind : kind_with a.kind ≡ Some c.in-Ok-kinded.kind = grind (arith, c.try_from-kinded.ensures, c.in-Ok-kinded.is) in
     answered a.t _ _ _ _ _ (by_kind ∙ rw kind)
     (c.table_of-table.ensures ∙ ap table_of (held_first _ e.0 e.1) ∙ ap (λ (p : Panel). table_of (w ++ p ∷ [])) c.fresh_panel-p.ensures
-    ∙ ap₂ (λ (n : Numbered) (c : KindNumbered). table_of (w ++ fresh_of n c a.id a.group)) (sym known) (sym kind))
+    ∙ ap₂ (λ (n : Option Profile) (c : Option Kind). table_of (w ++ fresh_of n c a.id a.group)) (sym known) (sym kind))

@@ -10,7 +10,7 @@ use Rattle.settings.specs.declared.Profile.{Profile}
 use Rattle.settings.specs.Settings.{settings, in_ranges, values_of, tiling_row}
 use Rattle.settings.proofs.Laws.{ranges_many, eq_same, eq_other}
 use Rattle.models.proofs.Filled.{filled-other, ranges_filled}
-use Rattle.profiles.specs.Numbers.{profile_number}
+use Rattle.settings.specs.Profiles.{profile_number}
 use Rattle.panels.specs.declared.Panel.{Panel}
 use Rattle.panels.specs.Wall.{model_of}
 use Rattle.answers.specs.Judged.{off_already, takes}
@@ -48,13 +48,13 @@ not_taken row vs p e = go (eqb row tiling_row) refl
 
 pub returns-then-not-allowed-number : goal.returns-then-not-allowed-number
 returns-then-not-allowed-number c =
-    let here : let a = c.args in in_ranges a.p.profile a.row (drop 1 a.d.now) ≡ get_or a.allowed c.profile_number-number.result false = let a = c.args in sym (own a.p.profile a.row (drop 1 a.d.now)) ∙ ap₂ (λ (l : List Bool) (n : ℕ). get_or l n false) (sym c.requires) (sym c.profile_number-number.ensures) in
+    let here : let a = c.args in in_ranges a.p.profile a.row (drop 1 a.d.now) ≡ get_or a.allowed c.from-number.result false = let a = c.args in sym (own a.p.profile a.row (drop 1 a.d.now)) ∙ ap₂ (λ (l : List Bool) (n : ℕ). get_or l n false) (sym c.requires) (sym c.from-number.ensures) in
     sym (not_taken _ _ _ (here ∙ c.if-not-allowed-number.true))
 
 pub stands-requires : goal.stands-requires
 unfolding settings
 stands-requires c =
-    let here : let a = c.args in in_ranges a.p.profile a.row (drop 1 a.d.now) ≡ get_or a.allowed c.profile_number-number.result false = let a = c.args in sym (own a.p.profile a.row (drop 1 a.d.now)) ∙ ap₂ (λ (l : List Bool) (n : ℕ). get_or l n false) (sym c.requires) (sym c.profile_number-number.ensures) in
+    let here : let a = c.args in in_ranges a.p.profile a.row (drop 1 a.d.now) ≡ get_or a.allowed c.from-number.result false = let a = c.args in sym (own a.p.profile a.row (drop 1 a.d.now)) ∙ ap₂ (λ (l : List Bool) (n : ℕ). get_or l n false) (sym c.requires) (sym c.from-number.ensures) in
     let allowed : let a = c.args in in_ranges a.p.profile a.row (drop 1 a.d.now) ≡ true = here ∙ c.if-not-allowed-number.false in
     let a = c.args in
     let many = ranges_many a.p.profile tiling_row (drop 1 a.d.now) (ap (λ (r : ℕ). in_ranges a.p.profile r (drop 1 a.d.now)) (sym (eq_same c.eq.ensures c.if-eq.true)) ∙ allowed) in
@@ -62,7 +62,7 @@ stands-requires c =
 
 pub returns-then-eq : goal.returns-then-eq
 returns-then-eq c =
-    let here : let a = c.args in in_ranges a.p.profile a.row (drop 1 a.d.now) ≡ get_or a.allowed c.profile_number-number.result false = let a = c.args in sym (own a.p.profile a.row (drop 1 a.d.now)) ∙ ap₂ (λ (l : List Bool) (n : ℕ). get_or l n false) (sym c.requires) (sym c.profile_number-number.ensures) in
+    let here : let a = c.args in in_ranges a.p.profile a.row (drop 1 a.d.now) ≡ get_or a.allowed c.from-number.result false = let a = c.args in sym (own a.p.profile a.row (drop 1 a.d.now)) ∙ ap₂ (λ (l : List Bool) (n : ℕ). get_or l n false) (sym c.requires) (sym c.from-number.ensures) in
     let allowed : let a = c.args in in_ranges a.p.profile a.row (drop 1 a.d.now) ≡ true = here ∙ c.if-not-allowed-number.false in
     let a = c.args in
     let vs = drop 1 a.d.now in
@@ -72,6 +72,6 @@ returns-then-eq c =
 
 pub returns : goal.returns
 returns c =
-    let here : let a = c.args in in_ranges a.p.profile a.row (drop 1 a.d.now) ≡ get_or a.allowed c.profile_number-number.result false = let a = c.args in sym (own a.p.profile a.row (drop 1 a.d.now)) ∙ ap₂ (λ (l : List Bool) (n : ℕ). get_or l n false) (sym c.requires) (sym c.profile_number-number.ensures) in
+    let here : let a = c.args in in_ranges a.p.profile a.row (drop 1 a.d.now) ≡ get_or a.allowed c.from-number.result false = let a = c.args in sym (own a.p.profile a.row (drop 1 a.d.now)) ∙ ap₂ (λ (l : List Bool) (n : ℕ). get_or l n false) (sym c.requires) (sym c.from-number.ensures) in
     let allowed : let a = c.args in in_ranges a.p.profile a.row (drop 1 a.d.now) ≡ true = here ∙ c.if-not-allowed-number.false in
     ap not c.off_already.ensures ∙ sym (ranges_say _ _ _ (eq_other c.eq.ensures c.if-eq.false) ∙ rw allowed)

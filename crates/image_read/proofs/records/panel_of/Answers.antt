@@ -3,7 +3,7 @@ use Prim.Native.Nat.{◌-◌, ◌≤◌}
 use native.Mathlib.Omega.{arith}
 use lib.ListN.{length, drop, length-drop}
 use lib.Seq.{take_all}
-use Rattle.profiles.specs.declared.Numbered.{Numbered}
+use Rattle.std.specs.Prelude.{Some}
 use Rattle.image_forms.specs.Forms.{head_size}
 use Rattle.image_forms.proofs.Laws.{head_some}
 use Rattle.image_record.specs.Head.{marked, head_in, headed}
@@ -22,35 +22,35 @@ returns-in_default c =
 
 pub slice_bounds-fields_of-count : goal.slice_bounds-fields_of-count
 slice_bounds-fields_of-count c =
-    let known : let a = c.args in head_in a.form (marked a.seen.now) a.bytes.now ≡ Numbered.Known c.in-Known.profile = sym c.head_in-head.ensures ∙ c.in-Known.is in
+    let known : let a = c.args in head_in a.form (marked a.seen.now) a.bytes.now ≡ Some c.in-Some.profile = sym c.head_in-head.ensures ∙ c.in-Some.is in
     let whole : let a = c.args in head_size a.form ≤ length a.bytes.now = let a = c.args in head-whole a.form (marked a.seen.now) a.bytes.now _ known in
     let room : c.head_size.result ≤ length c.args.bytes.now = omega (arith, c.head_size.ensures, whole) in
     omega (arith, room)
 
 pub slice_bounds-fields_of-start : goal.slice_bounds-fields_of-start
 slice_bounds-fields_of-start c =
-    let known : let a = c.args in head_in a.form (marked a.seen.now) a.bytes.now ≡ Numbered.Known c.in-Known.profile = sym c.head_in-head.ensures ∙ c.in-Known.is in
+    let known : let a = c.args in head_in a.form (marked a.seen.now) a.bytes.now ≡ Some c.in-Some.profile = sym c.head_in-head.ensures ∙ c.in-Some.is in
     let whole : let a = c.args in head_size a.form ≤ length a.bytes.now = let a = c.args in head-whole a.form (marked a.seen.now) a.bytes.now _ known in
     let room : c.head_size.result ≤ length c.args.bytes.now = omega (arith, c.head_size.ensures, whole) in
     omega (arith, room)
 
 pub bounds-bytes-0 : goal.bounds-bytes-0
 bounds-bytes-0 c =
-    let known : let a = c.args in head_in a.form (marked a.seen.now) a.bytes.now ≡ Numbered.Known c.in-Known.profile = sym c.head_in-head.ensures ∙ c.in-Known.is in
+    let known : let a = c.args in head_in a.form (marked a.seen.now) a.bytes.now ≡ Some c.in-Some.profile = sym c.head_in-head.ensures ∙ c.in-Some.is in
     let whole : let a = c.args in head_size a.form ≤ length a.bytes.now = let a = c.args in head-whole a.form (marked a.seen.now) a.bytes.now _ known in
     omega (arith, whole, head_some c.args.form)
 
 pub bounds-bytes-1 : goal.bounds-bytes-1
 bounds-bytes-1 c =
-    let known : let a = c.args in head_in a.form (marked a.seen.now) a.bytes.now ≡ Numbered.Known c.in-Known.profile = sym c.head_in-head.ensures ∙ c.in-Known.is in
+    let known : let a = c.args in head_in a.form (marked a.seen.now) a.bytes.now ≡ Some c.in-Some.profile = sym c.head_in-head.ensures ∙ c.in-Some.is in
     let whole : let a = c.args in head_size a.form ≤ length a.bytes.now = let a = c.args in head-whole a.form (marked a.seen.now) a.bytes.now _ known in
     omega (arith, whole, head_some c.args.form)
 
 pub returns : goal.returns
 unfolding panel_by
 returns c =
-    let known : let a = c.args in head_in a.form (marked a.seen.now) a.bytes.now ≡ Numbered.Known c.in-Known.profile = sym c.head_in-head.ensures ∙ c.in-Known.is in
-    let fields : let a = c.args in c.fields_of-fields.result ≡ fields_in a.form c.in-Known.profile (drop (head_size a.form) a.bytes.now) = let a = c.args in let bytes = a.bytes.now in c.fields_of-fields.ensures ∙ ap (fields_in a.form c.in-Known.profile) (take_all (length bytes - c.head_size.result) (drop c.head_size.result bytes) (rw length-drop (omega arith)) ∙ rw c.head_size.ensures) in
+    let known : let a = c.args in head_in a.form (marked a.seen.now) a.bytes.now ≡ Some c.in-Some.profile = sym c.head_in-head.ensures ∙ c.in-Some.is in
+    let fields : let a = c.args in c.fields_of-fields.result ≡ fields_in a.form c.in-Some.profile (drop (head_size a.form) a.bytes.now) = let a = c.args in let bytes = a.bytes.now in c.fields_of-fields.ensures ∙ ap (fields_in a.form c.in-Some.profile) (take_all (length bytes - c.head_size.result) (drop c.head_size.result bytes) (rw length-drop (omega arith)) ∙ rw c.head_size.ensures) in
     let bytes = c.args.bytes.now in
     rw known
-    (ap {B = ReadPanel} (λ (f : Fields). record { refusal = f.refusal; panel = headed bytes c.in-Known.profile f.values }) fields)
+    (ap {B = ReadPanel} (λ (f : Fields). record { refusal = f.refusal; panel = headed bytes c.in-Some.profile f.values }) fields)

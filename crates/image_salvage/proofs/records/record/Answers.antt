@@ -5,8 +5,8 @@ use Prim.Native.Nat.{ℕ, ◌+◌, ◌-◌, ◌≤◌}
 use native.Mathlib.Omega.{arith}
 use lib.ListN.{length, take, drop, length-drop}
 use lib.Seq.{take_all}
+use Rattle.std.specs.Prelude.{Some, None}
 use Rattle.lists.specs.Lists.{laid_at}
-use Rattle.profiles.specs.declared.Numbered.{Numbered}
 use Rattle.panels.specs.declared.Panel.{Panel}
 use Rattle.image_forms.specs.Forms.{head_size}
 use Rattle.image_forms.proofs.Laws.{head_some}
@@ -28,7 +28,7 @@ pub returns-in_default : goal.returns-in_default
 unfolding faults_by record_by
 returns-in_default c =
     let a = c.args in
-    let unknown : head_in a.form (marked a.seen.now) a.bytes.now ≡ Numbered.Unknown = sym c.head_in-head.ensures ∙ c.in_default.is in
+    let unknown : head_in a.form (marked a.seen.now) a.bytes.now ≡ None = sym c.head_in-head.ensures ∙ c.in_default.is in
     record {
       value = rw (unknown, lines_one a.number Fault.Dropped) (ap₂ {C = KeptRecord} (λ (p : Panel) (n : ℕ). record { kept = false; panel = p; next = n }) c.blank_panel-panel.ensures c.tell-next.ensures.value);
       lines_after = rw (unknown, lines_one a.number Fault.Dropped) c.tell-next.ensures.lines_after;
@@ -37,30 +37,30 @@ returns-in_default c =
 pub slice_bounds-behind-count : goal.slice_bounds-behind-count
 slice_bounds-behind-count c =
     let a = c.args in
-    omega (arith, c.head_size.ensures, head-whole a.form (marked a.seen.now) a.bytes.now _ (sym c.head_in-head.ensures ∙ c.in-Known.is))
+    omega (arith, c.head_size.ensures, head-whole a.form (marked a.seen.now) a.bytes.now _ (sym c.head_in-head.ensures ∙ c.in-Some.is))
 
 pub slice_bounds-behind-start : goal.slice_bounds-behind-start
 slice_bounds-behind-start c =
     let a = c.args in
-    omega (arith, c.head_size.ensures, head-whole a.form (marked a.seen.now) a.bytes.now _ (sym c.head_in-head.ensures ∙ c.in-Known.is))
+    omega (arith, c.head_size.ensures, head-whole a.form (marked a.seen.now) a.bytes.now _ (sym c.head_in-head.ensures ∙ c.in-Some.is))
 
 pub bounds-bytes-0 : goal.bounds-bytes-0
 bounds-bytes-0 c =
     let a = c.args in
-    omega (arith, head-whole a.form (marked a.seen.now) a.bytes.now _ (sym c.head_in-head.ensures ∙ c.in-Known.is), head_some a.form)
+    omega (arith, head-whole a.form (marked a.seen.now) a.bytes.now _ (sym c.head_in-head.ensures ∙ c.in-Some.is), head_some a.form)
 
 pub bounds-bytes-1 : goal.bounds-bytes-1
 bounds-bytes-1 c =
     let a = c.args in
-    omega (arith, head-whole a.form (marked a.seen.now) a.bytes.now _ (sym c.head_in-head.ensures ∙ c.in-Known.is), head_some a.form)
+    omega (arith, head-whole a.form (marked a.seen.now) a.bytes.now _ (sym c.head_in-head.ensures ∙ c.in-Some.is), head_some a.form)
 
 pub returns : goal.returns
 unfolding faults_by record_by
 returns c =
     let a = c.args in
     let bytes = a.bytes.now in
-    let profile = c.in-Known.profile in
-    let known : head_in a.form (marked a.seen.now) bytes ≡ Numbered.Known profile = sym c.head_in-head.ensures ∙ c.in-Known.is in
+    let profile = c.in-Some.profile in
+    let known : head_in a.form (marked a.seen.now) bytes ≡ Some profile = sym c.head_in-head.ensures ∙ c.in-Some.is in
     let part = behind_head c.head_size.result (head_size a.form) bytes c.head_size.ensures (head-whole a.form (marked a.seen.now) bytes _ known) in
     let same = ap (kept_of a.form profile) part in
     let values = c.kept-fields.ensures.values_value ∙ ap (λ (k : Kept). k.values) same in

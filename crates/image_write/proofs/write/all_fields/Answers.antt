@@ -1,48 +1,67 @@
-use mathlib.Core.Path.{◌≡◌, sym, ap, ◌∙◌}
-use mathlib.Core.List.{[], flatten}
-use Prim.Native.Nat.{◌+◌, ◌≤◌, ◌<◌}
-use native.Mathlib.Numerals.{add-one}
-use native.Mathlib.Omega.{arith}
-use lib.ListN.{length, get_or, take, length-append}
-use Rattle.settings.specs.Settings.{row_count}
+use Rattle.std.proofs.Common.{rules, ◌≡◌, ℕ, ◌+◌, ◌≤◌, ◌<◌, List, length, take, ap, ◌∙◌, arith, add-one, length-append, length-take, length-drop}
+use mathlib.Core.List.{flatten}
+use Rattle.settings.specs.Settings.{row_count, value_count}
+use Rattle.lists.specs.Lists.{start_of, laid_over}
 use Rattle.lists.proofs.Each.{in_each}
-use Rattle.lists.proofs.Flat.{flat_fits, flat_more}
-use Rattle.lists.proofs.Laid.{length_laid, laid_none, laid_more}
-use Rattle.image_write.specs.Written.{fields_of}
+use Rattle.lists.proofs.Flat.{flat_more}
+use Rattle.image_forms.specs.declared.Form.{Form}
+use Rattle.image_write.specs.Written.{field_in, fields_of}
+use Rattle.image_write.specs.Private.Sizes.{fields_size}
 use Rattle.image_write.proofs.Lengths.{field_at, fields-count, fields_all, fields-length}
+use Rattle.image_write.proofs.Parts.{length_over, one_fits, one_more}
 use Rattle.image_write.proofs.write.all_fields.Goals as goal
 
+-- there is room for the next field
+fits : (form : Form) (values : List ℕ) → length values ≡ value_count → (row next : ℕ) (out l : List ℕ) → row < row_count
+    → next ≡ start_of (fields_of form values) row → out ≡ laid_over (flatten (take row (fields_of form values))) l → fields_size form ≤ length l
+    → (next + length (field_in form values row) ≤ length out) × (length out ≡ length l)
+fits form values full row next out l here at so_far room =
+    let fields = fields_of form values in
+    let whole = fields-length form values full in
+    let e = field_at form values {row = row} here in
+    let h = one_fits fields row next l out l (omega (arith, fields-count form values)) at so_far (omega arith) in
+    let long = ap length so_far ∙ length_over (flatten (take row fields)) l (omega arith) in
+    (rw (← e) (omega arith), long)
+
 pub loop-row-init : goal.loop-row-init
-unfolding flatten
-loop-row-init c = (omega arith, omega arith, sym (laid_none _ _))
+unfolding flatten laid_over
+loop-row-init c = search rules
+
+pub slice_bounds-field_in-count : goal.slice_bounds-field_in-count
+slice_bounds-field_in-count c =
+    let (room, long) = fits c.args.form c.args.values.now (omega arith) _ _ _ _ (omega arith) c.loop-row.invariant.next c.loop-row.invariant.laid c.requires in
+    omega arith
+
+pub slice_bounds-field_in-start : goal.slice_bounds-field_in-start
+slice_bounds-field_in-start c =
+    let (room, long) = fits c.args.form c.args.values.now (omega arith) _ _ _ _ (omega arith) c.loop-row.invariant.next c.loop-row.invariant.laid c.requires in
+    omega arith
 
 pub field_in-next-requires : goal.field_in-next-requires
-unfolding flatten
 field_in-next-requires c =
-    let so_far : let a = c.args in (c.loop-row.next + length (get_or (fields_of a.form a.values) c.loop-row.row-index []) ≤ length a.out.now) × (length c.loop-row.out ≡ length a.out.now) = let a = c.args in let fits = flat_fits (fields_of a.form a.values) c.loop-row.row-index in let n = fields-length a.form a.values (omega arith) in let room : c.loop-row.next + length (get_or (fields_of a.form a.values) c.loop-row.row-index []) ≤ length a.out.now = omega arith in (room, ap length c.loop-row.invariant.2 ∙ length_laid _ _ _ (omega arith)) in
-    let a = c.args in
-    let e = field_at a.form a.values {row = c.loop-row.row-index} (omega arith) in
+    let (room, long) = fits c.args.form c.args.values.now (omega arith) _ _ _ _ (omega arith) c.loop-row.invariant.next c.loop-row.invariant.laid c.requires in
     let here = in_each (λ k. k) row_count c.row-item.result c.loop-row-test.true in
-    rw (here, ← e) (omega (arith, so_far))
+    rw here (simp (length-take, length-drop) (omega arith))
+
+pub overflow_add-next : goal.overflow_add-next
+overflow_add-next c =
+    let (room, long) = fits c.args.form c.args.values.now (omega arith) _ _ _ _ (omega arith) c.loop-row.invariant.next c.loop-row.invariant.laid c.requires in
+    omega arith
 
 pub loop-row-preserved : goal.loop-row-preserved
-unfolding flatten
 loop-row-preserved c =
-    let so_far : let a = c.args in (c.loop-row.next + length (get_or (fields_of a.form a.values) c.loop-row.row-index []) ≤ length a.out.now) × (length c.loop-row.out ≡ length a.out.now) = let a = c.args in let fits = flat_fits (fields_of a.form a.values) c.loop-row.row-index in let n = fields-length a.form a.values (omega arith) in let room : c.loop-row.next + length (get_or (fields_of a.form a.values) c.loop-row.row-index []) ≤ length a.out.now = omega arith in (room, ap length c.loop-row.invariant.2 ∙ length_laid _ _ _ (omega arith)) in
-    let a = c.args in
+    let form = c.args.form in
+    let values = c.args.values.now in
     let row = c.loop-row.row-index in
-    let fields = fields_of a.form a.values in
-    let here : row < length fields = omega (arith, fields-count a.form a.values) in
-    let e = field_at a.form a.values {row = row} (omega arith) in
+    let fields = fields_of form values in
+    let here : row < length fields = omega (arith, fields-count form values) in
+    let e = field_at form values {row = row} (omega arith) in
+    let whole = fields-length form values (omega arith) in
     let it = in_each (λ k. k) row_count c.row-item.result c.loop-row-test.true in
-    let laid = laid_more a.at c.loop-row.next row fields a.out.now here c.loop-row.invariant.1 so_far.0 in (
-      omega arith,
-      c.field_in-next.ensures.value ∙ rw (it, add-one, flat_more fields row here, length-append (flatten (take row fields)) _, e) (omega arith),
-      c.field_in-next.ensures.out_after ∙ rw (it, c.loop-row.invariant.2, ← e) laid,
-    )
+    record {
+      next = rw (it, add-one, flat_more fields row here, length-append (flatten (take row fields)), e) (omega arith);
+      laid = one_more fields row _ c.args.out.now _ _ here c.loop-row.invariant.next c.loop-row.invariant.laid (omega arith) (rw (it, e) at c.field_in-next.ensures.out_after);
+    }
 
 pub returns : goal.returns
-returns c =
-    let a = c.args in
-    let all : c.loop-row.row-index ≡ row_count = omega arith in
-    c.loop-row.invariant.2 ∙ rw (all, fields_all a.form a.values)
+returns c = let all : c.loop-row.row-index ≡ row_count = omega arith in c.loop-row.invariant.laid ∙ rw (all, fields_all c.args.form c.args.values.now)

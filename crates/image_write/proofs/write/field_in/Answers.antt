@@ -1,34 +1,23 @@
-use mathlib.Core.Path.{◌≡◌, sym, ◌∙◌}
-use mathlib.Core.Bool.{true}
-use Prim.Native.Nat.{◌+◌}
-use native.Mathlib.Omega.{arith}
-use lib.ListN.{length}
-use Rattle.settings.specs.Settings.{byte_count}
-use Rattle.image_forms.specs.Forms.{has_field}
-use Rattle.lists.proofs.Laid.{laid_none}
-use Rattle.image_write.specs.Written.{field_in}
-use Rattle.image_write.proofs.Lengths.{field-length}
+use Rattle.std.proofs.Common.{sym, ◌∙◌, arith}
+use Rattle.lists.specs.Lists.{laid_over}
+use Rattle.image_write.proofs.Lengths.{field_has}
 use Rattle.image_write.proofs.write.field_in.Goals as goal
 
 pub returns-then-not-has_field-clause-out_after : goal.returns-then-not-has_field-clause-out_after
-returns-then-not-has_field-clause-out_after c =
-    let none = sym c.has_field.ensures ∙ c.if-not-has_field.true in
-    rw none (sym (laid_none _ _))
+unfolding laid_over
+returns-then-not-has_field-clause-out_after c = let none = sym c.has_field.ensures ∙ c.if-not-has_field.true in rw none
 
 pub one_field-requires : goal.one_field-requires
 one_field-requires c =
-    let has : has_field c.args.form c.args.row ≡ true = sym c.has_field.ensures ∙ c.if-not-has_field.false in
-    let long : let a = c.args in length (field_in a.form a.values a.row) ≡ 2 + byte_count a.row = let a = c.args in field-length a.form a.values (omega arith) a.row ∙ rw has in
-    omega (arith, long)
+    let long = field_has c.args.form c.args.values.now (omega arith) c.args.row (sym c.has_field.ensures ∙ c.if-not-has_field.false) in
+    omega arith
 
-pub overflow_add-result-2 : goal.overflow_add-result-2
-overflow_add-result-2 c =
-    let has : has_field c.args.form c.args.row ≡ true = sym c.has_field.ensures ∙ c.if-not-has_field.false in
-    let long : let a = c.args in length (field_in a.form a.values a.row) ≡ 2 + byte_count a.row = let a = c.args in field-length a.form a.values (omega arith) a.row ∙ rw has in
-    omega (arith, long)
+pub overflow_add-result : goal.overflow_add-result
+overflow_add-result c =
+    let long = field_has c.args.form c.args.values.now (omega arith) c.args.row (sym c.has_field.ensures ∙ c.if-not-has_field.false) in
+    omega arith
 
 pub returns-clause-value : goal.returns-clause-value
 returns-clause-value c =
-    let has : has_field c.args.form c.args.row ≡ true = sym c.has_field.ensures ∙ c.if-not-has_field.false in
-    let long : let a = c.args in length (field_in a.form a.values a.row) ≡ 2 + byte_count a.row = let a = c.args in field-length a.form a.values (omega arith) a.row ∙ rw has in
-    omega (arith, long)
+    let long = field_has c.args.form c.args.values.now (omega arith) c.args.row (sym c.has_field.ensures ∙ c.if-not-has_field.false) in
+    omega arith

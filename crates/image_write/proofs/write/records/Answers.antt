@@ -1,67 +1,69 @@
-use mathlib.Core.Path.{◌≡◌, sym, ap, ap₂, ◌∙◌}
-use mathlib.Core.List.{List, [], flatten}
-use Prim.Native.Nat.{ℕ, ◌*◌, ◌≤◌, ◌<◌}
-use native.Mathlib.Omega.{arith}
-use lib.ListN.{length, get_or, take, length-map}
+use Rattle.std.proofs.Common.{rules, ◌≡◌, ℕ, ◌+◌, ◌-◌, ◌*◌, ◌≤◌, ◌<◌, List, length, take, get_or, sym, ap, ◌∙◌, arith, length-take, length-drop}
+use mathlib.Core.List.{flatten}
+use borrow.Rule.Slice.PartMut.{mid_of, put_mid}
+use lib.ListN.{length-map}
 use lib.Seq.{take_all}
-use Rattle.lists.specs.Lists.{laid_at}
-use Rattle.lists.proofs.Laid.{length_laid, laid_none, laid_more}
+use Rattle.lists.specs.Lists.{laid_over}
+use Rattle.lists.proofs.Places.{get_d_inside}
+use Rattle.settings.specs.Settings.{value_count}
 use Rattle.panels.specs.declared.Panel.{Panel}
 use Rattle.panels.specs.Wall.{Wall, panels_of, blank}
-use Rattle.panels.proofs.Laws.{place_is, held_first}
+use Rattle.panels.specs.WellFormed.{GoodWall}
+use Rattle.panels.proofs.Laws.{held_first}
 use Rattle.panels.proofs.Formed.{good_at}
+use Rattle.image_forms.specs.declared.Form.{Form}
 use Rattle.image_write.specs.Written.{record_of, records_of, record_size}
-use Rattle.image_write.proofs.Lengths.{record_at, record_length, records-before, Products, products}
+use Rattle.image_write.proofs.Lengths.{record_at, records-before, records_long, products}
+use Rattle.image_write.proofs.Parts.{length_over, one_more}
 use Rattle.image_write.proofs.write.records.Goals as goal
 
+-- Record k of a wall, behind those before it. Assumes nothing.
+module _ (form : Form) (w : Wall) (good : GoodWall w) (k size : ℕ) (l out : List ℕ) (here : k < length w) (sized : size ≡ record_size form)
+    (room : record_size form * length w ≤ length l) (so_far : out ≡ laid_over (flatten (take k (records_of form w))) l) where
+  start : size * k ≡ length (flatten (take k (records_of form w)))
+  start = rw sized (sym (records-before form w good k (omega arith)))
+
+  fits : (size * k + record_size form ≤ length out) × (length out ≡ length l)
+  fits =
+      let product = products form k (length w) in
+      let next = product.1 here in
+      let up_to = product.2 (omega arith) in
+      let at : size * k ≡ record_size form * k = rw sized in
+      let n = records-before form w good k (omega arith) in
+      let long = ap length so_far ∙ length_over (flatten (take k (records_of form w))) l (omega arith) in
+      (omega arith, long)
+
+  full : (d : Panel) → length (get_or w k d).values ≡ value_count
+  full d = rw (get_d_inside w k d blank here) (good_at w good k here).full
+
+  more : (d : Panel) (last : List ℕ) → last ≡ laid_over (record_of form (get_or w k d)) (mid_of (size * k) (length out - size * k) out)
+      → put_mid (size * k) (length out - size * k) out last ≡ laid_over (flatten (take (k + 1) (records_of form w))) l
+  more d last e =
+      let whole = records_long form w good in
+      one_more (records_of form w) k (size * k) l out last (rw length-map here) start so_far (omega arith)
+      (e ∙ rw (record_at form w k here, get_d_inside w k d blank here))
+
 pub loop-k-init : goal.loop-k-init
-unfolding flatten
-loop-k-init c = (omega arith, sym (laid_none _ _))
+unfolding flatten laid_over
+loop-k-init c = search rules
 
 pub one_record-requires : goal.one_record-requires
 one_record-requires c =
-    let product : Products (record_size c.args.form) c.loop-k.k (length (panels_of c.args.t)) = products c.args.form c.loop-k.k (length (panels_of c.args.t)) in
-    let sized : c.record_size-size.result ≡ record_size c.args.form = c.record_size-size.ensures in
-    let place : c.record_size-size.result * c.loop-k.k ≡ record_size c.args.form * c.loop-k.k = ap (λ (n : ℕ). n * c.loop-k.k) sized in
-    let its_panel : (d : Panel) → let k = c.loop-k.k in get_or c.panels_of-places.result k d ≡ get_or (panels_of c.args.t) k blank = λ d. let k = c.loop-k.k in ap (λ (l : Wall). get_or l k d) c.panels_of-places.ensures ∙ place_is _ k d (omega arith) in
-    let laid : let a = c.args in c.loop-k.out ≡ laid_at 0 (flatten (take c.loop-k.k (records_of a.form (panels_of c.args.t)))) a.out.now = rw (held_first _ c.panels_of-places.ensures c.count_of-n.ensures) at c.loop-k.invariant.1 in
-    let so_far : let a = c.args in (length (flatten (take c.loop-k.k (records_of a.form (panels_of c.args.t)))) ≡ record_size a.form * c.loop-k.k) × (length c.loop-k.out ≡ length a.out.now) = let a = c.args in let f = c.requires.0 in let few : c.loop-k.k ≤ length (panels_of c.args.t) = omega arith in let n = records-before a.form (panels_of c.args.t) f.good c.loop-k.k few in (n, ap length laid ∙ length_laid _ _ _ (rw n (omega (arith, product.2 few, c.requires.1)))) in
-    let here : c.loop-k.k < length (panels_of c.args.t) = omega arith in
-    let good = good_at (panels_of c.args.t) c.requires.0.good c.loop-k.k here in (
-      ap (λ (p : Panel). length p.values) (its_panel _) ∙ good.full,
-      omega (arith, place, so_far.1, product.1 here, c.requires.1),
-    )
+    let held = held_first _ c.panels_of-places.ensures c.count_of-n.ensures in
+    let here = rw held at c.loop-k-test.true in
+    let (room, long) = fits c.args.form _ c.requires.0.good _ _ c.args.out.now c.loop-k.out here c.record_size-size.ensures c.requires.1 (rw held at c.loop-k.invariant) in
+    (rw held (full c.args.form _ c.requires.0.good _ _ c.args.out.now c.loop-k.out here c.record_size-size.ensures c.requires.1 (rw held at c.loop-k.invariant) _), simp (length-take, length-drop) (omega arith))
 
 pub loop-k-preserved : goal.loop-k-preserved
 loop-k-preserved c =
-    let product : Products (record_size c.args.form) c.loop-k.k (length (panels_of c.args.t)) = products c.args.form c.loop-k.k (length (panels_of c.args.t)) in
-    let sized : c.record_size-size.result ≡ record_size c.args.form = c.record_size-size.ensures in
-    let place : c.record_size-size.result * c.loop-k.k ≡ record_size c.args.form * c.loop-k.k = ap (λ (n : ℕ). n * c.loop-k.k) sized in
-    let its_panel : (d : Panel) → let k = c.loop-k.k in get_or c.panels_of-places.result k d ≡ get_or (panels_of c.args.t) k blank = λ d. let k = c.loop-k.k in ap (λ (l : Wall). get_or l k d) c.panels_of-places.ensures ∙ place_is _ k d (omega arith) in
-    let laid : let a = c.args in c.loop-k.out ≡ laid_at 0 (flatten (take c.loop-k.k (records_of a.form (panels_of c.args.t)))) a.out.now = rw (held_first _ c.panels_of-places.ensures c.count_of-n.ensures) at c.loop-k.invariant.1 in
-    let so_far : let a = c.args in (length (flatten (take c.loop-k.k (records_of a.form (panels_of c.args.t)))) ≡ record_size a.form * c.loop-k.k) × (length c.loop-k.out ≡ length a.out.now) = let a = c.args in let f = c.requires.0 in let few : c.loop-k.k ≤ length (panels_of c.args.t) = omega arith in let n = records-before a.form (panels_of c.args.t) f.good c.loop-k.k few in (n, ap length laid ∙ length_laid _ _ _ (rw n (omega (arith, product.2 few, c.requires.1)))) in
-    let here : c.loop-k.k < length (panels_of c.args.t) = omega arith in
-    let a = c.args in
-    let form = a.form in
-    let f = c.requires.0 in
-    let w = (panels_of c.args.t) in
-    let k = c.loop-k.k in
-    let at = here in
-    let (n, long) = so_far in
-    let len : length (get_or (records_of form w) k []) ≡ record_size form = rw (record_at form w k at) (record_length form (get_or w k blank) (good_at w f.good k at).full) in
-    let more = laid_more 0 (record_size form * k) k (records_of form w) a.out.now (rw (length-map w (record_of form)) at) (rw n (omega arith)) (rw len (omega (arith, product.1 at, c.requires.1))) in (
-      omega arith,
-      rw (held_first _ c.panels_of-places.ensures c.count_of-n.ensures)
-          (c.one_record.ensures
-          ∙ ap₂ (λ (m : ℕ) (p : Panel). laid_at m (record_of form p) c.loop-k.out) place (its_panel _)
-          ∙ ap (laid_at (record_size form * k) (record_of form (get_or w k blank))) laid ∙ rw (← record_at form w k at) more),
-    )
+    let held = held_first _ c.panels_of-places.ensures c.count_of-n.ensures in
+    let here = rw held at c.loop-k-test.true in
+    rw held (more c.args.form _ c.requires.0.good _ _ c.args.out.now c.loop-k.out here c.record_size-size.ensures c.requires.1 (rw held at c.loop-k.invariant) _ _ (rw held at c.one_record.ensures))
 
 pub returns : goal.returns
 returns c =
-    let laid : let a = c.args in c.loop-k.out ≡ laid_at 0 (flatten (take c.loop-k.k (records_of a.form (panels_of c.args.t)))) a.out.now = rw (held_first _ c.panels_of-places.ensures c.count_of-n.ensures) at c.loop-k.invariant.1 in
-    let a = c.args in
-    let w = (panels_of c.args.t) in
-    let rs = records_of a.form w in
-    let all : length rs ≤ c.loop-k.k = rw (length-map w (record_of a.form)) (omega arith) in
-    laid ∙ ap (λ (ls : List (List ℕ)). laid_at 0 (flatten ls) a.out.now) (take_all c.loop-k.k rs all)
+    let held = held_first _ c.panels_of-places.ensures c.count_of-n.ensures in
+    let w = panels_of c.args.t in
+    let past = rw held at c.loop-k-test.false in
+    let all : take c.loop-k.k (records_of c.args.form w) ≡ records_of c.args.form w = take_all c.loop-k.k (records_of c.args.form w) (rw length-map past) in
+    rw held at c.loop-k.invariant ∙ ap (λ ls. laid_over (flatten ls) c.args.out.now) all
