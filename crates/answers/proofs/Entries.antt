@@ -4,7 +4,8 @@ use mathlib.Core.List.{List, map}
 use Prim.Native.Nat.{ℕ, ◌%◌, ◌<◌}
 use native.Mathlib.Omega.{arith}
 use lib.ListN.{length, get_or}
-use Rattle.packet.specs.declared.Addressee.{Addressee}
+use Rattle.std.specs.Prelude.{Option}
+use Rattle.packet.specs.declared.MonitorId.{MonitorId}
 use Rattle.packet.specs.declared.Verdict.{Verdict}
 use Rattle.packet.specs.Packet.{damage_in}
 use Rattle.packet.specs.Reading.{Reading}
@@ -38,10 +39,10 @@ entry_is {t} f n i g count c d =
     λ j. record { count = c j; members = members j; at = at j; panel = there j }
 
 -- a burst by its parts
-abbrev pub reading : Verdict → List ℕ → Addressee → Reading
+abbrev pub reading : Verdict → List ℕ → Option MonitorId → Reading
 reading v d a = record { verdict = v; part = d; seems = a }
 
-module _ {t : Table} (f : WellFormed t) (v : Verdict) (d : List ℕ) (a : Addressee) {turn : Turn} (is : turn ≡ turn_by (entry_of (panels_of t) (names_in v a)) v d a) where
+module _ {t : Table} (f : WellFormed t) (v : Verdict) (d : List ℕ) (a : Option MonitorId) {turn : Turn} (is : turn ≡ turn_by (entry_of (panels_of t) (names_in v a)) v d a) where
   abbrev leaves : Table → Played
   leaves u = record { table = u; reply = turn.reply; damage = damage_in v }
 

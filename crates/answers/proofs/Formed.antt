@@ -7,6 +7,7 @@ use native.Mathlib.Omega.{arith}
 use borrow.Author.Tests.{eqb-true}
 use lib.Dec.{eqb}
 use lib.ListN.{length, get_or, length-map}
+use Rattle.std.specs.Prelude.{Option}
 use Rattle.lists.specs.Lists.{same}
 use Rattle.lists.proofs.Both.{both}
 use Rattle.lists.proofs.Same.{same_is}
@@ -17,7 +18,6 @@ use Rattle.models.proofs.Filled.{filled-other}
 use Rattle.packet.specs.declared.MonitorId.{MonitorId}
 use Rattle.packet.specs.declared.GroupId.{GroupId}
 use Rattle.packet.specs.declared.Verdict.{Verdict}
-use Rattle.packet.specs.declared.Addressee.{Addressee}
 use Rattle.packet.specs.Reading.{Reading}
 use Rattle.panels.specs.declared.Panel.{Panel}
 use Rattle.panels.specs.declared.Table.{Table}
@@ -114,7 +114,7 @@ turned-good i g c s p ok = go (reaches i g p)
     go true = judged-good c s p ok
     go false = ok
 
-by_verdict : (v : Verdict) (w : Wall) (d : List ℕ) (a : Addressee)
+by_verdict : (v : Verdict) (w : Wall) (d : List ℕ) (a : Option MonitorId)
     → let o = answered_by v w d a in (GoodWall w → GoodWall o.wall) × (length o.wall ≡ length w)
 by_verdict Verdict.Empty w d a = (λ good. good, refl)
 by_verdict (Verdict.Damaged damage) w d a = (λ good. good, refl)

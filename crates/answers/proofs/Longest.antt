@@ -7,6 +7,7 @@ use Prim.Native.Nat.{ℕ, ◌<◌}
 use native.Mathlib.Omega.{arith}
 use lib.ListN.{length, get_or, take, length-take}
 use lib.Seq.{take_all}
+use Rattle.std.specs.Prelude.{Option}
 use Rattle.lists.proofs.Sizes.{by_size}
 use Rattle.settings.specs.Settings.{row_count}
 use Rattle.settings.proofs.Laws.{byte-count-few}
@@ -14,7 +15,6 @@ use Rattle.std.proofs.Common.{Option, Some, None}
 use Rattle.codes.specs.declared.Code.{Code}
 use Rattle.codes.specs.Found.{found_by}
 use Rattle.codes.proofs.Laws.{IsFound, found_right}
-use Rattle.packet.specs.declared.Addressee.{Addressee}
 use Rattle.packet.specs.declared.MonitorId.{MonitorId}
 use Rattle.packet.specs.declared.Verdict.{Verdict}
 use Rattle.packet.specs.Answered.{is_heard}
@@ -55,7 +55,7 @@ module _ (n : ℕ) (most : most_reported < n) (d : List ℕ) where
   reply_stands w i (Place.At k) = ap (reply_by i) (first_stand (get_or w k blank))
 
   -- whatever else was read of the burst
-  pub answered_first : (w : Wall) (v : Verdict) (seems : Addressee)
+  pub answered_first : (w : Wall) (v : Verdict) (seems : Option MonitorId)
       → answered w (record { verdict = v; part = take n d; seems = seems }) ≡ answered w (record { verdict = v; part = d; seems = seems })
   unfolding answered turned
   answered_first w Verdict.Empty seems = refl

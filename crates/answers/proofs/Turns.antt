@@ -9,7 +9,7 @@ use native.Mathlib.Omega.{arith}
 use borrow.Author.Tests.{eq-eqb, ne_eqb, eqb-true, eqb-false, lt-ltb, ltb-true, ltb-false}
 use lib.Dec.{eqb, ltb}
 use lib.ListN.{length, get_or, drop}
-use Rattle.packet.specs.declared.Addressee.{Addressee}
+use Rattle.std.specs.Prelude.{Option, Some, None}
 use Rattle.packet.specs.declared.GroupId.{GroupId}
 use Rattle.packet.specs.declared.MonitorId.{MonitorId}
 use Rattle.packet.specs.declared.Verdict.{Verdict}
@@ -185,15 +185,15 @@ module _ (w : Wall) (few : length w ≤ most_panels) (good : GoodWall w) where
   order_leaves i g d unavailable s n =
       leaves_same d w _ (map_same _ blank w (λ k h. either_way (reaches i g _) (ap (λ (j : Judged). panel_after j (get_or w k blank)) (n (get_or w k blank)))))
 
-  pub turn_leaves : (v : Verdict) (d : List ℕ) (a : Addressee) → Leaves (turn_by (entry_of w (names_in v a)) v d a).change d w (answered_by v w d a).wall
+  pub turn_leaves : (v : Verdict) (d : List ℕ) (a : Option MonitorId) → Leaves (turn_by (entry_of w (names_in v a)) v d a).change d w (answered_by v w d a).wall
   unfolding turn_by
   turn_leaves Verdict.Empty d a = leaves_same d w w refl
   turn_leaves (Verdict.Damaged damage) d a = leaves_same d w w refl
   turn_leaves (Verdict.Intact i g n) d a = order_leaves i g d (command d) refl (order_right d)
 
-  pub turn_replies : (v : Verdict) (d : List ℕ) (a : Addressee) → (turn_by (entry_of w (names_in v a)) v d a).reply ≡ (answered_by v w d a).reply
+  pub turn_replies : (v : Verdict) (d : List ℕ) (a : Option MonitorId) → (turn_by (entry_of w (names_in v a)) v d a).reply ≡ (answered_by v w d a).reply
   unfolding turn_by nack_to
   turn_replies Verdict.Empty d a = refl
-  turn_replies (Verdict.Damaged damage) d Addressee.Nobody = refl
-  turn_replies (Verdict.Damaged damage) d (Addressee.One i) = there i (group_id 0) w few good (place_of i w) refl _ _
+  turn_replies (Verdict.Damaged damage) d None = refl
+  turn_replies (Verdict.Damaged damage) d (Some i) = there i (group_id 0) w few good (place_of i w) refl _ _
   turn_replies (Verdict.Intact i g n) d a = reply_is i g w few good (command d)

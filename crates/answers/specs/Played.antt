@@ -1,11 +1,10 @@
 -- The outcome of a burst. 01, "Answering a burst, in this order".
-use Rattle.std.specs.Prelude.{ℕ, cond, List, map, get_or}
+use Rattle.std.specs.Prelude.{ℕ, cond, List, map, get_or, Option, Some, None}
 use Rattle.packet.specs.declared.Edition.{Edition}
 use Rattle.packet.specs.declared.MonitorId.{MonitorId}
 use Rattle.packet.specs.declared.GroupId.{GroupId}
 use Rattle.packet.specs.declared.Verdict.{Verdict}
 use Rattle.packet.specs.declared.Control.{Control}
-use Rattle.packet.specs.declared.Addressee.{Addressee}
 use Rattle.packet.specs.Packet.{damage_in}
 use Rattle.packet.specs.Reading.{Reading, reading_of}
 use Rattle.panels.specs.declared.Panel.{Panel}
@@ -36,11 +35,11 @@ abbrev pub played_packet : Wall → MonitorId → GroupId → Command → Outcom
 played_packet w i g c = record { wall = map (turned i g c) w; reply = cond (is_heard i g) (reply_from w i c (place_of i w)) silence }
 
 -- NACK if the ID that a damaged burst seems to be for is a panel's
-abbrev pub nack_from : Wall → Addressee → Reply
-nack_from w Addressee.Nobody = silence
-nack_from w (Addressee.One i) = if_there (place_of i w) (word_from i Control.Nack) silence
+abbrev pub nack_from : Wall → Option MonitorId → Reply
+nack_from w None = silence
+nack_from w (Some i) = if_there (place_of i w) (word_from i Control.Nack) silence
 
-abbrev pub answered_by : Verdict → Wall → List ℕ → Addressee → Outcome
+abbrev pub answered_by : Verdict → Wall → List ℕ → Option MonitorId → Outcome
 answered_by Verdict.Empty w d seems = record { wall = w; reply = silence }
 answered_by (Verdict.Damaged damage) w d seems = record { wall = w; reply = nack_from w seems }
 answered_by (Verdict.Intact i g n) w d seems = played_packet w i g (command d)

@@ -1,9 +1,8 @@
 -- What a burst comes to, by what the table has of the names in it: the panel with the ID, how many are in the group, how many there
 -- are. It is how the box goes about it (02, A8); what is right says `answered`, and `answered_on` is that.
-use Rattle.std.specs.Prelude.{ℕ, suc, ◌≤◌, ◌<◌, Bool, false, cond, ◌&&◌, List, [], ◌∷◌, ◌≡◌, eqb, ltb, length, get_or, drop, replicate}
+use Rattle.std.specs.Prelude.{ℕ, suc, ◌≤◌, ◌<◌, Bool, false, cond, ◌&&◌, List, [], ◌∷◌, ◌≡◌, eqb, ltb, length, get_or, drop, replicate, Option, Some, None}
 use Rattle.settings.specs.declared.Profile.{Profile}
 use Rattle.settings.specs.Settings.{in_ranges}
-use Rattle.packet.specs.declared.Addressee.{Addressee}
 use Rattle.packet.specs.declared.Control.{Control}
 use Rattle.packet.specs.declared.Edition.{Edition}
 use Rattle.packet.specs.declared.GroupId.{GroupId}
@@ -33,10 +32,10 @@ abbrev pub named : MonitorId → GroupId → Names
 named i g = record { id = i; group = g }
 
 -- whom a burst names
-abbrev pub names_in : Verdict → Addressee → Names
+abbrev pub names_in : Verdict → Option MonitorId → Names
 names_in Verdict.Empty seems = named (monitor_id 0) (group_id 0)
-names_in (Verdict.Damaged damage) Addressee.Nobody = named (monitor_id 0) (group_id 0)
-names_in (Verdict.Damaged damage) (Addressee.One i) = named i (group_id 0)
+names_in (Verdict.Damaged damage) None = named (monitor_id 0) (group_id 0)
+names_in (Verdict.Damaged damage) (Some i) = named i (group_id 0)
 names_in (Verdict.Intact i g n) seems = named i g
 
 abbrev pub from : ℕ → ℕ → Span
@@ -63,11 +62,11 @@ change_of e i g unavailable = no_change
 unfoldable pub reply_to : Entry → MonitorId → GroupId → Command → Reply
 reply_to e i g c = cond (is_heard i g && ltb e.at most_panels) (reply_by e.panel.id (judge c e.panel)) silence
 
-unfoldable pub nack_to : Entry → Addressee → Reply
-nack_to e Addressee.Nobody = silence
-nack_to e (Addressee.One i) = cond (ltb e.at most_panels) (word_from i Control.Nack) silence
+unfoldable pub nack_to : Entry → Option MonitorId → Reply
+nack_to e None = silence
+nack_to e (Some i) = cond (ltb e.at most_panels) (word_from i Control.Nack) silence
 
-unfoldable pub turn_by : Entry → Verdict → List ℕ → Addressee → Turn
+unfoldable pub turn_by : Entry → Verdict → List ℕ → Option MonitorId → Turn
 turn_by e Verdict.Empty d seems = record { reply = silence; change = no_change }
 turn_by e (Verdict.Damaged damage) d seems = record { reply = nack_to e seems; change = no_change }
 turn_by e (Verdict.Intact i g n) d seems = record { reply = reply_to e i g (command d); change = change_of e i g (command d) }

@@ -5,7 +5,7 @@ ghost use Rattle.lists.specs.Lists.{laid_over};
 ghost use Rattle.answers.specs.Reply.{silence, word_from, sent_bytes, sent_of, output_of};
 
 use crate::{Answer, MOST_REPORTED, Reply, Sent};
-use packet::{Control, Edition, GroupId, LONGEST, MonitorId, Written};
+use packet::{Control, Edition, GroupId, LONGEST, MonitorId};
 
 pub fn silence() -> Reply
     ensures { result ≡ silence }
@@ -34,11 +34,9 @@ fn send(edition: Edition, out: &mut [u8], id: MonitorId, d: &[u8]) -> Sent
     ensures value { result ≡ Sent.Bytes (length d.now + shortest edition) }
     ensures out_after { out.new ≡ laid_over (packet_of edition id (group_id 0) d.now) out.old }
 {
-    let written = packet::write_packet(edition, out, id, GroupId(0), d);
-    match written {
-        Written::Bytes(n) => Sent::Bytes(n),
-        Written::TooLong => Sent::NoRoom,
-        Written::NoRoom => Sent::NoRoom,
+    match packet::write_packet(edition, out, id, GroupId(0), d) {
+        Ok(n) => Sent::Bytes(n),
+        Err(_) => Sent::NoRoom,
     }
 }
 
@@ -55,7 +53,7 @@ pub fn write_answer(edition: Edition, reply: Reply, out: &mut [u8]) -> Sent
     match answer {
         Answer::Silence => Sent::Bytes(0),
         Answer::Word(word) => {
-            let d = [0u8, packet::control_byte(word)];
+            let d = [0u8, word.into()];
             send(edition, out, id, &d)
         }
         Answer::Report => {

@@ -103,7 +103,7 @@ pub struct Heard {
 pub struct Played {
     pub table: Table,
     pub reply: Reply,
-    pub damage: Damage,
+    pub damage: Option<Damage>,
 }
 
 // How many bytes went into the output, or it has no room for any packet.

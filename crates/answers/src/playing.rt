@@ -10,7 +10,7 @@ ghost use Rattle.answers.specs.Turn.{turn_by, heard_as, turned_by, Fits};
 ghost use Rattle.answers.specs.Played.{answered_on};
 
 use crate::{Change, Entry, Heard, Played, answering, judging, turning};
-use packet::{Addressee, Edition, Verdict};
+use packet::{Edition, MonitorId, Verdict};
 use panels::{MOST_PANELS, Table};
 
 // The table with the values stored in every panel, among these places, that is addressed and takes them. The others would not
@@ -41,7 +41,7 @@ pub fn hear(
     entry: Entry,
     verdict: Verdict,
     d: &[u8],
-    seems: Addressee,
+    seems: Option<MonitorId>,
     out: &mut [u8],
 ) -> Heard
     requires { longest ≤ length out.old }
@@ -55,7 +55,7 @@ pub fn hear(
 }
 
 // The answer to what was read of a burst: its verdict, its data, and whom it seems to be for if it is damaged.
-pub fn answered_on(t: Table, verdict: Verdict, d: &[u8], seems: Addressee) -> Played
+pub fn answered_on(t: Table, verdict: Verdict, d: &[u8], seems: Option<MonitorId>) -> Played
     requires { WellFormed t }
     ensures { result ≡ answered_on t (record { verdict = verdict; part = d.now; seems = seems }) }
 {

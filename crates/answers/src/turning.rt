@@ -5,12 +5,12 @@ ghost use Rattle.answers.specs.Turn.{names_in, span_of, no_change, change_of, re
 ghost use Rattle.answers.specs.Private.Orders.{order_of, allowed_in};
 
 use crate::{Change, Entry, Names, Order, PROFILE_COUNT, Reply, Span, Turn, answering, judging};
-use packet::{Addressee, Control, GroupId, MonitorId, Verdict};
+use packet::{Control, GroupId, MonitorId, Verdict};
 use panels::{MOST_PANELS, Panel};
 use settings::Row;
 
 // A damaged burst names the panel that it seems to be for.
-pub fn names_in(verdict: Verdict, seems: Addressee) -> Names
+pub fn names_in(verdict: Verdict, seems: Option<MonitorId>) -> Names
     ensures { result ≡ names_in verdict seems }
 {
     let nobody = Names {
@@ -20,8 +20,8 @@ pub fn names_in(verdict: Verdict, seems: Addressee) -> Names
     match verdict {
         Verdict::Empty => nobody,
         Verdict::Damaged(_) => match seems {
-            Addressee::Nobody => nobody,
-            Addressee::One(id) => Names {
+            None => nobody,
+            Some(id) => Names {
                 id,
                 group: GroupId(0),
             },
@@ -141,10 +141,10 @@ fn reply_to(
 }
 
 // The reply to a damaged burst: NACK from the panel that it seems to be for, where it is there.
-fn nack_to(entry: Entry, seems: Addressee) -> Reply
+fn nack_to(entry: Entry, seems: Option<MonitorId>) -> Reply
     ensures { result ≡ nack_to entry seems }
 {
-    let Addressee::One(id) = seems else {
+    let Some(id) = seems else {
         return answering::silence();
     };
     if MOST_PANELS <= entry.at {
@@ -165,7 +165,7 @@ fn turn_by(entry: Entry, id: MonitorId, group: GroupId, d: &[u8]) -> Turn
 }
 
 // What a burst comes to, by its verdict, its data, whom it seems to be for if it is damaged, and what the table has of its names.
-pub fn turn_of(entry: Entry, verdict: Verdict, d: &[u8], seems: Addressee) -> Turn
+pub fn turn_of(entry: Entry, verdict: Verdict, d: &[u8], seems: Option<MonitorId>) -> Turn
     ensures { result ≡ turn_by entry verdict d.now seems }
 {
     match verdict {

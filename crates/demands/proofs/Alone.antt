@@ -6,10 +6,10 @@ use mathlib.Core.List.{List, [], ◌∷◌, map}
 use borrow.Author.Tests.{eqb-true}
 use lib.Dec.{eqb}
 use lib.ListN.{length, get_or}
+use Rattle.std.specs.Prelude.{Option, Some, None}
 use Rattle.lists.proofs.Mapped.{at_map}
 use Rattle.packet.specs.declared.Edition.{Edition}
 use Rattle.packet.specs.declared.MonitorId.{MonitorId}
-use Rattle.packet.specs.declared.Addressee.{Addressee}
 use Rattle.packet.specs.declared.Control.{Control}
 use Rattle.packet.specs.declared.Verdict.{Verdict}
 use Rattle.packet.specs.Answered.{is_heard}
@@ -88,9 +88,9 @@ module _ (w : Wall) (good : GoodWall w) (k : ℕ) (inside : k < length w) where
   unfolding answered
   answer_alone r = go r.verdict
     where
-      nack : (a : Addressee) → if_from p.id (nack_from w a) ≡ nack_from (p ∷ []) a
-      nack Addressee.Nobody = silent (eqb p.id.0 _)
-      nack (Addressee.One i) = says_alone (nack_says i)
+      nack : (a : Option MonitorId) → if_from p.id (nack_from w a) ≡ nack_from (p ∷ []) a
+      nack None = silent (eqb p.id.0 _)
+      nack (Some i) = says_alone (nack_says i)
 
       heard : (i : MonitorId) (c : Command) (t : Bool)
           → if_from p.id (cond t (reply_from w i c (place_of i w)) silence) ≡ cond t (reply_from (p ∷ []) i c (place_of i (p ∷ []))) silence

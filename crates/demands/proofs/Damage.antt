@@ -1,19 +1,20 @@
 -- What is wrong with a burst. Assumes nothing.
 use Prim.Native.Nat.{ℕ, suc}
 use mathlib.Core.Path.{◌≡◌, refl, sym, ap, ◌∙◌}
-use mathlib.Core.Bool.{Bool, true, false, cond, not, and-true, ◌||◌, false≢true}
+use mathlib.Core.Bool.{Bool, true, false, cond, not, and-true, ◌&&◌, ◌||◌}
 use native.Mathlib.Omega.{arith}
-use borrow.Author.Tests.{leb-true, leb-false, lt-ltb, le-ltb, eqb-false}
+use borrow.Author.Tests.{leb-true, leb-false, lt-ltb, le-ltb}
 use lib.Dec.{leb, ltb, eqb}
 use lib.ListN.{length, get_or}
+use Rattle.std.specs.Prelude.{None, Some}
 use Rattle.packet.specs.declared.Edition.{Edition}
 use Rattle.packet.specs.declared.Damage.{Damage}
 use Rattle.xor.specs.Xor.{xor_all}
 use Rattle.packet.specs.Packet.{shortest, is_intact, damage_of, damage_number, damage_in, verdict_of, data_of}
 use Rattle.packet.specs.Reading.{seems_for, reading_of}
-use Rattle.packet.proofs.Packets.{sound, intact}
+use Rattle.packet.proofs.Packets.{intact}
 use Rattle.packet.proofs.Spoiled.{spoiled-told as told}
-use Rattle.packet.proofs.Damages.{undamaged, passed, damage-said}
+use Rattle.packet.proofs.Damages.{fault_of, damage-said}
 use Rattle.answers.specs.Played.{answered}
 use Rattle.host.specs.Machine.{telling, step}
 use Rattle.line.proofs.Streams.{marked}
@@ -33,41 +34,38 @@ too_short Edition.Sicp201 n = short n 3
 
 pub kinds : Kinds
 unfolding damage_of
-kinds edition b = rw (damage-said edition b, too_short edition (length b)) (go (eqb (length b) 0) (ltb (length b) (shortest edition)) (ltb 40 (length b)) (eqb (get_or b 0 0) (length b)) (eqb (xor_all b) 0))
+kinds edition b = rw (damage-said edition b, too_short edition (length b)) (go (eqb (length b) 0) (leb (shortest edition) (length b)) refl (leb (length b) 40) refl (eqb (get_or b 0 0) (length b)) (eqb (xor_all b) 0))
   where
-    go : (none short long size sum : Bool)
-        → damage_number (cond none Damage.Nothing (cond short Damage.TooShort (cond long Damage.TooLong (cond (not size) Damage.Size (cond (not sum) Damage.Checksum Damage.Nothing)))))
-        ≡ cond none 0 (cond short 1 (cond long 2 (cond (not size) 3 (cond sum 0 4))))
-    go true short long size sum = refl
-    go false true long size sum = refl
-    go false false true size sum = refl
-    go false false false false sum = refl
-    go false false false true true = refl
-    go false false false true false = refl
+    go : (none least : Bool) → leb (shortest edition) (length b) ≡ least → (most : Bool) → leb (length b) 40 ≡ most → (size sum : Bool)
+        → damage_number (cond (none || (least && most && size && sum)) None (Some (cond (ltb (length b) (shortest edition)) Damage.TooShort (cond (ltb 40 (length b)) Damage.TooLong (cond (not size) Damage.Size Damage.Checksum)))))
+        ≡ cond none 0 (cond (ltb (length b) (shortest edition)) 1 (cond (ltb 40 (length b)) 2 (cond (not size) 3 (cond sum 0 4))))
+    go true least el most em size sum = refl
+    go false false el most em size sum = rw (lt-ltb (length b) (shortest edition) (leb-false _ _ el))
+    go false true el false em size sum = rw (le-ltb (length b) (shortest edition) (leb-true _ _ el), lt-ltb 40 (length b) (leb-false _ _ em))
+    go false true el true em false sum = rw (le-ltb (length b) (shortest edition) (leb-true _ _ el), le-ltb 40 (length b) (leb-true _ _ em))
+    go false true el true em true false = rw (le-ltb (length b) (shortest edition) (leb-true _ _ el), le-ltb 40 (length b) (leb-true _ _ em))
+    go false true el true em true true = rw (le-ltb (length b) (shortest edition) (leb-true _ _ el), le-ltb 40 (length b) (leb-true _ _ em))
 
 -- a damage has a number
-numbered : (d : Damage) → (d ≡ Damage.Nothing → ⊥) → eqb (damage_number d) 0 ≡ false
-numbered Damage.Nothing h = absurd (h refl)
-numbered Damage.TooShort h = refl
-numbered Damage.TooLong h = refl
-numbered Damage.Size h = refl
-numbered Damage.Checksum h = refl
+numbered : (d : Damage) → eqb (damage_number (Some d)) 0 ≡ false
+numbered Damage.TooShort = refl
+numbered Damage.TooLong = refl
+numbered Damage.Size = refl
+numbered Damage.Checksum = refl
 
 pub no_damage : NoDamage
-unfolding damage_of
-no_damage edition b = rw (damage-said edition b) (go (eqb (length b) 0) refl (is_intact edition b) refl)
+unfolding damage_of is_intact
+no_damage edition b = rw (damage-said edition b) (go (eqb (length b) 0 || is_intact edition b))
   where
-    go : (none : Bool) → eqb (length b) 0 ≡ none → (t : Bool) → is_intact edition b ≡ t → eqb (damage_number (damage_of edition b)) 0 ≡ (none || t)
-    go true z true e = rw (undamaged edition b (sound edition b e))
-    go true z false e = rw z
-    go false z true e = rw (undamaged edition b (sound edition b e))
-    go false z false e = numbered _ (λ n. false≢true (sym e ∙ intact edition b (passed edition b (eqb-false _ _ z) n)))
+    go : (t : Bool) → eqb (damage_number (cond t None (Some (fault_of edition b)))) 0 ≡ t
+    go true = refl
+    go false = numbered (fault_of edition b)
 
 pub spoiled-told : SpoiledTold
 spoiled-told edition p s intact spoils none = told edition s p intact spoils (sym (damage-said edition _) ∙ none)
 
 pub unchanged : Unchanged
-unfolding answered verdict_of data_of seems_for
+unfolding answered verdict_of is_intact data_of seems_for
 unchanged edition w b = go edition (eqb (length b) 0) refl (is_intact edition b) refl
   where
     go : (edition : Edition) (none : Bool) → eqb (length b) 0 ≡ none → (t : Bool) → is_intact edition b ≡ t → answered w (reading_of edition b) ≡ before edition w b

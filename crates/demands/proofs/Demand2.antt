@@ -5,12 +5,12 @@ use mathlib.Core.Logic.{◌⊎◌, inl, inr}
 use mathlib.Core.Path.{◌≡◌, refl, sym, ap, ◌∙◌}
 use mathlib.Core.List.{[], ◌∷◌}
 use lib.ListN.{length, get_or}
+use Rattle.std.specs.Prelude.{Option, Some, None}
 use Rattle.codes.proofs.Laws.{get_found}
 use Rattle.packet.specs.declared.MonitorId.{MonitorId}
 use Rattle.packet.specs.declared.GroupId.{GroupId}
 use Rattle.packet.specs.declared.Control.{Control}
 use Rattle.packet.specs.declared.Verdict.{Verdict}
-use Rattle.packet.specs.declared.Addressee.{Addressee}
 use Rattle.packet.specs.Reading.{Reading, reading_of}
 use Rattle.packet.proofs.Packets.{packet_verdict, packet_data_lem}
 use Rattle.panels.specs.declared.Panel.{Panel}
@@ -133,9 +133,9 @@ nack_answer : (w : Wall) (i : MonitorId) (q : Place) → Answer-Is w (if_there q
 nack_answer w i Place.Nowhere = inl refl
 nack_answer w i (Place.At k) = inr (inl (i, Control.Nack, refl))
 
-damaged_answer : (w : Wall) (a : Addressee) → Answer-Is w (nack_from w a)
-damaged_answer w Addressee.Nobody = inl refl
-damaged_answer w (Addressee.One i) = nack_answer w i (place_of i w)
+damaged_answer : (w : Wall) (a : Option MonitorId) → Answer-Is w (nack_from w a)
+damaged_answer w None = inl refl
+damaged_answer w (Some i) = nack_answer w i (place_of i w)
 
 pub answers : Answers
 unfolding answered

@@ -4,9 +4,9 @@ use mathlib.Core.Bool.{true}
 use mathlib.Core.Logic.{inl, inr}
 use mathlib.Core.Path.{◌≡◌, refl, sym, ap, subst, ◌∙◌}
 use mathlib.Core.List.{List, [], ◌∷◌, ◌++◌, map, append_assoc, append-nil}
+use Rattle.std.specs.Prelude.{Option, Some, None}
 use Rattle.packet.specs.declared.Edition.{Edition}
 use Rattle.packet.specs.declared.Control.{Control}
-use Rattle.packet.specs.declared.Addressee.{Addressee}
 use Rattle.packet.specs.declared.Damage.{Damage}
 use Rattle.packet.specs.declared.MonitorId.{MonitorId}
 use Rattle.packet.specs.declared.Verdict.{Verdict}
@@ -29,9 +29,9 @@ nack_or_silent : (i : MonitorId) (q : Place) → SilenceOrNack (if_there q (word
 nack_or_silent i Place.Nowhere = inl refl
 nack_or_silent i (Place.At k) = inr (i, refl)
 
-damaged_answer : (w : Wall) (a : Addressee) → SilenceOrNack (nack_from w a)
-damaged_answer w Addressee.Nobody = inl refl
-damaged_answer w (Addressee.One i) = nack_or_silent i (place_of i w)
+damaged_answer : (w : Wall) (a : Option MonitorId) → SilenceOrNack (nack_from w a)
+damaged_answer w None = inl refl
+damaged_answer w (Some i) = nack_or_silent i (place_of i w)
 
 -- A box that takes each burst by itself withstands spoiled packets if none of them changes its wall, and each gets what it may.
 module _ (edition : Edition) (May : Reply → Type 0) (rule : Wall → List ℕ → Outcome)

@@ -78,7 +78,7 @@ heeded_so Edition.Sicp201 r b n = refl
 
 -- and of another
 ignored : (r : Request) (edition : Edition) (b d : List ℕ) → is_intact edition b ≡ false → said_by r (verdict_of edition b) d ≡ Said.Nothing
-unfolding verdict_of said_by
+unfolding verdict_of is_intact said_by
 ignored r edition b d e = go (eqb (length b) 0) refl
   where
     go : (z : Bool) → eqb (length b) 0 ≡ z → said_by r (verdict_of edition b) d ≡ Said.Nothing

@@ -6,12 +6,12 @@ use mathlib.Core.List.{List, [], ◌∷◌, map}
 use borrow.Author.Tests.{eqb-false, eq-eqb}
 use lib.Dec.{eqb}
 use lib.ListN.{length, get_or}
+use Rattle.std.specs.Prelude.{Option, Some, None}
 use Rattle.lists.proofs.Both.{both}
 use Rattle.lists.proofs.Mapped.{at_map, map_alike}
 use Rattle.packet.specs.declared.MonitorId.{MonitorId}
 use Rattle.packet.specs.declared.GroupId.{GroupId}
 use Rattle.packet.specs.declared.Verdict.{Verdict}
-use Rattle.packet.specs.declared.Addressee.{Addressee}
 use Rattle.packet.specs.declared.Control.{Control}
 use Rattle.packet.specs.Answered.{is_heard}
 use Rattle.packet.specs.Reading.{Reading}
@@ -129,9 +129,9 @@ module _ (w : Wall) (good : GoodWall w) (r s : Reading) (free : (k : ℕ) → k 
       place : (i : MonitorId) → place_of i v ≡ place_of i w
       place i = ap (place_of i) is ∙ same_place (changed s) (kept-names s.verdict s.part) i 0 w
 
-      nack : (a : Addressee) → nack_from v a ≡ nack_from w a
-      nack Addressee.Nobody = refl
-      nack (Addressee.One i) = ap (λ (q : Place). if_there q (word_from i Control.Nack) silence) (place i)
+      nack : (a : Option MonitorId) → nack_from v a ≡ nack_from w a
+      nack None = refl
+      nack (Some i) = ap (λ (q : Place). if_there q (word_from i Control.Nack) silence) (place i)
 
       from : (i : MonitorId) (g : GroupId) (n : ℕ) → r.verdict ≡ Verdict.Intact i g n → is_heard i g ≡ true → (q : Place) → place_of i w ≡ q
           → reply_from v i (command r.part) q ≡ reply_from w i (command r.part) q

@@ -8,6 +8,7 @@ use borrow.Author.Tests.{eqb-true, eqb-false, eq-eqb, ne_eqb, lt-ltb}
 use lib.Dec.{eqb, leb, ltb}
 use lib.ListN.{length, get_or, length-take, length-replicate}
 use lib.Seq.{take-append_seam}
+use Rattle.std.specs.Prelude.{None}
 use Rattle.models.specs.declared.Model.{Model}
 use Rattle.std.proofs.Common.{Option, Some, None}
 use Rattle.codes.specs.declared.Code.{Code}
@@ -23,7 +24,6 @@ use Rattle.lists.proofs.Each.{alike}
 use Rattle.packet.specs.declared.Edition.{Edition}
 use Rattle.packet.specs.Edition.{carries}
 use Rattle.packet.specs.declared.Control.{Control}
-use Rattle.packet.specs.declared.Damage.{Damage}
 use Rattle.packet.specs.Packet.{group_id, packet_of, most_data}
 use Rattle.packet.specs.Control.{control_data}
 use Rattle.packet.specs.Reading.{reading_of}
@@ -138,12 +138,12 @@ module _ (edition : Edition) (w : Wall) (r : Request) (k : ℕ) (asked : is_requ
   waits_on (suc n) h = ap (λ (s : State). (step s mark).next) (waits_on n (omega arith)) ∙ sends n h
 
   -- what is heeded has no damage
-  untold : (s : State) (d : List ℕ) (w : Said) → telling Damage.Nothing (ending s d w) ≡ ending s d w
+  untold : (s : State) (d : List ℕ) (w : Said) → telling None (ending s d w) ≡ ending s d w
   unfolding ending again
   untold s d Said.Ack = refl
   untold s d Said.Nack = go (ltb (sendings s) most_sendings) refl refl
     where
-      go : (t : Bool) {m o : Move} → telling Damage.Nothing m ≡ m → telling Damage.Nothing o ≡ o → telling Damage.Nothing (cond t m o) ≡ cond t m o
+      go : (t : Bool) {m o : Move} → telling None m ≡ m → telling None o ≡ o → telling None (cond t m o) ≡ cond t m o
       go true h k = h
       go false h k = k
   untold s d Said.Nav = refl

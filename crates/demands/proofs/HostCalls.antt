@@ -8,6 +8,7 @@ use borrow.Author.Tests.{ne_eqb}
 use lib.Dec.{eqb}
 use lib.ListN.{length, take, drop}
 use lib.Seq.{take-append_seam}
+use Rattle.std.specs.Prelude.{None, Option}
 use Rattle.lists.specs.Lists.{laid_over}
 use Rattle.packet.specs.declared.Damage.{Damage}
 use Rattle.packet.specs.declared.Edition.{Edition}
@@ -50,7 +51,7 @@ pub record Stays (host : Host) (c : Call) (o : Outcome) : Type 0 where
   pub none : given_out host c ≡ []
   pub told : (answer_to host c).outcome ≡ o
 
-pub stays : (host : Host) (c : Call) (o : Outcome) (d : Damage) → call c.lent (state_of host) c.happens ≡ telling d (quiet (state_of host) o) → Stays host c o
+pub stays : (host : Host) (c : Call) (o : Outcome) (d : Option Damage) → call c.lent (state_of host) c.happens ≡ telling d (quiet (state_of host) o) → Stays host c o
 unfolding step_of laid_over flatten
 stays host c o d e = record {
   same_host = ap (λ (m : Move). host_of m.next) e ∙ host_back host;
@@ -65,7 +66,7 @@ unfolding call
 without_room host c short = rw short
 
 pub refused : (host : Host) (c : Call) → has_room c ≡ false → Stays host c (Outcome.Refused Refusal.NoRoom)
-refused host c short = stays host c (Outcome.Refused Refusal.NoRoom) Damage.Nothing (without_room host c short)
+refused host c short = stays host c (Outcome.Refused Refusal.NoRoom) None (without_room host c short)
 
 -- With room a call is a step.
 pub roomy : (host : Host) (c : Call) → has_room c ≡ true → call c.lent (state_of host) c.happens ≡ step (state_of host) c.happens

@@ -6,8 +6,8 @@ use mathlib.Core.List.{List, [], ◌∷◌}
 use native.Mathlib.Omega.{arith}
 use borrow.Author.Tests.{ltb-false, lt-ltb}
 use lib.Dec.{ltb}
+use Rattle.std.specs.Prelude.{None}
 use Rattle.lists.proofs.Both.{both}
-use Rattle.packet.specs.declared.Damage.{Damage}
 use Rattle.packet.specs.declared.Edition.{Edition}
 use Rattle.host.specs.declared.Host.{Host}
 use Rattle.host.specs.declared.End.{End}
@@ -74,7 +74,7 @@ module _ (edition : Edition) where
 
   at_rest : (c : Call) (h : Happening) → c.happens ≡ h → is_mark h ≡ false → has_room c ≡ true → Still c
   unfolding step
-  at_rest c (start r) e f room = still c refl (stays resting c (Outcome.Refused Refusal.Resting) Damage.Nothing (roomy resting c room ∙ ap (step (state_of resting)) e))
+  at_rest c (start r) e f room = still c refl (stays resting c (Outcome.Refused Refusal.Resting) None (roomy resting c room ∙ ap (step (state_of resting)) e))
   at_rest c (burst b) e f room = still c refl (stays resting c Outcome.Resting _ (roomy resting c room ∙ ap (step (state_of resting)) e))
   at_rest c mark e f room = absurd (false≢true (sym f))
 

@@ -3,11 +3,9 @@ use Prim.Native.Nat.{ℕ, ◌+◌, ◌*◌}
 use mathlib.Core.Path.{◌≡◌, refl, ap, ◌∙◌}
 use mathlib.Core.Bool.{Bool, true, false, cond, ◌&&◌, ◌||◌}
 use mathlib.Core.List.{List, [], ◌∷◌, flatten}
-use mathlib.Core.Option.{none, some}
-use Rattle.std.specs.Prelude.{Ok, Err}
 use lib.Dec.{leb, ltb, eqb}
 use lib.ListN.{length, length-replicate}
-use Rattle.std.specs.Prelude.{Some, None}
+use Rattle.std.specs.Prelude.{Some, None, Ok, Err}
 use Rattle.std.specs.Option.{option_map_or}
 use Rattle.settings.specs.declared.Profile.{Profile}
 use Rattle.tiling.specs.declared.Kind.{Kind}
@@ -15,7 +13,7 @@ use Rattle.tiling.specs.Kinds.{kind_with}
 use Rattle.settings.specs.Settings.{settings, fresh_values, allowed_by_row}
 use Rattle.settings.specs.Profiles.{profile_with}
 use Rattle.packet.specs.declared.Edition.{Edition}
-use Rattle.packet.specs.declared.Written.{Written}
+use Rattle.packet.specs.declared.WriteError.{WriteError}
 use Rattle.packet.specs.Reading.{reading_of}
 use Rattle.packet.specs.Answered.{is_heard}
 use Rattle.packet.specs.Edition.{edition_with, open_refusal}
@@ -114,7 +112,7 @@ packet_number_lem edition out d = rw (data_most edition) (go (leb 40 (length out
     data_most Edition.Sicp185 = refl
     data_most Edition.Sicp201 = refl
 
-    go : (a b : Bool) → packet_number (cond a (cond b (Written.Bytes (length d + shortest edition)) Written.TooLong) Written.NoRoom) ≡ cond a (cond b (some 0) none) (some 19)
+    go : (a b : Bool) → packet_number (cond a (cond b (Ok (length d + shortest edition)) (Err WriteError.TooLong)) (Err WriteError.NoRoom)) ≡ cond a (cond b (Some 0) None) (Some 19)
     go true true = refl
     go true false = refl
     go false b = refl

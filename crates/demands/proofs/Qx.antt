@@ -6,6 +6,7 @@ use mathlib.Core.List.{List, [], ◌∷◌, map, flatten}
 use native.Mathlib.Omega.{arith}
 use borrow.Author.Tests.{leb-true, leb-false, le-ltb, lt-ltb, eqb-true, ne_eqb}
 use lib.Dec.{leb, eqb}
+use Rattle.std.specs.Prelude.{Result, Ok, Err}
 use lib.ListN.{length, get_or, length-map}
 use Rattle.lists.specs.Lists.{laid_over}
 use Rattle.settings.specs.Settings.{settings, set_code, get_code, byte_count, power_row, video_row}
@@ -23,9 +24,10 @@ use Rattle.requests.proofs.Sets.{value_is}
 use Rattle.qx.specs.Message.{message, qx_packet}
 use Rattle.qx.specs.Asked as asked
 use Rattle.qx.proofs.Translations.{picture_data, asked_data}
+use Rattle.qx.specs.declared.Packets.{Packets}
 use Rattle.qx.specs.declared.Refusal.{Refusal}
-use Rattle.qx.specs.Translation.{refusal_number, packets_for, carried_by, refusal_of, packets_in, packets_told, translated, translated_over}
-use Rattle.demands.specs.Qx.{number_for, is_carried, nothing_lost, packets_of, QxNumbers, Translated, NotTranslated}
+use Rattle.qx.specs.Translation.{packets_for, carried_by, packets_in, packets_told, translated, translated_over}
+use Rattle.demands.specs.Qx.{number_of, number_for, is_carried, nothing_lost, packets_of, QxNumbers, Translated, NotTranslated}
 
 -- the data of the packets of a request that is carried
 abbrev pub wanted : Request → List (List ℕ)
@@ -105,15 +107,15 @@ written r = go (eqb r.code 0x19) (eqb r.code 0x18) refl refl
         record { packets = rw (ea, eb); fits = rw (ea, eb) (refl, refl, (refl, refl, (refl, refl, tt))); some = rw (ea, eb) (omega arith) }
 
 -- so that nothing is wrong with it
-refusal-none : (r : Request) → carried_by (packets_of r) ≡ Refusal.Nothing
-refusal-none r = rw (ne_eqb (length (packets_of r)) 0 (λ e. omega (arith, (written r).some)))
+all_told : (r : Request) → carried_by (packets_of r) ≡ Ok (packets_told (packets_of r))
+all_told r = rw (ne_eqb (length (packets_of r)) 0 (λ e. omega (arith, (written r).some)))
 
-carried_or_not : (r : Request) (t : Bool) → refusal_number (carried_by (map (qx_packet r.id) (cond t (wanted r) []))) ≡ cond t 0 34
-carried_or_not r true = rw ((written r).packets, refusal-none r)
+carried_or_not : (r : Request) (t : Bool) → number_of (carried_by (map (qx_packet r.id) (cond t (wanted r) []))) ≡ cond t 0 34
+carried_or_not r true = rw ((written r).packets, all_told r)
 carried_or_not r false = refl
 
 pub qx_numbers : QxNumbers
-unfolding translated packets_told refusal_of packets_for
+unfolding translated packets_for
 qx_numbers room r = go (leb 40 room) refl (is_request Edition.Sicp201 r) refl
   where
     go : (t : Bool) → leb 40 room ≡ t → (u : Bool) → is_request Edition.Sicp201 r ≡ u → number_for room r ≡ cond t (cond u (cond (is_carried r) 0 34) 22) 19
@@ -142,11 +144,11 @@ unfolding packets_for
 packets_is r e c = rw (data_is r e, c) (written r).packets
 
 pub translated_is : Translated
-unfolding translated packets_told refusal_of packets_in translated_over laid_over
+unfolding translated packets_told packets_in translated_over laid_over
 translated_is out r z =
     let t = taken (length out) r z in
     let is = packets_is r t.request t.carried in
-    (rw (le-ltb _ 40 t.room_there, is), rw (le-ltb _ 40 t.room_there, t.request, is, refusal-none r, length-map (packets_of r) length))
+    (rw (le-ltb _ 40 t.room_there, is), rw (le-ltb _ 40 t.room_there, t.request, is, all_told r, length-map (packets_of r) length))
 
 -- and of what is refused there are none
 pub refused_data : (r : Request) → (cond {A = ℕ} (is_request Edition.Sicp201 r) (cond (is_carried r) 0 34) 22 ≡ 0 → ⊥) → asked.data_for (asked.asked_of r) ≡ []
@@ -165,6 +167,10 @@ none_in room r ne = go (leb 40 room) refl
     go true h = rw (le-ltb room 40 (leb-true 40 room h), refused_data r (λ z. ne (qx_numbers room r ∙ rw h z)))
     go false h = rw (lt-ltb room 40 (leb-false 40 room h))
 
+is_refused : (told : Result Packets Refusal) → (number_of told ≡ 0 → ⊥) → (refusal : Refusal) × (told ≡ Err refusal)
+is_refused (Ok packets) ne = absurd (ne refl)
+is_refused (Err refusal) ne = (refusal, refl)
+
 pub not_translated : NotTranslated
-unfolding translated packets_told translated_over laid_over flatten
-not_translated out r ne = let none = none_in (length out) r ne in (rw none, rw none, rw none)
+unfolding translated_over laid_over flatten
+not_translated out r ne = (rw (none_in (length out) r ne), is_refused (translated (length out) r) ne)

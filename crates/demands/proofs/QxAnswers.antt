@@ -6,6 +6,7 @@ use mathlib.Core.List.{List, [], ◌∷◌, ◌++◌, map, flatten}
 use native.Mathlib.Omega.{arith}
 use borrow.Author.Tests.{lt-ltb, eq-eqb}
 use lib.Dec.{ltb, eqb}
+use Rattle.std.specs.Prelude.{Some, None, Ok, Err}
 use lib.ListN.{length, get_or, length-take, length-append, length-drop}
 use Rattle.lists.specs.Lists.{same, laid_over}
 use Rattle.lists.proofs.Same.{same_self, not_same}
@@ -23,8 +24,7 @@ use Rattle.requests.specs.Request.{is_request, is_taken}
 use Rattle.qx.specs.Message.{message, qx_packet, qx_answer}
 use Rattle.qx.specs.Asked as asked
 use Rattle.qx.specs.declared.Reply.{Reply}
-use Rattle.qx.specs.declared.Heard.{Heard}
-use Rattle.qx.specs.Replies.{value_says, said_to, replies_to, is_wrong, is_ack, any_wrong, first_other, joined, answers_all, heard_in, heard_by}
+use Rattle.qx.specs.Replies.{Answer, wrong, value_says, said_to, replies_to, is_wrong, is_ack, any_wrong, first_other, joined, answers_all, heard_in, heard_by}
 use Rattle.qx.proofs.Replies.{alone}
 use Rattle.qx.specs.Translation.{packets_for, packets_in, translated_over}
 use Rattle.demands.proofs.Qx.{wanted, data_is, Fits, written, qx_numbers, taken, refused_data}
@@ -48,7 +48,7 @@ each-said id [] [] xs f = refl
 each-said id [] (p ∷ ps) xs f = elim f [ ]
 each-said id (c ∷ cs) [] xs f = elim f [ ]
 each-said id (c ∷ cs) (p ∷ ps) [] f = refl
-each-said id (c ∷ cs) (p ∷ ps) (x ∷ xs) f = ap₂ (λ (a : Reply) (l : List Reply). a ∷ l) (one-said id c p x f.0 f.1) (each-said id cs ps xs f.2)
+each-said id (c ∷ cs) (p ∷ ps) (x ∷ xs) f = ap₂ (λ (a : Answer) (l : List Answer). a ∷ l) (one-said id c p x f.0 f.1) (each-said id cs ps xs f.2)
 
 module _ (r : Request) (z : number_for 40 r ≡ 0) where
   asked_codes : asked.codes_for (asked.asked_of r) ≡ map (λ d. get_or d 0 0) (wanted r)
@@ -57,22 +57,22 @@ module _ (r : Request) (z : number_for 40 r ≡ 0) where
 
   -- a list of answers that is not cut
   heard-whole : (xs : List (List ℕ)) → heard_in r.id (map (λ d. get_or d 0 0) (wanted r)) (record { whole = xs; cut = false })
-      ≡ cond (eqb (length xs) (length (packets_of r))) (Heard.Said (joined (each_to says_to (packets_of r) xs))) Heard.Unknown
+      ≡ cond (eqb (length xs) (length (packets_of r))) (Some (joined (each_to says_to (packets_of r) xs))) None
   unfolding heard_in answers_all
   heard-whole xs =
       let w = written r in
       rw (fit_length r.id (map (λ d. get_or d 0 0) (wanted r)) (packets_of r) w.fits, lt-ltb 0 _ w.some, each-said r.id _ (packets_of r) xs w.fits)
 
-  heard_of : (xs : List (List ℕ)) → heard_by r (list_of xs) ≡ cond (eqb (length xs) (length (packets_of r))) (Heard.Said (joined (each_to says_to (packets_of r) xs))) Heard.Unknown
+  heard_of : (xs : List (List ℕ)) → heard_by r (list_of xs) ≡ cond (eqb (length xs) (length (packets_of r))) (Some (joined (each_to says_to (packets_of r) xs))) None
   unfolding heard_by
   heard_of xs = rw (asked_codes, told-again xs) (heard-whole xs)
 
-  heard-cut : (list : List ℕ) → (bursts_in list).cut ≡ true → heard_by r list ≡ Heard.Unknown
+  heard-cut : (list : List ℕ) → (bursts_in list).cut ≡ true → heard_by r list ≡ None
   unfolding heard_by heard_in answers_all
   heard-cut list c = rw (c, and-false (ltb 0 (length (asked.codes_for (asked.asked_of r)))))
 
   -- as many as there are packets
-  heard_all : (xs : List (List ℕ)) → length xs ≡ length (packets_of r) → heard_by r (list_of xs) ≡ Heard.Said (joined (each_to says_to (packets_of r) xs))
+  heard_all : (xs : List (List ℕ)) → length xs ≡ length (packets_of r) → heard_by r (list_of xs) ≡ Some (joined (each_to says_to (packets_of r) xs))
   heard_all xs n = heard_of xs ∙ rw (eq-eqb _ _ n)
 
 pub reads : Reads
@@ -86,12 +86,12 @@ pub answer_numbers : AnswerNumbers
 answer_numbers v = (refl, refl, refl, refl, refl)
 
 -- an ACK is what it is
-ack_is : (c : Reply) → cond (is_ack c) Reply.Ack c ≡ c
-ack_is Reply.Ack = refl
-ack_is Reply.Nack = refl
-ack_is Reply.Nav = refl
-ack_is (Reply.Report v) = refl
-ack_is Reply.Wrong = refl
+ack_is : (c : Answer) → cond (is_ack c) (Ok Reply.Ack) c ≡ c
+ack_is (Ok Reply.Ack) = refl
+ack_is (Ok Reply.Nack) = refl
+ack_is (Ok Reply.Nav) = refl
+ack_is (Ok (Reply.Report v)) = refl
+ack_is (Err e) = refl
 
 pub joined_is : Joined
 unfolding joined any_wrong first_other
@@ -104,7 +104,7 @@ own_said p v = rw (same_self (answer_to p v))
 own_each : (ps : List (List ℕ)) (vs : List ℕ) → each_to says_to ps (each_to answer_to ps vs) ≡ each_to value_to ps vs
 own_each [] vs = refl
 own_each (p ∷ ps) [] = refl
-own_each (p ∷ ps) (v ∷ vs) = ap₂ (λ (a : Reply) (l : List Reply). a ∷ l) (own_said p v) (own_each ps vs)
+own_each (p ∷ ps) (v ∷ vs) = ap₂ (λ (a : Answer) (l : List Answer). a ∷ l) (own_said p v) (own_each ps vs)
 
 each_many : (ps : List (List ℕ)) (vs : List ℕ) → length vs ≡ length ps → length (each_to answer_to ps vs) ≡ length ps
 each_many [] vs n = refl
@@ -124,11 +124,11 @@ spoiled-other (changed i u) p v w (h, other) e = other (one-changed (answer_to p
 spoiled-other (lost i) p v w h e = omega (arith, simp (length-append, length-take, length-drop) at (ap length e))
 spoiled-other (added i u) p v w h e = omega (arith, simp (length-append, length-take, length-drop) at (ap length e))
 
-spoiled-said : (s : Spoiling) (p : List ℕ) (v : ℕ) → Spoils s (answer_to p v) → says_to p (spoiled s (answer_to p v)) ≡ Reply.Wrong
+spoiled-said : (s : Spoiling) (p : List ℕ) (v : ℕ) → Spoils s (answer_to p v) → says_to p (spoiled s (answer_to p v)) ≡ wrong
 spoiled-said s p v h = rw (not_same _ _ (spoiled-other s p v (get_or (spoiled s (answer_to p v)) 7 0) h))
 
 -- one that is wrong is enough
-one_wrong : (ps before : List (List ℕ)) (x : List ℕ) (after : List (List ℕ)) → length before < length ps → says_to (get_or ps (length before) []) x ≡ Reply.Wrong
+one_wrong : (ps before : List (List ℕ)) (x : List ℕ) (after : List (List ℕ)) → length before < length ps → says_to (get_or ps (length before) []) x ≡ wrong
     → any_wrong (each_to says_to ps (before ++ x ∷ after)) ≡ true
 unfolding any_wrong
 one_wrong [] before x after h e = absurd (omega arith)

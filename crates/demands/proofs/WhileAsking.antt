@@ -8,6 +8,7 @@ use native.Mathlib.Omega.{arith}
 use borrow.Author.Tests.{ltb-true, ltb-false, eq-eqb, ne_eqb, lt-ltb}
 use lib.Dec.{ltb, eqb}
 use lib.ListN.{length, take, drop, replicate, length-replicate, replicate-append-replicate}
+use Rattle.std.specs.Prelude.{Option}
 use Rattle.lists.specs.Lists.{same}
 use Rattle.lists.proofs.Both.{both}
 use Rattle.settings.specs.Settings.{get_code}
@@ -146,7 +147,7 @@ module _ (edition : Edition) (r : Request) where
   told n d Said.Nothing = stays n Outcome.Waiting refl
 
   -- what is wrong with a burst changes nothing of that
-  telling_on : (n : ℕ) (push : Bool) (d : Damage) (m : Move) → One n push m → One n push (telling d m)
+  telling_on : (n : ℕ) (push : Bool) (d : Option Damage) (m : Move) → One n push m → One n push (telling d m)
   telling_on n push d m =
       ⊎_elim
       (λ (o : Ends n push m). inl (record { how = o.how; told = o.told; none = o.none; up = o.up; third = o.third }))

@@ -1,8 +1,8 @@
 -- What is wrong with a burst, told beside the answer. 02, A3 and A11.
-use Rattle.std.specs.Prelude.{ℕ, true, cond, not, ◌&&◌, ◌||◌, ◌≡◌, leb, eqb, length, get_or}
+use Rattle.packet.specs.declared.MonitorId.{MonitorId}
+use Rattle.std.specs.Prelude.{ℕ, true, cond, not, ◌&&◌, ◌||◌, ◌≡◌, leb, eqb, length, get_or, Option, Some, None}
 use mathlib.Core.List.{List, [], foldl}
 use Rattle.packet.specs.declared.Edition.{Edition}
-use Rattle.packet.specs.declared.Addressee.{Addressee}
 use Rattle.packet.specs.declared.Damage.{Damage}
 use Rattle.xor.specs.Xor.{xor_all}
 use Rattle.packet.specs.Packet.{monitor_id, group_id, is_intact, damage_in, damage_number}
@@ -18,7 +18,7 @@ use Rattle.host.specs.Machine.{burst, State, telling, step}
 use Rattle.demands.specs.HostMoves.{data_in, heard_by}
 
 -- what is told of a burst
-abbrev pub told : Edition → List ℕ → Damage
+abbrev pub told : Edition → List ℕ → Option Damage
 told edition b = damage_in (reading_of edition b).verdict
 
 -- the longest burst that is too short
@@ -42,7 +42,7 @@ NoDamage = (edition : Edition) (b : List ℕ) → eqb (damage_number (told editi
 -- and never for a packet that was spoiled by one byte.
 abbrev pub SpoiledTold : Type 0
 SpoiledTold =
-    (edition : Edition) (packet : List ℕ) (s : Spoiling) → is_intact edition packet ≡ true → Spoils s packet → told edition (spoiled s packet) ≡ Damage.Nothing → ⊥
+    (edition : Edition) (packet : List ℕ) (s : Spoiling) → is_intact edition packet ≡ true → Spoils s packet → told edition (spoiled s packet) ≡ None → ⊥
 
 -- The receiver, which keeps 40 bytes, leaves of a burst of any length, byte after byte and then the mark, what the whole burst does,
 -- and tells what is wrong with it.
@@ -59,9 +59,9 @@ packet_in Edition.Sicp185 w b = played_packet w (monitor_id (get_or b 1 0)) (gro
 packet_in Edition.Sicp201 w b = played_packet w (monitor_id (get_or b 1 0)) (group_id (get_or b 2 0)) (command (data_in Edition.Sicp201 b))
 
 -- whom a NACK is from: the burst has 2 bytes, or on 2.01 3 of which the third is 0; the second is the ID
-abbrev pub nacked_by : Edition → List ℕ → Addressee
-nacked_by Edition.Sicp185 b = cond (leb 2 (length b)) (Addressee.One (monitor_id (get_or b 1 0))) Addressee.Nobody
-nacked_by Edition.Sicp201 b = cond (leb 3 (length b) && eqb (get_or b 2 0) 0) (Addressee.One (monitor_id (get_or b 1 0))) Addressee.Nobody
+abbrev pub nacked_by : Edition → List ℕ → Option MonitorId
+nacked_by Edition.Sicp185 b = cond (leb 2 (length b)) (Some (monitor_id (get_or b 1 0))) None
+nacked_by Edition.Sicp201 b = cond (leb 3 (length b) && eqb (get_or b 2 0) 0) (Some (monitor_id (get_or b 1 0))) None
 
 -- The wall and the answer without this request, by 01: an empty burst does nothing, an intact one is a packet, and any other gets
 -- NACK or silence.

@@ -1,8 +1,7 @@
 -- The numbers that calls refuse by, 0 where nothing is refused. 01, "Table calls and numbers": each is given exactly when its
 -- row says, lower numbers first, but 24 before 22 (02, A12). 11 to 18 go with the order of reading, in `image_read`; 32 and 33 with
 -- lists of bursts, in `Scenes`.
-use Rattle.std.specs.Prelude.{ℕ, ◌+◌, ◌*◌, Bool, true, cond, ◌&&◌, ◌||◌, ◌≡◌, List, [], ◌∷◌, leb, eqb, length, take, drop}
-use Rattle.std.proofs.Math.Option.{none, some}
+use Rattle.std.specs.Prelude.{ℕ, ◌+◌, ◌*◌, Bool, true, cond, ◌&&◌, ◌||◌, ◌≡◌, List, [], ◌∷◌, leb, eqb, length, take, drop, Some, None}
 use Rattle.lists.specs.Lists.{same}
 use Rattle.settings.specs.Profiles.{profile_number}
 use Rattle.packet.specs.declared.Edition.{Edition}
@@ -67,7 +66,7 @@ most_data Edition.Sicp201 = 36
 abbrev pub Packet : Type 0
 Packet =
     (edition : Edition) (out d : List ℕ)
-    → packet_number (packet_written edition out d) ≡ cond (leb 40 (length out)) (cond (leb (length d) (most_data edition)) (some 0) none) (some 19)
+    → packet_number (packet_written edition out d) ≡ cond (leb 40 (length out)) (cond (leb (length d) (most_data edition)) (Some 0) None) (Some 19)
 
 -- a line or a host is opened with 185 or 201, and 23 is any other number
 abbrev pub Open : Type 0

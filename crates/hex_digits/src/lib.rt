@@ -1,7 +1,7 @@
 // The two hex digits of a byte, in upper case.
 #![tactic(auto)]
 
-ghost use Rattle.std.specs.Prelude.{◌≡◌, ◌/◌, ◌%◌, ◌<◌};
+ghost use Rattle.std.specs.Prelude.{◌≡◌, ◌/◌, ◌%◌, ◌<◌, [], ◌∷◌};
 ghost use Rattle.hex_digits.specs.Digits.{digit_of};
 
 // The ASCII code of an upper-case hex digit.
@@ -12,14 +12,21 @@ fn digit(d: u8) -> u8
     if d < 10 { b'0' + d } else { b'A' - 10 + d }
 }
 
+// The high digit, then the low one.
+pub fn digits(b: u8) -> [u8; 2]
+    ensures { result ≡ digit_of (b / 16) ∷ digit_of (b % 16) ∷ [] }
+{
+    [digit(b / 16), digit(b % 16)]
+}
+
 pub fn high(b: u8) -> u8
     ensures { result ≡ digit_of (b / 16) }
 {
-    digit(b / 16)
+    digits(b)[0]
 }
 
 pub fn low(b: u8) -> u8
     ensures { result ≡ digit_of (b % 16) }
 {
-    digit(b % 16)
+    digits(b)[1]
 }

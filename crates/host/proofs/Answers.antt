@@ -3,6 +3,7 @@ use mathlib.Core.Path.{◌≡◌, refl, ap, ◌∙◌}
 use mathlib.Core.List.{List, [], ◌∷◌, flatten, append-nil}
 use Prim.Native.Nat.{ℕ}
 use lib.ListN.{length, length-replicate}
+use Rattle.std.specs.Prelude.{Option}
 use Rattle.lists.specs.Lists.{laid_over}
 use Rattle.packet.specs.declared.Damage.{Damage}
 use Rattle.host.specs.declared.Host.{Host}
@@ -42,6 +43,6 @@ module _ {m : Move} {r : Step} where
   gives s p o out out' h n eh en eo e f = rw (e, f, eh, en, eo) (rw append-nil, rw append-nil)
 
 -- what is wrong with the burst stands beside
-pub tells : (m : Move) {r r' : Step} (d : Damage) (out : List ℕ) {out' : List ℕ} → Answers m out r out' → r' ≡ telling_step d r → Answers (telling d m) out r' out'
+pub tells : (m : Move) {r r' : Step} (d : Option Damage) (out : List ℕ) {out' : List ℕ} → Answers m out r out' → r' ≡ telling_step d r → Answers (telling d m) out r' out'
 unfolding step_of flatten
 tells m d out (e, f) g = (g ∙ ap (telling_step d) e, f)

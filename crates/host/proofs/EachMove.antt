@@ -4,6 +4,7 @@ use mathlib.Core.Bool.{Bool, true, false, cond, ◌&&◌}
 use mathlib.Core.Path.{◌≡◌, refl}
 use mathlib.Core.List.{List, [], ◌∷◌}
 use lib.Dec.{ltb}
+use Rattle.std.specs.Prelude.{Option}
 use Rattle.packet.specs.Answered.{is_heard}
 use Rattle.packet.specs.Reading.{reading_of}
 use Rattle.packet.specs.declared.Damage.{Damage}
@@ -35,7 +36,7 @@ pub record EachMove (s : State) (P : Move → Type 0) : Type 0 where
   pub sends : P (move (sent_to s s.request s.given) (request_packet s.edition s.request ∷ []) Outcome.Waiting [])
   pub ends : (e : End) (vs : List ℕ) → MayEnd s e → P (over s [] e vs)
   pub rested : P (quiet (idle s.edition) Outcome.Idle)
-  pub tells : (d : Damage) (m : Move) → P m → P (telling d m)
+  pub tells : (d : Option Damage) (m : Move) → P m → P (telling d m)
 
 module _ (s : State) (P : Move → Type 0) (each : EachMove s P) where
   either : (t : Bool) {m n : Move} → P m → P n → P (cond t m n)

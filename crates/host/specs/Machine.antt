@@ -1,6 +1,6 @@
 -- The host as a machine over happenings. 000, 2.2; 01, "Host side"; 02, A5: a power off that gets NAV; A11: its line has one edition;
 -- A12: it rests.
-use Rattle.std.specs.Prelude.{ℕ, Bool, true, false, cond, ◌&&◌, List, [], ◌∷◌, length, drop, replicate, ltb}
+use Rattle.std.specs.Prelude.{ℕ, Bool, true, false, cond, ◌&&◌, List, [], ◌∷◌, length, drop, replicate, ltb, None, Option}
 use Rattle.tiling.specs.declared.Kind.{Kind}
 use Rattle.settings.specs.declared.Profile.{Profile}
 use Rattle.settings.specs.Settings.{most_values}
@@ -38,7 +38,7 @@ pub record Move : Type 0 where
   pub sent : List (List ℕ)
   pub outcome : Outcome
   pub values : List ℕ
-  pub damage : Damage
+  pub damage : Option Damage
 
 -- a request waits, for which these packets were given out
 abbrev pub waiting_for : Edition → Request → List (List ℕ) → State
@@ -81,7 +81,7 @@ is_over (Outcome.Refused r) = false
 
 -- of no burst is anything told
 abbrev pub move : State → List (List ℕ) → Outcome → List ℕ → Move
-move s packets o vs = record { next = s; sent = packets; outcome = o; values = vs; damage = Damage.Nothing }
+move s packets o vs = record { next = s; sent = packets; outcome = o; values = vs; damage = None }
 
 -- nothing is given out and nothing changes
 abbrev pub quiet : State → Outcome → Move
@@ -125,7 +125,7 @@ unfoldable pub heard : State → Reading → Move
 heard s reading = ending s reading.part (said_to s.request reading)
 
 -- a burst's move tells what is wrong with the burst, whatever comes of it; 02, A3
-abbrev pub telling : Damage → Move → Move
+abbrev pub telling : Option Damage → Move → Move
 telling d m = record { next = m.next; sent = m.sent; outcome = m.outcome; values = m.values; damage = d }
 
 -- one happening

@@ -70,7 +70,7 @@ pub struct Step {
     pub outcome: Outcome,
     pub values: [u8; MOST_VALUES],
     pub count: usize,
-    pub damage: Damage,
+    pub damage: Option<Damage>,
 }
 
 // The paper's number for a refusal.
@@ -96,7 +96,7 @@ fn plain(host: Host, length: usize, outcome: Outcome) -> Step
         outcome,
         values,
         count: 0,
-        damage: Damage::Nothing,
+        damage: None,
     }
 }
 
@@ -117,7 +117,7 @@ fn over(host: Host, sent: usize, end: End, v: &[u8]) -> Step
         outcome: Outcome::Over(end, host.sendings),
         values,
         count,
-        damage: Damage::Nothing,
+        damage: None,
     }
 }
 
@@ -132,7 +132,7 @@ fn unasked(resting: bool) -> Outcome
 }
 
 // An answer to a burst with this damage.
-fn telling(damage: Damage, step: Step) -> Step
+fn telling(damage: Option<Damage>, step: Step) -> Step
     ensures { result ≡ telling_step damage step }
 {
     let host = step.host;

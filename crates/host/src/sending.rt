@@ -7,7 +7,7 @@ ghost use Rattle.host.specs.Machine.{begun, again};
 ghost use Rattle.host.specs.Calls.{state_of, Answers};
 
 use crate::{End, Host, MOST_SENDINGS, Outcome, Step};
-use packet::{Edition, Written};
+use packet::Edition;
 use requests::Request;
 
 // Puts the request's packet, for which there is room, at the front of out and answers its length.
@@ -16,12 +16,7 @@ fn send(edition: Edition, request: Request, out: &mut [u8]) -> usize
     ensures value { result ≡ length (request_packet edition request) }
     ensures out_after { out.new ≡ laid_over (request_packet edition request) out.old }
 {
-    let written = requests::write_request(edition, request, out);
-    match written {
-        Written::Bytes(n) => n,
-        Written::TooLong => 0,
-        Written::NoRoom => 0,
-    }
+    requests::write_request(edition, request, out).unwrap_or(0)
 }
 
 // The packet is given out for the first time; where no answer is due, that is all.

@@ -4,7 +4,7 @@
 use host::{End, Host, Outcome, Step};
 use models::Model;
 use packet::{Damage, Edition, LONGEST};
-use request_steps::Told;
+use requests::Request;
 use settings::Profile;
 use std::io;
 use text::{LONGEST_STEP, Read};
@@ -43,13 +43,13 @@ fn print_outcome(rt: &impl Print, outcome: Outcome, values: &[u8]) -> io::Result
 }
 
 // Prints a space and what was wrong with a burst, where something was.
-fn print_damage(rt: &impl Print, damage: Damage) -> io::Result<()> {
+fn print_damage(rt: &impl Print, damage: Option<Damage>) -> io::Result<()> {
     match damage {
-        Damage::Nothing => Ok(()),
-        Damage::TooShort => print!(rt; " too-short"),
-        Damage::TooLong => print!(rt; " too-long"),
-        Damage::Size => print!(rt; " size"),
-        Damage::Checksum => print!(rt; " checksum"),
+        None => Ok(()),
+        Some(Damage::TooShort) => print!(rt; " too-short"),
+        Some(Damage::TooLong) => print!(rt; " too-long"),
+        Some(Damage::Size) => print!(rt; " size"),
+        Some(Damage::Checksum) => print!(rt; " checksum"),
     }
 }
 
@@ -77,12 +77,11 @@ fn unknown(rt: &impl Print, host: Host) -> io::Result<Host> {
 }
 
 // The request that a step tells is started.
-fn play_start(rt: &impl Print, host: Host, told: Told) -> io::Result<Host> {
-    if !told.known {
+fn play_start(rt: &impl Print, host: Host, told: Option<Request>) -> io::Result<Host> {
+    let Some(request) = told else {
         return unknown(rt, host);
-    }
+    };
     let mut out = [0u8; LONGEST];
-    let request = told.request;
     let step = host.start(request, &mut out);
     show(rt, step, &out)
 }

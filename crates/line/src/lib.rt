@@ -30,7 +30,7 @@ pub struct Heard {
     pub receiver: Receiver,
     pub table: Table,
     pub reply: Reply,
-    pub damage: Damage,
+    pub damage: Option<Damage>,
 }
 
 impl Receiver {

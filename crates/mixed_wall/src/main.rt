@@ -10,7 +10,7 @@ ghost use Rattle.packet.specs.declared.Edition.{Edition};
 ghost use Rattle.answers.specs.Played.{played};
 
 use models::Model;
-use packet::{Edition, GroupId, LONGEST, MonitorId, Written};
+use packet::{Edition, GroupId, LONGEST, MonitorId};
 use panels::{Panel, Place, Seen, Table};
 use profiles::Video;
 use requests::Request;
@@ -43,7 +43,7 @@ fn send_request(rt: &impl Print, t: Table, request: Request) -> io::Result<Table
 {
     let mut out = [0u8; LONGEST];
     let written = requests::write_request(Edition::Sicp201, request, &mut out);
-    let Written::Bytes(n) = written else {
+    let Ok(n) = written else {
         return Ok(t);
     };
     send(rt, t, text::front(&out, n))

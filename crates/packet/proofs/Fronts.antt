@@ -1,50 +1,42 @@
 -- A burst's front of three bytes or more, the count of its bytes up to one past the longest packet, and the XOR of all read as the
 -- burst itself, but for the data, of which the front has the first. Assumes nothing.
 use mathlib.Core.Path.{◌≡◌, refl, sym, ap, ◌∙◌}
-use mathlib.Core.Bool.{Bool, true, false, cond}
+use mathlib.Core.Bool.{Bool, true, false}
 use mathlib.Core.List.{List, [], ◌∷◌}
 use Prim.Native.Nat.{ℕ, zero, suc, ◌+◌, ◌-◌, ◌≤◌, ◌<◌, min}
 use native.Mathlib.Omega.{arith}
+use borrow.Author.Tests.{eqb-true}
 use lib.Dec.{eqb}
-use lib.ListN.{length, get_or, take, drop, length-take, take-append-drop}
+use lib.ListN.{length, take, drop, length-take, take-append-drop}
 use lib.Seq.{take_all, take-nil, get_or-take}
 use Rattle.lists.proofs.Sizes.{by_size}
 use Rattle.xor.specs.Xor.{xor_all}
 use Rattle.packet.specs.Edition.{head_size}
-use Rattle.packet.specs.Packet.{longest, is_intact, damage_of, verdict_of, data_of}
+use Rattle.packet.specs.Packet.{longest, is_intact, verdict_by, verdict_of, data_of}
 use Rattle.packet.specs.Reading.{seems_for, reading_of}
-use Rattle.packet.specs.Front.{damage_by, verdict_by, data_by, reading_by}
+use Rattle.packet.specs.Front.{data_by, reading_by}
 use Rattle.packet.specs.declared.Edition.{Edition}
 use Rattle.packet.specs.declared.Verdict.{Verdict}
-use Rattle.packet.proofs.Packets.{intact-verdict}
-use Rattle.packet.proofs.Readings.{same_reading, intact_data, no_data, seems_alike}
+use Rattle.packet.proofs.Packets.{sound}
+use Rattle.packet.proofs.Readings.{same_reading, seems_alike}
 use Rattle.packet.proofs.ByFront.{long_verdict}
-
-broken_data : (edition : Edition) (b : List ℕ) → is_intact edition b ≡ false → data_by edition b (verdict_of edition b) ≡ []
-unfolding verdict_of
-broken_data edition b e = rw e (go (eqb (length b) 0))
-  where
-    go : (z : Bool) → data_by edition b (cond z Verdict.Empty (Verdict.Damaged (damage_of edition b))) ≡ []
-    go true = refl
-    go false = refl
 
 -- A whole burst is its own front.
 module _ (edition : Edition) (b : List ℕ) where
-  pub whole_damage : damage_by edition (get_or b 0 0) (length b) (xor_all b) ≡ damage_of edition b
-  unfolding damage_of
-  whole_damage = refl
-
   pub whole_verdict : verdict_by edition b (length b) (xor_all b) ≡ verdict_of edition b
-  unfolding verdict_of is_intact damage_of
+  unfolding verdict_of
   whole_verdict = refl
 
   -- the data by the burst's own verdict
   pub own_data : {v : Verdict} → v ≡ verdict_of edition b → data_by edition b v ≡ data_of edition b
-  own_data e = ap (data_by edition b) e ∙ go (is_intact edition b) refl
+  unfolding verdict_of data_of is_intact
+  own_data e = ap (data_by edition b) e ∙ go (eqb (length b) 0) refl (is_intact edition b) refl
     where
-      go : (t : Bool) → is_intact edition b ≡ t → data_by edition b (verdict_of edition b) ≡ data_of edition b
-      go true is = ap (data_by edition b) (intact-verdict edition b is) ∙ sym (intact_data edition b is)
-      go false is = broken_data edition b is ∙ sym (no_data edition b is)
+      go : (none : Bool) → eqb (length b) 0 ≡ none → (t : Bool) → is_intact edition b ≡ t → data_by edition b (verdict_of edition b) ≡ data_of edition b
+      go true z true is = absurd (omega (arith, (sound edition b is).least, eqb-true _ _ z))
+      go true z false is = rw (z, is)
+      go false z true is = rw (z, is)
+      go false z false is = rw (z, is)
 
   pub whole_reading : reading_by edition b (length b) (xor_all b) ≡ reading_of edition b
   whole_reading = same_reading whole_verdict (own_data whole_verdict) refl

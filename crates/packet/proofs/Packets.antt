@@ -1,64 +1,54 @@
 -- What an intact burst has, and that a packet written out is intact and reads back. Assumes nothing.
 use mathlib.Core.Path.{◌≡◌, refl, sym, ap₂, ◌∙◌}
-use mathlib.Core.Bool.{Bool, true, false, false≢true, cond, ◌&&◌}
+use mathlib.Core.Bool.{Bool, true, false, cond}
 use mathlib.Core.List.{List, [], ◌∷◌, ◌++◌}
 use Prim.Native.Nat.{ℕ, ◌+◌, ◌-◌, ◌≤◌}
 use native.Mathlib.Omega.{arith}
-use borrow.Author.Tests.{leb-true, le-leb, eqb-true, eq-eqb, ne_eqb}
+use borrow.Author.Tests.{le-leb, ne_eqb}
 use lib.Dec.{eqb}
 use lib.ListN.{length, get_or, drop, length-append}
 use lib.Seq.{take-append_seam}
-use Rattle.packet.specs.declared.Written.{Written}
+use Rattle.std.specs.Prelude.{Ok}
 use Rattle.lists.specs.Lists.{laid_over}
 use Rattle.xor.specs.Xor.{xor_all}
 use Rattle.packet.specs.Edition.{group_bytes, group_on, head_size}
-use Rattle.packet.specs.Packet.{monitor_id, group_id, is_intact, damage_of, verdict_of, data_of, packet_of, most_data, longest, shortest, written_of, output_of}
+use Rattle.packet.specs.Packet.{monitor_id, group_id, is_intact, fault_by, verdict_of, data_of, packet_of, most_data, longest, shortest, written_of, output_of}
 use Rattle.packet.specs.declared.Edition.{Edition}
 use Rattle.packet.specs.declared.MonitorId.{MonitorId}
 use Rattle.packet.specs.declared.GroupId.{GroupId}
 use Rattle.packet.specs.declared.Verdict.{Verdict}
 use Rattle.packet.proofs.EachEdition.{head_few}
+use Rattle.packet.proofs.ByFront.{Whole, whole_by, intact_by_lem}
 use Rattle.xor.proofs.Laws.{summed-zero}
 
-pub record Sound (edition : Edition) (burst : List ℕ) : Type 0 where
-  pub least : shortest edition ≤ length burst
-  pub most : length burst ≤ longest
-  pub size : get_or burst 0 0 ≡ length burst
-  pub sum : xor_all burst ≡ 0
-
-pub four : (a b c d : Bool) → (a && b && c && d) ≡ true → (a ≡ true) × (b ≡ true) × (c ≡ true) × (d ≡ true)
-four true true true true e = (refl, refl, refl, refl)
-four true true true false e = absurd (false≢true e)
-four true true false d e = absurd (false≢true e)
-four true false c d e = absurd (false≢true e)
-four false b c d e = absurd (false≢true e)
+-- what an intact burst has
+abbrev pub Sound : Edition → List ℕ → Type 0
+Sound edition burst = Whole edition (get_or burst 0 0) (length burst) (xor_all burst)
 
 module _ (edition : Edition) (burst : List ℕ) where
   pub sound : is_intact edition burst ≡ true → Sound edition burst
   unfolding is_intact
-  sound e =
-      let t = four _ _ _ _ e in
-      record { least = leb-true _ _ t.0; most = leb-true _ _ t.1; size = eqb-true _ _ t.2; sum = eqb-true _ _ t.3 }
+  sound e = whole_by edition (get_or burst 0 0) (length burst) (xor_all burst) e
 
   pub intact : Sound edition burst → is_intact edition burst ≡ true
   unfolding is_intact
-  intact s = rw (le-leb _ _ s.least, le-leb _ _ s.most, eq-eqb _ _ s.size, eq-eqb _ _ s.sum)
+  intact s = intact_by_lem edition (get_or burst 0 0) (length burst) (xor_all burst) s
 
   pub intact-verdict : is_intact edition burst ≡ true
       → verdict_of edition burst ≡ Verdict.Intact (monitor_id (get_or burst 1 0)) (group_id (group_on edition (get_or burst 2 0))) (length burst - shortest edition)
-  unfolding verdict_of
+  unfolding verdict_of is_intact
   intact-verdict e = let s = sound e in rw (ne_eqb (length burst) 0 (λ z. omega arith), e)
 
   -- no other burst has such a verdict
   pub verdict-intact : (i : MonitorId) (g : GroupId) (n : ℕ) → verdict_of edition burst ≡ Verdict.Intact i g n → is_intact edition burst ≡ true
-  unfolding verdict_of
+  unfolding verdict_of is_intact
   verdict-intact i g n e = go (eqb (length burst) 0) (is_intact edition burst) refl e
     where
       packet : Verdict
       packet = Verdict.Intact (monitor_id (get_or burst 1 0)) (group_id (group_on edition (get_or burst 2 0))) (length burst - shortest edition)
 
       go : (z t : Bool) → is_intact edition burst ≡ t
-          → cond z Verdict.Empty (cond t packet (Verdict.Damaged (damage_of edition burst))) ≡ Verdict.Intact i g n → is_intact edition burst ≡ true
+          → cond z Verdict.Empty (cond t packet (Verdict.Damaged (fault_by edition (get_or burst 0 0) (length burst)))) ≡ Verdict.Intact i g n → is_intact edition burst ≡ true
       go z true is e = is
       go true false is e = let never : ◌≡◌ {A = ℕ} 0 1 = cc in absurd (omega arith)
       go false false is e = let never : ◌≡◌ {A = ℕ} 0 1 = cc in absurd (omega arith)
@@ -110,7 +100,7 @@ module _ (edition : Edition) (id : MonitorId) (group : GroupId) (d : List ℕ) (
 
 -- An output with room for any packet gets it, where its data fits.
 module _ (edition : Edition) (out : List ℕ) (id : MonitorId) (group : GroupId) (d : List ℕ) (room : longest ≤ length out) (short : length d ≤ most_data edition) where
-  pub packet_written_lem : written_of edition out d ≡ Written.Bytes (length d + shortest edition)
+  pub packet_written_lem : written_of edition out d ≡ Ok (length d + shortest edition)
   unfolding written_of
   packet_written_lem = simp (le-leb _ _ room, le-leb _ _ short)
 

@@ -6,17 +6,18 @@ use Prim.Native.Nat.{ℕ, ◌-◌, ◌≤◌, ◌<◌}
 use native.Mathlib.Omega.{arith}
 use borrow.Author.Tests.{le-leb, lt-leb}
 use lib.ListN.{length, take, drop, length-append}
+use Rattle.std.specs.Prelude.{Option}
 use Rattle.packet.specs.Edition.{head_size}
 use Rattle.packet.specs.Packet.{shortest, longest, is_intact, data_of}
 use Rattle.packet.specs.Reading.{Reading, seems_for, reading_of}
 use Rattle.packet.specs.declared.Edition.{Edition}
-use Rattle.packet.specs.declared.Addressee.{Addressee}
+use Rattle.packet.specs.declared.MonitorId.{MonitorId}
 use Rattle.packet.specs.declared.Damage.{Damage}
 use Rattle.packet.specs.declared.Verdict.{Verdict}
 use Rattle.packet.proofs.EachEdition.{head_few}
 use Rattle.packet.proofs.Damages.{too_long, damaged_verdict}
 
-pub same_reading : {v u : Verdict} {d e : List ℕ} {a b : Addressee} → v ≡ u → d ≡ e → a ≡ b
+pub same_reading : {v u : Verdict} {d e : List ℕ} {a b : Option MonitorId} → v ≡ u → d ≡ e → a ≡ b
     → ◌≡◌ {A = Reading} (record { verdict = v; part = d; seems = a }) (record { verdict = u; part = e; seems = b })
 same_reading p q s = λ t. record { verdict = p t; part = q t; seems = s t }
 

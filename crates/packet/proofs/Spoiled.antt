@@ -6,16 +6,16 @@ use mathlib.Core.List.{List, [], ◌∷◌}
 use Prim.Native.Nat.{ℕ, zero, suc, ◌≤◌}
 use native.Mathlib.Omega.{arith}
 use lib.ListN.{length, length-append, length-take, length-drop, length-set}
+use Rattle.std.specs.Prelude.{None}
 use Rattle.xor.specs.Xor.{xor_all}
 use Rattle.packet.specs.Packet.{is_intact, damage_of, verdict_of}
 use Rattle.packet.specs.Spoiled.{Spoiling, changed, lost, added, spoiled, Spoils}
 use Rattle.packet.specs.declared.Edition.{Edition}
-use Rattle.packet.specs.declared.Damage.{Damage}
 use Rattle.packet.specs.declared.Verdict.{Verdict}
 use Rattle.xor.proofs.Laws.{⊕_zero_eq, one-changed}
 use Rattle.packet.proofs.EachEdition.{head_few}
 use Rattle.packet.proofs.Packets.{Sound, sound}
-use Rattle.packet.proofs.Damages.{passed, damaged_verdict}
+use Rattle.packet.proofs.Damages.{fault_of, passed, damaged_verdict}
 
 -- on no edition
 not_sound : {edition other : Edition} (s : Spoiling) (b : List ℕ) → Sound edition b → Spoils s b → Sound other (spoiled s b) → ⊥
@@ -46,8 +46,8 @@ module _ (edition : Edition) (s : Spoiling) (b : List ℕ) (e : is_intact editio
       go true f = absurd (not_sound s b (sound edition b e) h (sound other (spoiled s b) f))
       go false f = f
 
-  pub spoiled-told : damage_of edition (spoiled s b) ≡ Damage.Nothing → ⊥
+  pub spoiled-told : damage_of edition (spoiled s b) ≡ None → ⊥
   spoiled-told none = not_sound s b (sound edition b e) h (passed edition _ some none)
 
-  pub spoiled_damaged : verdict_of edition (spoiled s b) ≡ Verdict.Damaged (damage_of edition (spoiled s b))
+  pub spoiled_damaged : verdict_of edition (spoiled s b) ≡ Verdict.Damaged (fault_of edition (spoiled s b))
   spoiled_damaged = damaged_verdict edition _ some (spoiled_broken edition)

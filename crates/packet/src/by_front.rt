@@ -1,6 +1,10 @@
-// What a burst says by its front, the count of its bytes and the XOR of all: the verdict on it, and its data.
-ghost use Rattle.std.specs.Prelude.{◌≡◌, get_or};
-ghost use Rattle.packet.specs.Front.{damage_by, verdict_by, data_by};
+// What a burst says by its front, the count of its bytes and the XOR of all: what is wrong with it, the verdict on it, and its data. A
+// whole burst is its own front.
+ghost use Rattle.std.specs.Prelude.{◌≡◌, ℕ, ◌<◌, ◌≤◌, get_or, IsNone};
+ghost use Rattle.packet.specs.Edition.{group_on};
+ghost use Rattle.packet.specs.Packet.{shortest, damage_by, verdict_by, verdict_of, data_of};
+ghost use Rattle.packet.specs.Front.{data_by};
+ghost use Rattle.packet.specs.Reading.{seems_for};
 
 use crate::{Damage, Edition, GroupId, LONGEST, MonitorId, Verdict, editions};
 
@@ -8,29 +12,54 @@ use crate::{Damage, Edition, GroupId, LONGEST, MonitorId, Verdict, editions};
 fn byte_at(bytes: &[u8], k: usize) -> u8
     ensures { result ≡ get_or bytes.now k 0 }
 {
-    if k < bytes.len() { bytes[k] } else { 0 }
+    bytes.get(k).copied().unwrap_or(0)
 }
 
-// What is wrong with a burst that has this first byte, so many bytes and this XOR: the first damage that holds.
-fn damage_by(edition: Edition, first: u8, count: usize, sum: u8) -> Damage
-    ensures { result ≡ damage_by edition first count sum }
+// The group that a burst with this front has, 0 where there is none.
+fn group_in(edition: Edition, front: &[u8]) -> u8
+    ensures { result ≡ group_on edition (get_or front.now 2 0) }
 {
-    if count == 0 {
-        return Damage::Nothing;
-    }
+    editions::group_on(edition, byte_at(front, 2))
+}
+
+// What is wrong with a burst that is not empty, by its first byte and the count of its bytes: the first damage that holds. The XOR of
+// all is asked for only where nothing else is wrong.
+fn damage_by<S: FnOnce() -> u8>(edition: Edition, first: u8, count: usize, sum: S) -> Option<Damage>
+    requires { S.IsAlwaysCallable sum × (0 < count) }
+    ensures damage { (total : ℕ) → ((x : ℕ) → S.post sum x → x ≡ total) → result ≡ damage_by edition first count total }
+    ensures least { IsNone result → shortest edition ≤ count }
+{
     if count <= editions::head_size(edition) {
-        return Damage::TooShort;
+        return Some(Damage::TooShort);
     }
     if LONGEST < count {
-        return Damage::TooLong;
+        return Some(Damage::TooLong);
     }
     if first as usize != count {
-        return Damage::Size;
+        return Some(Damage::Size);
     }
-    if sum != 0 {
-        return Damage::Checksum;
+    if sum() != 0 {
+        return Some(Damage::Checksum);
     }
-    Damage::Nothing
+    None
+}
+
+// The verdict on a burst by its front, the count of its bytes and, where it matters, the XOR of all.
+fn verdict_with<S: FnOnce() -> u8>(edition: Edition, front: &[u8], count: usize, sum: S) -> Verdict
+    requires { S.IsAlwaysCallable sum }
+    ensures { (total : ℕ) → ((x : ℕ) → S.post sum x → x ≡ total) → result ≡ verdict_by edition front.now count total }
+{
+    if count == 0 {
+        return Verdict::Empty;
+    }
+    if let Some(damage) = damage_by(edition, byte_at(front, 0), count, sum) {
+        return Verdict::Damaged(damage);
+    }
+    Verdict::Intact {
+        id: MonitorId(byte_at(front, 1)),
+        group: GroupId(group_in(edition, front)),
+        count: count - editions::head_size(edition) - 1,
+    }
 }
 
 // The verdict on a burst by its front, which has at least its first three bytes where there are so many, the count of its bytes
@@ -38,39 +67,41 @@ fn damage_by(edition: Edition, first: u8, count: usize, sum: u8) -> Damage
 pub fn verdict_by(edition: Edition, front: &[u8], count: usize, sum: u8) -> Verdict
     ensures { result ≡ verdict_by edition front.now count sum }
 {
-    if count == 0 {
-        return Verdict::Empty;
-    }
-    let damage = damage_by(edition, byte_at(front, 0), count, sum);
-    let Damage::Nothing = damage else {
-        return Verdict::Damaged(damage);
-    };
-    Verdict::Intact {
-        id: MonitorId(byte_at(front, 1)),
-        group: GroupId(editions::group_on(edition, byte_at(front, 2))),
-        count: count - editions::head_size(edition) - 1,
-    }
+    verdict_with(edition, front, count, || sum)
+}
+
+// The verdict on a whole burst.
+pub fn verdict_of(edition: Edition, burst: &[u8]) -> Verdict
+    ensures { result ≡ verdict_of edition burst.now }
+{
+    verdict_with(edition, burst, burst.len(), || xor::xor_all(burst))
 }
 
 // The data bytes of a burst with any verdict, as far as its first bytes have them.
 pub fn data_by(edition: Edition, front: &[u8], verdict: Verdict) -> &[u8]
     ensures { result.now ≡ data_by edition front.now verdict }
 {
-    let Verdict::Intact {
-        id: _,
-        group: _,
-        count,
-    } = verdict
-    else {
-        return &front[..0];
+    let Verdict::Intact { count, .. } = verdict else {
+        return &[];
     };
-    let head = editions::head_size(edition);
-    let n = front.len();
-    if n <= head {
-        return &front[..0];
-    }
-    if n - head <= count {
-        return &front[head..];
-    }
-    &front[head..head + count]
+    let behind = front.get(editions::head_size(edition)..).unwrap_or(&[]);
+    &behind[..behind.len().min(count)]
+}
+
+// The data bytes of a burst whose verdict this is, from behind the head to the one before the checksum; none unless it is
+// intact.
+pub fn data_of(edition: Edition, burst: &[u8], verdict: Verdict) -> &[u8]
+    requires { verdict ≡ verdict_of edition burst.now }
+    ensures { result.now ≡ data_of edition burst.now }
+{
+    data_by(edition, burst, verdict)
+}
+
+// Whom a burst seems to be for, if it is damaged.
+#[tactic(auto, unfolding(crate::specs::Reading::seems_for))]
+pub fn seems_for(edition: Edition, burst: &[u8]) -> Option<MonitorId>
+    ensures { result ≡ seems_for edition burst.now }
+{
+    let named = editions::head_size(edition) <= burst.len() && group_in(edition, burst) == 0;
+    named.then_some(MonitorId(byte_at(burst, 1)))
 }

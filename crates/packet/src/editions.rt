@@ -1,5 +1,5 @@
 // The editions by number, and all in which they differ.
-ghost use Rattle.std.specs.Prelude.{◌≡◌, ◌≤◌, None, length, get_or, ok_or};
+ghost use Rattle.std.specs.Prelude.{◌≡◌, None, ok_or};
 ghost use Rattle.packet.specs.Edition.{edition_number, edition_with, open_refusal, group_on, carries, head_size};
 
 use crate::{Edition, GroupId};
@@ -69,17 +69,6 @@ pub fn carries(edition: Edition, group: GroupId) -> bool
     ensures { result ≡ carries edition group }
 {
     group_on(edition, group.0) == group.0
-}
-
-// The group that a burst with a head has there.
-pub(crate) fn group_in(edition: Edition, burst: &[u8]) -> u8
-    requires { head_size edition ≤ length burst.now }
-    ensures { result ≡ group_on edition (get_or burst.now 2 0) }
-{
-    match edition {
-        Edition::Sicp185 => 0,
-        Edition::Sicp201 => burst[2],
-    }
 }
 
 // The bytes before the data.

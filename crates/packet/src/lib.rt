@@ -4,13 +4,12 @@
 mod by_front;
 mod editions;
 
-ghost use Rattle.std.specs.Prelude.{◌≡◌};
+ghost use Rattle.std.specs.Prelude.{◌≡◌, Some};
 ghost use Rattle.packet.specs.Control.{control_byte};
 ghost use Rattle.packet.specs.Answered.{is_heard};
-ghost use Rattle.packet.specs.Packet.{damage_of, damage_number, verdict_of, damage_in, data_of, written_of, output_of};
-ghost use Rattle.packet.specs.Reading.{seems_for};
+ghost use Rattle.packet.specs.Packet.{damage_number, damage_in, written_of, output_of};
 
-pub use by_front::{data_by, verdict_by};
+pub use by_front::{data_by, data_of, seems_for, verdict_by, verdict_of};
 pub use editions::{HEAD_201, SICP_201, UnknownEdition, carries};
 
 // The bytes of the longest packet.
@@ -23,16 +22,15 @@ pub enum Edition {
     Sicp201,
 }
 
-#[derive(Clone, Copy)]
+#[derive(Clone, Copy, Debug, PartialEq, Eq)]
 pub struct MonitorId(pub u8);
 
-#[derive(Clone, Copy)]
+#[derive(Clone, Copy, Debug, PartialEq, Eq)]
 pub struct GroupId(pub u8);
 
 // What is wrong with a burst.
-#[derive(Clone, Copy)]
+#[derive(Clone, Copy, Debug, PartialEq, Eq)]
 pub enum Damage {
-    Nothing,
     TooShort,
     TooLong,
     Size,
@@ -40,7 +38,7 @@ pub enum Damage {
 }
 
 // What the bytes between two quiet marks are. An intact burst has an ID, a group and a count of data bytes.
-#[derive(Clone, Copy)]
+#[derive(Clone, Copy, Debug, PartialEq, Eq)]
 pub enum Verdict {
     Empty,
     Damaged(Damage),
@@ -51,23 +49,15 @@ pub enum Verdict {
     },
 }
 
-// Whom a damaged burst seems to be for.
-#[derive(Clone, Copy)]
-pub enum Addressee {
-    Nobody,
-    One(MonitorId),
-}
-
-// A packet's size, once it is written; or the data fits no packet; or the output has no room for any packet.
-#[derive(Clone, Copy)]
-pub enum Written {
-    Bytes(usize),
+// Why no packet is written: the data fits none, or the output has no room for any.
+#[derive(Clone, Copy, Debug, PartialEq, Eq)]
+pub enum WriteError {
     TooLong,
     NoRoom,
 }
 
 // The control words, which box and host exchange.
-#[derive(Clone, Copy)]
+#[derive(Clone, Copy, Debug, PartialEq, Eq)]
 pub enum Control {
     Ack,
     Nack,
@@ -75,6 +65,7 @@ pub enum Control {
 }
 
 // Whether a packet with this ID and group is answered.
+#[tactic(auto, unfolding(crate::specs::Answered::is_heard))]
 pub fn is_heard(id: MonitorId, group: GroupId) -> bool
     ensures { result ≡ is_heard id group }
 {
@@ -82,116 +73,49 @@ pub fn is_heard(id: MonitorId, group: GroupId) -> bool
 }
 
 // The byte behind 0x00 in a control word's data.
-pub fn control_byte(word: Control) -> u8
-    ensures { result ≡ control_byte word }
-{
-    match word {
-        Control::Ack => 0x06,
-        Control::Nack => 0x15,
-        Control::Nav => 0x18,
+impl From<Control> for u8 {
+    ghost from_gives = { λ word byte. byte ≡ control_byte word };
+
+    fn from(word: Control) -> u8 {
+        match word {
+            Control::Ack => 0x06,
+            Control::Nack => 0x15,
+            Control::Nav => 0x18,
+        }
     }
 }
 
-// The first damage that holds.
-fn damage_of(edition: Edition, burst: &[u8]) -> Damage
-    ensures { result ≡ damage_of edition burst.now }
-{
-    let n = burst.len();
-    if n == 0 {
-        return Damage::Nothing;
+impl From<Damage> for u8 {
+    ghost from_gives = { λ damage number. number ≡ damage_number (Some damage) };
+
+    fn from(damage: Damage) -> u8 {
+        match damage {
+            Damage::TooShort => 1,
+            Damage::TooLong => 2,
+            Damage::Size => 3,
+            Damage::Checksum => 4,
+        }
     }
-    if n <= editions::head_size(edition) {
-        return Damage::TooShort;
-    }
-    if LONGEST < n {
-        return Damage::TooLong;
-    }
-    if burst[0] as usize != n {
-        return Damage::Size;
-    }
-    if xor::xor_all(burst) != 0 {
-        return Damage::Checksum;
-    }
-    Damage::Nothing
 }
 
-// The paper's number for a damage.
-pub fn damage_number(damage: Damage) -> u8
+// The paper's number for what is wrong with a burst, 0 where nothing is.
+pub fn damage_number(damage: Option<Damage>) -> u8
     ensures { result ≡ damage_number damage }
 {
-    match damage {
-        Damage::Nothing => 0,
-        Damage::TooShort => 1,
-        Damage::TooLong => 2,
-        Damage::Size => 3,
-        Damage::Checksum => 4,
-    }
-}
-
-pub fn verdict_of(edition: Edition, burst: &[u8]) -> Verdict
-    ensures { result ≡ verdict_of edition burst.now }
-{
-    let n = burst.len();
-    if n == 0 {
-        return Verdict::Empty;
-    }
-    let damage = damage_of(edition, burst);
-    let Damage::Nothing = damage else {
-        return Verdict::Damaged(damage);
-    };
-    Verdict::Intact {
-        id: MonitorId(burst[1]),
-        group: GroupId(editions::group_in(edition, burst)),
-        count: n - editions::head_size(edition) - 1,
-    }
+    damage.map_or(0, u8::from)
 }
 
 // What is wrong with a burst that has this verdict.
-pub fn damage_in(verdict: Verdict) -> Damage
+pub fn damage_in(verdict: Verdict) -> Option<Damage>
     ensures { result ≡ damage_in verdict }
 {
     match verdict {
-        Verdict::Empty => Damage::Nothing,
-        Verdict::Damaged(damage) => damage,
-        Verdict::Intact {
-            id: _,
-            group: _,
-            count: _,
-        } => Damage::Nothing,
+        Verdict::Damaged(damage) => Some(damage),
+        Verdict::Empty | Verdict::Intact { .. } => None,
     }
 }
 
-// The data bytes of a burst whose verdict this is, from behind the head to the one before the checksum; none unless it is
-// intact.
-pub fn data_of(edition: Edition, burst: &[u8], verdict: Verdict) -> &[u8]
-    requires { verdict ≡ verdict_of edition burst.now }
-    ensures { result.now ≡ data_of edition burst.now }
-{
-    let Verdict::Intact {
-        id: _,
-        group: _,
-        count: _,
-    } = verdict
-    else {
-        return &burst[..0];
-    };
-    &burst[editions::head_size(edition)..burst.len() - 1]
-}
-
-// Whom a burst seems to be for, if it is damaged.
-pub fn seems_for(edition: Edition, burst: &[u8]) -> Addressee
-    ensures { result ≡ seems_for edition burst.now }
-{
-    if burst.len() < editions::head_size(edition) {
-        return Addressee::Nobody;
-    }
-    if editions::group_in(edition, burst) != 0 {
-        return Addressee::Nobody;
-    }
-    Addressee::One(MonitorId(burst[1]))
-}
-
-// A packet at the front of out, of which the rest stays as it was. Where there is no group byte, the data or the checksum stands
+// A packet at the front of out, of which the rest stays as it was, and its size. Where there is no group byte, the data or the checksum stands
 // in its place.
 pub fn write_packet(
     edition: Edition,
@@ -199,17 +123,17 @@ pub fn write_packet(
     id: MonitorId,
     group: GroupId,
     d: &[u8],
-) -> Written
+) -> Result<usize, WriteError>
     ensures value { result ≡ written_of edition out.old d.now }
     ensures out_after { out.new ≡ output_of edition out.old id group d.now }
 {
     if out.len() < LONGEST {
-        return Written::NoRoom;
+        return Err(WriteError::NoRoom);
     }
     let head = editions::head_size(edition);
     let n = d.len();
     if LONGEST - head <= n {
-        return Written::TooLong;
+        return Err(WriteError::TooLong);
     }
     let size = (n + head + 1) as u8;
     let third = editions::group_on(edition, group.0);
@@ -218,5 +142,5 @@ pub fn write_packet(
     out[2] = third;
     lists::copy(d, &mut out[head..]);
     out[n + head] = size ^ id.0 ^ third ^ xor::xor_all(d);
-    Written::Bytes(size as usize)
+    Ok(size as usize)
 }

@@ -1,5 +1,5 @@
 -- A request translated: its packets one behind the other in a lent output, or why there are none. 02, A13.
-use Rattle.std.specs.Prelude.{ℕ, not, cond, length, replicate, ltb, eqb}
+use Rattle.std.specs.Prelude.{ℕ, not, cond, length, replicate, ltb, eqb, Result, Ok, Err}
 use mathlib.Core.List.{List, [], map, flatten}
 use Rattle.lists.specs.Lists.{laid_over}
 use Rattle.refusals.specs.Refusals.{no_room}
@@ -15,9 +15,8 @@ use Rattle.qx.specs.Asked.{asked_of, data_for}
 abbrev pub most_packets : ℕ
 most_packets = 3
 
--- 0 where there was none; 22 is the host's, for what is no request
+-- 22 is the host's, for what is no request
 abbrev pub refusal_number : Refusal → ℕ
-refusal_number Refusal.Nothing = 0
 refusal_number Refusal.NoRoom = no_room
 refusal_number Refusal.NotARequest = 22
 refusal_number Refusal.NotCarried = 34
@@ -25,24 +24,21 @@ refusal_number Refusal.NotCarried = 34
 unfoldable pub packets_for : Request → List (List ℕ)
 packets_for r = map (qx_packet r.id) (data_for (asked_of r))
 
+-- how many there are, and their sizes
+unfoldable pub packets_told : List (List ℕ) → Packets
+packets_told ps = record { count = length ps; sizes = laid_over (map length ps) (replicate most_packets 0) }
+
 -- 34 where there are none
-abbrev pub carried_by : List (List ℕ) → Refusal
-carried_by ps = cond (eqb (length ps) 0) Refusal.NotCarried Refusal.Nothing
+abbrev pub carried_by : List (List ℕ) → Result Packets Refusal
+carried_by ps = cond (eqb (length ps) 0) (Err Refusal.NotCarried) (Ok (packets_told ps))
 
 -- for an output with this room: 19, then 22, then 34
-unfoldable pub refusal_of : ℕ → Request → Refusal
-refusal_of room r = cond (ltb room longest) Refusal.NoRoom (cond (not (is_request Edition.Sicp201 r)) Refusal.NotARequest (carried_by (packets_for r)))
+unfoldable pub translated : ℕ → Request → Result Packets Refusal
+translated room r = cond (ltb room longest) (Err Refusal.NoRoom) (cond (not (is_request Edition.Sicp201 r)) (Err Refusal.NotARequest) (carried_by (packets_for r)))
 
 -- the packets that an output with this room gets
 unfoldable pub packets_in : ℕ → Request → List (List ℕ)
 packets_in room r = cond (ltb room longest) [] (packets_for r)
-
--- how many there are, and their sizes
-unfoldable pub packets_told : Refusal → List (List ℕ) → Packets
-packets_told refusal ps = record { count = length ps; sizes = laid_over (map length ps) (replicate most_packets 0); refusal = refusal }
-
-unfoldable pub translated : ℕ → Request → Packets
-translated room r = packets_told (refusal_of room r) (packets_in room r)
 
 unfoldable pub translated_over : List ℕ → Request → List ℕ
 translated_over out r = laid_over (flatten (packets_in (length out) r)) out

@@ -1,10 +1,8 @@
 // What a request asks of a QX panel, and the command codes that ask it.
-ghost use Rattle.std.specs.Prelude.{◌≡◌, replicate};
-ghost use Rattle.lists.specs.Lists.{laid_over};
-ghost use Rattle.qx.specs.Translation.{most_packets};
+ghost use Rattle.std.specs.Prelude.{◌≡◌, Some};
 ghost use Rattle.qx.specs.Asked.{is_carried, picture_of, asked_by, asked_of, codes_for};
 
-use crate::{Asked, MOST_PACKETS};
+use crate::Asked;
 use packet::Edition;
 use requests::Request;
 use settings::{MOST_VALUES, Profile, Row};
@@ -28,71 +26,58 @@ const GAMMA: u8 = 3;
 fn is_carried(v: [u8; MOST_VALUES]) -> bool
     ensures { result ≡ is_carried v }
 {
-    if v[1] != MIDDLE {
-        return false;
-    }
-    if v[3] != MIDDLE {
-        return false;
-    }
-    if v[4] != MIDDLE {
-        return false;
-    }
-    v[6] == GAMMA
+    [v[1], v[3], v[4], v[6]] == [MIDDLE, MIDDLE, MIDDLE, GAMMA]
 }
 
 // The picture of a general panel's video.
-fn picture_of(profile: Profile, v: [u8; MOST_VALUES]) -> Asked
+fn picture_of(profile: Profile, v: [u8; MOST_VALUES]) -> Option<Asked>
     ensures { result ≡ picture_of profile v }
 {
-    let Profile::General = profile else {
-        return Asked::Nothing;
-    };
-    if is_carried(v) {
-        return Asked::SetPicture(v[0], v[2], v[5]);
+    match profile {
+        Profile::General if is_carried(v) => Some(Asked::SetPicture(v[0], v[2], v[5])),
+        _ => None,
     }
-    Asked::Nothing
 }
 
 // By the request's code, whoever it is for.
-fn asked_by(request: Request) -> Asked
+fn asked_by(request: Request) -> Option<Asked>
     ensures { result ≡ asked_by request }
 {
     let code = request.code;
     let values = request.values;
     if code == Row::POWER.get_code() {
-        return Asked::GetPower;
+        return Some(Asked::GetPower);
     }
     if code == Row::POWER.set_code() {
-        return Asked::SetPower(values[0]);
+        return Some(Asked::SetPower(values[0]));
     }
     if code == Row::VIDEO.set_code() {
         let model = request.model;
         let profile = model.profile;
         return picture_of(profile, values);
     }
-    Asked::Nothing
+    None
 }
 
-pub(crate) fn asked_of(request: Request) -> Asked
+pub(crate) fn asked_of(request: Request) -> Option<Asked>
     ensures { result ≡ asked_of request }
 {
     if !requests::is_request(Edition::Sicp201, request) {
-        return Asked::Nothing;
+        return None;
     }
     if !packet::is_heard(request.id, request.group) {
-        return Asked::Nothing;
+        return None;
     }
     asked_by(request)
 }
 
-// The command codes of the packets that ask it, and zeros behind them.
-pub(crate) fn codes_of(asked: Asked) -> [u8; MOST_PACKETS]
-    ensures { result ≡ laid_over (codes_for asked) (replicate most_packets 0) }
+// The command codes of the packets that ask it.
+pub(crate) fn codes_of(asked: Asked) -> &'static [u8]
+    ensures { result.now ≡ codes_for (Some asked) }
 {
     match asked {
-        Asked::Nothing => [0; MOST_PACKETS],
-        Asked::GetPower => [POWER_GET, 0, 0],
-        Asked::SetPower(_) => [POWER_SET, 0, 0],
-        Asked::SetPicture(_, _, _) => [BRIGHTNESS_SET, CONTRAST_SET, BLACK_LEVEL_SET],
+        Asked::GetPower => &[POWER_GET],
+        Asked::SetPower(_) => &[POWER_SET],
+        Asked::SetPicture(_, _, _) => &[BRIGHTNESS_SET, CONTRAST_SET, BLACK_LEVEL_SET],
     }
 }

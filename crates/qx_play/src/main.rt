@@ -2,8 +2,8 @@
 #![tactic(auto)]
 
 use packet::LONGEST;
-use qx::{Heard, Packets, Reply};
-use request_steps::Told;
+use qx::{Packets, Reply};
+use requests::Request;
 use std::io;
 use text::{LONGEST_STEP, Read};
 
@@ -48,22 +48,22 @@ fn unknown(rt: &impl Print) -> io::Result<()> {
 }
 
 // Translates the request that a step tells; it is then the last.
-fn play_request(rt: &impl Print, last: Told, told: Told) -> io::Result<Told> {
-    if !told.known {
+fn play_request(rt: &impl Print, last: Option<Request>, told: Option<Request>) -> io::Result<Option<Request>> {
+    let Some(request) = told else {
         unknown(rt)?;
         return Ok(last);
-    }
+    };
     let mut out = [0u8; LONGEST];
-    let request = told.request;
-    let packets = qx::translate(request, &mut out);
-    let refusal = packets.refusal;
-    let number = qx::refusal_number(refusal);
-    if number != 0 {
-        println!(rt; "refused {number}")?;
-        return Ok(last);
+    match qx::translate(request, &mut out) {
+        Ok(packets) => {
+            print_packets(rt, packets, &out)?;
+            Ok(told)
+        }
+        Err(refusal) => {
+            println!(rt; "refused {}", u8::from(refusal))?;
+            Ok(last)
+        }
     }
-    print_packets(rt, packets, &out)?;
-    Ok(told)
 }
 
 // Prints what a panel says.
@@ -73,25 +73,23 @@ fn print_reply(rt: &impl Print, reply: Reply) -> io::Result<()> {
         Reply::Nack => println!(rt; "nack"),
         Reply::Nav => println!(rt; "nav"),
         Reply::Report(value) => println!(rt; "report {value:02X}"),
-        Reply::Wrong => println!(rt; "refused {}", qx::reply_number(reply)),
     }
 }
 
 // Tells what the answers to the last request that was translated say.
-fn play_answers(rt: &impl Print, last: Told, answers: &[u8]) -> io::Result<()> {
-    if !last.known {
+fn play_answers(rt: &impl Print, last: Option<Request>, answers: &[u8]) -> io::Result<()> {
+    let Some(request) = last else {
         return unknown(rt);
-    }
-    let request = last.request;
-    let heard = qx::hear(request, answers);
-    match heard {
-        Heard::Said(reply) => print_reply(rt, reply),
-        Heard::Unknown => unknown(rt),
+    };
+    match qx::hear(request, answers) {
+        Some(Ok(reply)) => print_reply(rt, reply),
+        Some(Err(wrong)) => println!(rt; "refused {}", u8::from(wrong)),
+        None => unknown(rt),
     }
 }
 
 // One step: its kind, 1 for a request and 2 for answers, and what stands behind it.
-fn play(rt: &impl Print, last: Told, step: &[u8]) -> io::Result<Told> {
+fn play(rt: &impl Print, last: Option<Request>, step: &[u8]) -> io::Result<Option<Request>> {
     if step.len() == 0 {
         unknown(rt)?;
         return Ok(last);
@@ -112,7 +110,7 @@ fn play(rt: &impl Print, last: Told, step: &[u8]) -> io::Result<Told> {
 // Every step of standard input, in order. The loop counts its turns, since a proved loop has to end and nothing says that the
 // input does.
 fn run(rt: &(impl Print + Input)) -> io::Result<()> {
-    let mut last = request_steps::told_with_model(b"");
+    let mut last = None;
     let mut reader = rt.reader();
     for number in 0..u64::MAX {
         let mut buffer = [0u8; LONGEST_STEP];

@@ -9,7 +9,7 @@ ghost use Rattle.requests.specs.Said.{is_control, is_report, word_in};
 
 use codes::Code;
 use models::Model;
-use packet::{Control, Edition, GroupId, MonitorId, Written};
+use packet::{Control, Edition, GroupId, MonitorId, WriteError};
 use profiles::Video;
 use settings::{MOST_VALUES, OFF, Profile, Row};
 use tiling::Kind;
@@ -130,7 +130,11 @@ fn in_use(count: usize) -> usize
 }
 
 // The request's packet, on a line of an edition, at the front of out, of which the rest stays as it was.
-pub fn write_request(edition: Edition, request: Request, out: &mut [u8]) -> Written
+pub fn write_request(
+    edition: Edition,
+    request: Request,
+    out: &mut [u8],
+) -> Result<usize, WriteError>
     ensures value { result ≡ written_of edition out.old (request_data request) }
     ensures out_after { out.new ≡ output_of edition out.old request.id request.group (request_data request) }
 {
@@ -150,7 +154,7 @@ fn is_control(d: &[u8], word: Control) -> bool
     if d[0] != 0 {
         return false;
     }
-    d[1] == packet::control_byte(word)
+    d[1] == u8::from(word)
 }
 
 // Whether the data is a report of this row: its get code, and behind it values that it allows.

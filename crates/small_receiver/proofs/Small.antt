@@ -11,9 +11,9 @@ use Rattle.xor.specs.Xor.{◌⊕◌, xor_all}
 use Rattle.xor.proofs.Laws.{⊕_zero, xor_all-append}
 use Rattle.packet.specs.declared.Edition.{Edition}
 use Rattle.packet.specs.Edition.{head_size}
-use Rattle.packet.specs.Packet.{longest, verdict_of, data_of}
+use Rattle.packet.specs.Packet.{longest, verdict_of, data_of, verdict_by}
 use Rattle.packet.specs.Reading.{Reading, seems_for, reading_of}
-use Rattle.packet.specs.Front.{verdict_by, data_by, reading_by}
+use Rattle.packet.specs.Front.{data_by, reading_by}
 use Rattle.packet.proofs.Readings.{same_reading}
 use Rattle.packet.proofs.Fronts.{own_data, front_verdict, front_data, front_seems}
 use Rattle.panels.specs.declared.Table.{Table}

@@ -36,7 +36,7 @@ pub struct Heard {
     pub receiver: SmallReceiver,
     pub table: Table,
     pub reply: Reply,
-    pub damage: Damage,
+    pub damage: Option<Damage>,
 }
 
 // One more than was counted, as long as that counts.

@@ -4,8 +4,8 @@ use mathlib.Core.List.{List}
 use mathlib.Core.Path.{◌≡◌}
 use borrow.Author.Tests.{eq-eqb, ne_eqb}
 use lib.ListN.{length}
+use Rattle.std.specs.Prelude.{None}
 use Rattle.lists.specs.Lists.{laid_over}
-use Rattle.packet.specs.declared.Damage.{Damage}
 use Rattle.packet.specs.declared.Edition.{Edition}
 use Rattle.panels.specs.Wall.{Wall}
 use Rattle.image_forms.specs.declared.Form.{Form}
@@ -22,5 +22,5 @@ module _ (edition : Edition) (w : Wall) (list answers out : List ℕ) where
   unfolding laid_over
   list_refused h = rw (refused_silent edition w list (length answers) h, ne_eqb (refusal_number scene.refusal) 0 h)
 
-  pub list_given : refusal_number scene.refusal ≡ 0 → given scene.answers (setup_of Form.Two scene.wall) Damage.Nothing answers out ≡ after_list edition w list answers out
+  pub list_given : refusal_number scene.refusal ≡ 0 → given scene.answers (setup_of Form.Two scene.wall) None answers out ≡ after_list edition w list answers out
   list_given h = rw (eq-eqb (refusal_number scene.refusal) 0 h)

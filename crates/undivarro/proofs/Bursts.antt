@@ -3,8 +3,9 @@ use mathlib.Core.Path.{◌≡◌, ap, ap₂, ◌∙◌}
 use mathlib.Core.List.{List, map}
 use Prim.Native.Nat.{ℕ}
 use lib.ListN.{length}
+use Rattle.std.specs.Prelude.{Option}
+use Rattle.packet.specs.declared.MonitorId.{MonitorId}
 use Rattle.lists.specs.Lists.{laid_over}
-use Rattle.packet.specs.declared.Addressee.{Addressee}
 use Rattle.packet.specs.declared.Edition.{Edition}
 use Rattle.packet.specs.declared.Verdict.{Verdict}
 use Rattle.packet.specs.Packet.{damage_in, damage_number}
@@ -28,7 +29,7 @@ use Rattle.undivarro.specs.declared.Outcome.{Outcome}
 use Rattle.undivarro.specs.Calls.{After, after_burst}
 use Rattle.undivarro.proofs.Calls.{size_played, given-played}
 
-module _ {t : Table} (f : WellFormed t) (edition : Edition) (burst answer out : List ℕ) (v : Verdict) (d : List ℕ) (a : Addressee)
+module _ {t : Table} (f : WellFormed t) (edition : Edition) (burst answer out : List ℕ) (v : Verdict) (d : List ℕ) (a : Option MonitorId)
     (is_read : reading v d a ≡ reading_of edition burst) where
   -- the turn that the definition has
   abbrev found : Turn

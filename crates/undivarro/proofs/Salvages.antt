@@ -8,10 +8,10 @@ use borrow.Author.Tests.{eq-eqb, ne_eqb, leb-true}
 use lib.Dec.{leb}
 use lib.ListN.{length, take}
 use lib.Seq.{take_at}
+use Rattle.std.specs.Prelude.{None}
 use Rattle.lists.specs.Lists.{laid_over}
 use Rattle.lists.proofs.Both.{both}
 use Rattle.lists.proofs.Laid.{length_laid, laid_over_lem}
-use Rattle.packet.specs.declared.Damage.{Damage}
 use Rattle.panels.specs.Wall.{Wall, panels_of}
 use Rattle.panels.specs.WellFormed.{WellFormed}
 use Rattle.panels.proofs.Laws.{panels_of_table}
@@ -64,6 +64,6 @@ module _ (image : List ℕ) (s : Salvaged) (is : s ≡ salvaged_as image) where
     unfolding after_salvage
     salvage-refused h = sym (rw (sym number, ne_eqb n 0 h))
 
-    pub salvage-given : n ≡ 0 → given (text_of (salvage_of image)) (setup_of Form.Two (salvage_of image).wall) Damage.Nothing lines out ≡ after_salvage image lines out
+    pub salvage-given : n ≡ 0 → given (text_of (salvage_of image)) (setup_of Form.Two (salvage_of image).wall) None lines out ≡ after_salvage image lines out
     unfolding after_salvage
     salvage-given z = sym (rw (sym number, eq-eqb n 0 z))

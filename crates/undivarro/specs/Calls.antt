@@ -2,7 +2,7 @@
 -- back writes form 1; A3: play tells what is wrong with the burst; A7; A9: a list is played; A11: play takes the number of the
 -- line's edition.
 use Rattle.std.specs.Option.{option_map_or}
-use Rattle.std.specs.Prelude.{ℕ, Bool, true, cond, ◌&&◌, List, [], leb, eqb, length}
+use Rattle.std.specs.Prelude.{ℕ, Bool, true, cond, ◌&&◌, List, [], leb, eqb, length, None, Option}
 use Rattle.packet.specs.declared.Damage.{Damage}
 use Rattle.packet.specs.declared.Edition.{Edition}
 use Rattle.packet.specs.Edition.{edition_number, edition_with}
@@ -32,7 +32,7 @@ abbrev pub refused : ℕ → List ℕ → List ℕ → After
 refused number answer out = record { outcome = record { refusal = number; answered = 0; written = 0; damage = 0 }; answer = answer; out = out }
 
 -- an answer and an image at the front of the buffers, their lengths, and the damage's number; the bytes past them are untouched
-abbrev pub given : List ℕ → List ℕ → Damage → List ℕ → List ℕ → After
+abbrev pub given : List ℕ → List ℕ → Option Damage → List ℕ → List ℕ → After
 given sent setup damage answer out = record {
   outcome = record { refusal = 0; answered = length sent; written = length setup; damage = damage_number damage };
   answer = laid_over sent answer;
@@ -61,14 +61,14 @@ after_setup form least image then answer out =
 
 -- it is written again, and nothing is answered
 unfoldable pub after_move : Form → List ℕ → List ℕ → After
-after_move form image out = after_setup form 0 image (λ w. given [] (setup_of form w) Damage.Nothing [] out) [] out
+after_move form image out = after_setup form 0 image (λ w. given [] (setup_of form w) None [] out) [] out
 
 -- a list of bursts is played (02, A9), and the wall then written in form 2
 abbrev pub after_list : Edition → Wall → List ℕ → List ℕ → List ℕ → After
 after_list edition w list answers out =
     let s = scene_of edition w list (length answers) in
     let n = list_number s.refusal in
-    cond (eqb n 0) (given s.answers (setup_of Form.Two s.wall) Damage.Nothing answers out) (refused n answers out)
+    cond (eqb n 0) (given s.answers (setup_of Form.Two s.wall) None answers out) (refused n answers out)
 
 -- on a line opened with this number; 23 comes after what is wrong with the setup and the room
 unfoldable pub after_on : ℕ → ℕ → List ℕ → (Edition → Wall → After) → List ℕ → List ℕ → After
@@ -101,4 +101,4 @@ after_salvage image lines out =
     let s = salvage_of image in
     let room = leb lines_cap (length lines) && leb (size_of Form.Two s.wall) (length out) in
     let n = refusal_for (frame_refusal image) true room in
-    cond (eqb n 0) (given (text_of s) (setup_of Form.Two s.wall) Damage.Nothing lines out) (refused n lines out)
+    cond (eqb n 0) (given (text_of s) (setup_of Form.Two s.wall) None lines out) (refused n lines out)

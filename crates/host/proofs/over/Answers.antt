@@ -3,9 +3,9 @@ use Prim.Native.Nat.{ℕ}
 use mathlib.Core.List.{List, ◌++◌, flatten}
 use lib.Dec.{ltb}
 use lib.ListN.{length, drop, replicate, length-replicate}
+use Rattle.std.specs.Prelude.{None}
 use Rattle.settings.specs.Settings.{most_values}
 use Rattle.lists.specs.Lists.{laid_over}
-use Rattle.packet.specs.declared.Damage.{Damage}
 use Rattle.host.specs.declared.Host.{Host}
 use Rattle.host.specs.declared.Step.{Step}
 use Rattle.host.specs.declared.End.{End}
@@ -19,7 +19,7 @@ made : (h opened : Host) (n sent : ℕ) (e : End) (v values : List ℕ) (packets
     → values ≡ v ++ drop (length v) (replicate most_values 0) → sent ≡ length (flatten packets)
     → let next : Host = record { edition = opened.edition; request = opened.request; sendings = opened.sendings; resting = ltb 1 h.sendings } in
     ◌≡◌ {A = Step}
-    (record { host = next; length = sent; outcome = Outcome.Over e h.sendings; values = values; count = n; damage = Damage.Nothing })
+    (record { host = next; length = sent; outcome = Outcome.Over e h.sendings; values = values; count = n; damage = None })
     (step_of (over (state_of h) packets e v))
 unfolding step_of laid_over flatten
 made h opened n sent e v values packets eh en ev es = rw (eh, en, ev, es, length-replicate)

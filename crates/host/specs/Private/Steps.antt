@@ -1,5 +1,5 @@
 -- An answer that carries no values, and an answer to a burst.
-use Rattle.std.specs.Prelude.{ℕ, replicate}
+use Rattle.std.specs.Prelude.{ℕ, replicate, None, Option}
 use Rattle.settings.specs.Settings.{most_values}
 use Rattle.packet.specs.declared.Damage.{Damage}
 use Rattle.host.specs.declared.Host.{Host}
@@ -7,7 +7,7 @@ use Rattle.host.specs.declared.Outcome.{Outcome}
 use Rattle.host.specs.declared.Step.{Step}
 
 abbrev pub plain_step : Host → ℕ → Outcome → Step
-plain_step h n o = record { host = h; length = n; outcome = o; values = replicate most_values 0; count = 0; damage = Damage.Nothing }
+plain_step h n o = record { host = h; length = n; outcome = o; values = replicate most_values 0; count = 0; damage = None }
 
-abbrev pub telling_step : Damage → Step → Step
+abbrev pub telling_step : Option Damage → Step → Step
 telling_step d r = record { host = r.host; length = r.length; outcome = r.outcome; values = r.values; count = r.count; damage = d }

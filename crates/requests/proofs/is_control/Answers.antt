@@ -12,4 +12,4 @@ returns-then-d-ne0 c = sym (control_two _ _ c.if-d-ne2.false ∙ simp (ne_eqb _ 
 pub returns : goal.returns
 returns c =
     let a = c.args in
-    sym (control_two a.word a.d.now c.if-d-ne2.false ∙ rw (eq-eqb _ _ c.if-d-ne0.false, c.control_byte.ensures))
+    sym (control_two a.word a.d.now c.if-d-ne2.false ∙ rw (eq-eqb _ _ c.if-d-ne0.false, c.from.ensures))

@@ -3,7 +3,7 @@ use mathlib.Core.Path.{ap, ◌∙◌}
 use mathlib.Core.List.{List, []}
 use lib.ListN.{length}
 use Prim.Native.Nat.{ℕ}
-use Rattle.packet.specs.declared.Damage.{Damage}
+use Rattle.std.specs.Prelude.{None}
 use Rattle.panels.specs.Wall.{Wall}
 use Rattle.undivarro.specs.declared.Outcome.{Outcome}
 use Rattle.image_forms.specs.declared.Form.{Form}
@@ -13,7 +13,7 @@ use Rattle.undivarro.proofs.Calls.{formed_read, wall_read, refusal_is, enough, s
 use Rattle.undivarro.proofs.moved.Goals as goal
 
 abbrev rewritten : Form → List ℕ → Wall → After
-rewritten form out w = given [] (setup_of form w) Damage.Nothing [] out
+rewritten form out w = given [] (setup_of form w) None [] out
 
 pub loses_nothing-held-requires : goal.loses_nothing-held-requires
 loses_nothing-held-requires c = formed_read _ _ c.read_image-read.ensures

@@ -3,9 +3,9 @@ use mathlib.Core.Path.{ap, ap₂, ◌∙◌}
 use mathlib.Core.List.{List}
 use Prim.Native.Nat.{ℕ}
 use native.Mathlib.Omega.{arith}
+use Rattle.std.specs.Prelude.{None}
 use Rattle.panels.specs.Wall.{Wall}
 use Rattle.image_forms.specs.declared.Form.{Form}
-use Rattle.packet.specs.declared.Damage.{Damage}
 use Rattle.image_write.specs.Written.{setup_of}
 use Rattle.image_write.proofs.Losing.{two_holds}
 use Rattle.undivarro.specs.declared.Outcome.{Outcome}
@@ -46,7 +46,7 @@ returns c =
     let s = c.salvage-salvaged.ensures in
     let told = front_told image _ s.value _ _ s.lines_after in
     let all =
-    ap₂ (λ (t : List ℕ) (w : Wall). given t (setup_of Form.Two w) Damage.Nothing a.lines.now a.out.now) told (wall-kept image _ s.value)
+    ap₂ (λ (t : List ℕ) (w : Wall). given t (setup_of Form.Two w) None a.lines.now a.out.now) told (wall-kept image _ s.value)
     ∙ salvage-given image _ s.value a.lines.now a.out.now _ c.has_room-room.ensures _ c.refusal_for-refusal.ensures c.if-refusal-ne0.false
     in record {
       value = ap₂ {C = Outcome} (λ (n m : ℕ). record { refusal = 0; answered = n; written = m; damage = 0 }) (count-told image _ s.value _ _ s.lines_after) c.put_setup-written.ensures.value

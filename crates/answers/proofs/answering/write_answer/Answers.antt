@@ -53,7 +53,7 @@ returns-in-Silence-clause-out_after c =
 pub returns-in-Word-clause-value : goal.returns-in-Word-clause-value
 returns-in-Word-clause-value c =
     let a = c.args in
-    let byte = c.control_byte in
+    let byte = c.into in
     let e = by_answer a.edition a.reply _ c.in-Word.is ∙ ap (λ (b : ℕ). packet_of a.edition a.reply.id (group_id 0) (0 ∷ b ∷ [])) (sym byte.ensures) in
     let r = answered a.edition a.out.now a.reply (0 ∷ byte.result ∷ []) (omega arith) (omega (arith, head_few a.edition)) e in
     c.send.ensures.value ∙ r.0
@@ -61,7 +61,7 @@ returns-in-Word-clause-value c =
 pub returns-in-Word-clause-out_after : goal.returns-in-Word-clause-out_after
 returns-in-Word-clause-out_after c =
     let a = c.args in
-    let byte = c.control_byte in
+    let byte = c.into in
     let e = by_answer a.edition a.reply _ c.in-Word.is ∙ ap (λ (b : ℕ). packet_of a.edition a.reply.id (group_id 0) (0 ∷ b ∷ [])) (sym byte.ensures) in
     let r = answered a.edition a.out.now a.reply (0 ∷ byte.result ∷ []) (omega arith) (omega (arith, head_few a.edition)) e in
     c.send.ensures.out_after ∙ r.1

@@ -1,4 +1,5 @@
 use mathlib.Core.Path.{◌≡◌, ap, ◌∙◌}
+use Rattle.std.specs.Prelude.{Option}
 use Rattle.packet.specs.declared.Damage.{Damage}
 use Rattle.panels.specs.declared.Table.{Table}
 use Rattle.panels.specs.Wall.{panels_of}
@@ -12,7 +13,7 @@ use borrow.Author.Rules.{rules}
 use Rattle.answers.proofs.playing.answered_on.Goals as goal
 
 -- The entry is the wall's, so the turn leaves what the definition says. Assumes nothing.
-abbrev damaged : Table → Reply → Damage → Played
+abbrev damaged : Table → Reply → Option Damage → Played
 damaged t r d = record { table = t; reply = r; damage = d }
 
 pub returns-then-change : goal.returns-then-change

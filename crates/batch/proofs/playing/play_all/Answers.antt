@@ -8,12 +8,13 @@ use borrow.Rule.Slice.PartMut.{put_mid}
 use borrow.Author.Tests.{eqb-true, eqb-false}
 use lib.Dec.{eqb}
 use lib.ListN.{length, get_or, take, drop, set}
+use Rattle.std.specs.Prelude.{Option}
+use Rattle.packet.specs.declared.MonitorId.{MonitorId}
 use Rattle.lists.specs.Lists.{laid_at, laid_over}
 use Rattle.lists.proofs.Laid.{length_laid}
 use Rattle.bursts.specs.Bursts.{Bursts, bursts_in}
 use Rattle.bursts.proofs.Bursts.{first_of}
 use Rattle.bursts.proofs.Walks.{bursts_end, burst_at, whole_there}
-use Rattle.packet.specs.declared.Addressee.{Addressee}
 use Rattle.packet.specs.declared.Edition.{Edition}
 use Rattle.packet.specs.declared.Verdict.{Verdict}
 use Rattle.packet.specs.Packet.{longest, damage_in}
@@ -58,7 +59,7 @@ module _ (list : List ℕ) (at d n : ℕ) (is : n ≡ get_or list at d) (inside 
   room_here written size h = let e = ap (λ (b : Bursts). length b.whole) here in omega arith
 
 -- what was heard of a burst is the definition's
-module _ {t : Table} (f : WellFormed t) (edition : Edition) (v : Verdict) (d : List ℕ) (a : Addressee) {e : Entry} (is : e ≡ entry_of (panels_of t) (names_in v a)) {h : Heard} (gave : h ≡ heard_as edition (turn_by e v d a)) where
+module _ {t : Table} (f : WellFormed t) (edition : Edition) (v : Verdict) (d : List ℕ) (a : Option MonitorId) {e : Entry} (is : e ≡ entry_of (panels_of t) (names_in v a)) {h : Heard} (gave : h ≡ heard_as edition (turn_by e v d a)) where
   abbrev found : Turn
   found = turn_by (entry_of (panels_of t) (names_in v a)) v d a
 

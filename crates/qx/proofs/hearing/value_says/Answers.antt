@@ -1,46 +1,52 @@
-use mathlib.Core.Path.{◌≡◌, sym, ◌∙◌}
-use mathlib.Core.Bool.{cond, ◌||◌}
-use borrow.Author.Tests.{eq-eqb, ne_eqb}
+use Prim.Native.Nat.{ℕ, ◌≤◌, ◌<◌}
+use mathlib.Core.Bool.{Bool, true, false, cond, ◌||◌}
+use mathlib.Core.Path.{◌≡◌, refl}
+use native.Mathlib.Omega.{arith}
+use borrow.Author.Tests.{eq-eqb, ne_eqb, eqb-false}
 use lib.Dec.{eqb}
-use Rattle.qx.specs.declared.Reply.{Reply}
 use Rattle.qx.specs.Asked.{power_get}
-use Rattle.qx.specs.Replies.{value_says}
+use Rattle.qx.specs.Replies.{value_says, wrong}
 use Rattle.qx.proofs.hearing.value_says.Goals as goal
 
-pub returns-then-value-eq3 : goal.returns-then-value-eq3
-unfolding value_says
-returns-then-value-eq3 c = simp (eq-eqb _ _ c.if-value-eq3.true)
+-- By the value and the command code. Assumes nothing.
+one_or_two : (v : ℕ) → 1 ≤ v → v < 3 → (eqb v 1 || eqb v 2) ≡ true
+one_or_two v h k = go (eqb v 1) refl
+  where
+    go : (t : Bool) → eqb v 1 ≡ t → (eqb v 1 || eqb v 2) ≡ true
+    go true e = rw e
+    go false e = let ne = eqb-false v 1 e in rw (e, eq-eqb v 2 (omega arith))
 
-pub returns-then-value-eq4 : goal.returns-then-value-eq4
+other_value : (code v : ℕ) → 5 ≤ v → wrong ≡ value_says code v
 unfolding value_says
-returns-then-value-eq4 c = simp (ne_eqb _ _ c.if-value-eq3.false, eq-eqb _ _ c.if-value-eq4.true)
+other_value code v h = rw (ne_eqb v 3 (λ e. omega arith), ne_eqb v 4 (λ e. omega arith), ne_eqb v 1 (λ e. omega arith), ne_eqb v 2 (λ e. omega arith), ne_eqb v 0 (λ e. omega arith)) (go (eqb code power_get))
+  where
+    go : (t : Bool) → wrong ≡ cond t wrong wrong
+    go true = refl
+    go false = refl
 
-pub returns-then-value-eq0 : goal.returns-then-value-eq0
+pub returns-in-3 : goal.returns-in-3
 unfolding value_says
-returns-then-value-eq0 c =
-    let to_set : let a = c.args in value_says a.code a.value ≡ cond (eqb a.value 0) Reply.Ack Reply.Wrong = rw (ne_eqb _ 3 c.if-value-eq3.false, ne_eqb _ 4 c.if-value-eq4.false, ne_eqb _ power_get c.if-code-ne-POWER_GET.true) in
-    sym (to_set ∙ simp (eq-eqb _ _ c.if-value-eq0.true))
+returns-in-3 c = rw c.in-3.is
 
-pub returns-else-value-eq0 : goal.returns-else-value-eq0
+pub returns-in-4 : goal.returns-in-4
 unfolding value_says
-returns-else-value-eq0 c =
-    let to_set : let a = c.args in value_says a.code a.value ≡ cond (eqb a.value 0) Reply.Ack Reply.Wrong = rw (ne_eqb _ 3 c.if-value-eq3.false, ne_eqb _ 4 c.if-value-eq4.false, ne_eqb _ power_get c.if-code-ne-POWER_GET.true) in
-    sym (to_set ∙ simp (ne_eqb _ _ c.if-value-eq0.false))
+returns-in-4 c = rw c.in-4.is
 
-pub returns-then-value-eq1 : goal.returns-then-value-eq1
+pub returns-in-0 : goal.returns-in-0
 unfolding value_says
-returns-then-value-eq1 c =
-    let to_get : let a = c.args in value_says a.code a.value ≡ cond (eqb a.value 1 || eqb a.value 2) (Reply.Report a.value) Reply.Wrong = rw (ne_eqb _ 3 c.if-value-eq3.false, ne_eqb _ 4 c.if-value-eq4.false, eq-eqb _ power_get c.if-code-ne-POWER_GET.false) in
-    sym (to_get ∙ simp c.if-value-eq1.true)
+returns-in-0 c = rw (c.in-0.is, ne_eqb _ power_get c.if-code-ne-POWER_GET.true)
 
-pub returns-then-value-eq2 : goal.returns-then-value-eq2
+pub returns-in_default : goal.returns-in_default
 unfolding value_says
-returns-then-value-eq2 c =
-    let to_get : let a = c.args in value_says a.code a.value ≡ cond (eqb a.value 1 || eqb a.value 2) (Reply.Report a.value) Reply.Wrong = rw (ne_eqb _ 3 c.if-value-eq3.false, ne_eqb _ 4 c.if-value-eq4.false, eq-eqb _ power_get c.if-code-ne-POWER_GET.false) in
-    sym (to_get ∙ simp c.if-value-eq2.true)
+returns-in_default c = rw (c.in-0.is, eq-eqb _ power_get c.if-code-ne-POWER_GET.false)
 
-pub returns : goal.returns
+pub returns-in-1 : goal.returns-in-1
 unfolding value_says
-returns c =
-    let to_get : let a = c.args in value_says a.code a.value ≡ cond (eqb a.value 1 || eqb a.value 2) (Reply.Report a.value) Reply.Wrong = rw (ne_eqb _ 3 c.if-value-eq3.false, ne_eqb _ 4 c.if-value-eq4.false, eq-eqb _ power_get c.if-code-ne-POWER_GET.false) in
-    sym (to_get ∙ simp (ne_eqb _ _ c.if-value-eq1.false, ne_eqb _ _ c.if-value-eq2.false))
+returns-in-1 c = let v = c.args.value in rw (ne_eqb v 3 (λ e. omega arith), ne_eqb v 4 (λ e. omega arith), eq-eqb _ power_get c.if-code-eq-POWER_GET.true, one_or_two v (omega arith) (omega arith))
+
+pub returns-in_default-2 : goal.returns-in_default-2
+unfolding value_says
+returns-in_default-2 c = let v = c.args.value in rw (ne_eqb v 3 (λ e. omega arith), ne_eqb v 4 (λ e. omega arith), ne_eqb _ power_get c.if-code-eq-POWER_GET.false, ne_eqb v 0 (λ e. omega arith))
+
+pub returns-in_default-3 : goal.returns-in_default-3
+returns-in_default-3 c = other_value _ c.args.value (omega arith)

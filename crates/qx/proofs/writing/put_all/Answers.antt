@@ -1,6 +1,7 @@
 use mathlib.Core.Path.{◌≡◌, refl}
 use mathlib.Core.List.{List, [], ◌∷◌, map, flatten, append-nil}
 use Prim.Native.Nat.{ℕ}
+use Rattle.std.specs.Prelude.{Some}
 use Rattle.lists.specs.Lists.{laid_over, laid_at}
 use Rattle.lists.proofs.Laid.{laid_over_lem}
 use Rattle.packet.specs.declared.MonitorId.{MonitorId}
@@ -11,14 +12,10 @@ use Rattle.qx.proofs.writing.put_all.Goals as goal
 
 -- Each way to ask has its packets. Assumes nothing.
 -- a single packet
-one : (id : MonitorId) (out : List ℕ) {asked known : Asked} {d p x : List ℕ} → asked ≡ known → data_for known ≡ d ∷ [] → p ≡ qx_packet id d → x ≡ laid_at 0 p out
-    → x ≡ laid_over (flatten (map (qx_packet id) (data_for asked))) out
+one : (id : MonitorId) (out : List ℕ) {asked known : Asked} {d p x : List ℕ} → asked ≡ known → data_for (Some known) ≡ d ∷ [] → p ≡ qx_packet id d → x ≡ laid_at 0 p out
+    → x ≡ laid_over (flatten (map (qx_packet id) (data_for (Some asked)))) out
 unfolding flatten
 one id out ea ed ep ex = rw (ea, ed, append-nil, ex, ep) (laid_over_lem _ out)
-
-pub returns-in-Nothing : goal.returns-in-Nothing
-unfolding laid_over data_for flatten
-returns-in-Nothing c = rw c.in-Nothing.is
 
 pub returns-in-GetPower : goal.returns-in-GetPower
 unfolding data_for

@@ -3,6 +3,7 @@ use mathlib.Core.List.{List, [], ◌∷◌, ◌++◌, map, flatten}
 use Prim.Native.Nat.{ℕ, ◌≤◌}
 use native.Mathlib.Omega.{arith}
 use lib.ListN.{length}
+use Rattle.std.specs.Prelude.{Some}
 use Rattle.lists.specs.Lists.{laid_over, laid_at}
 use Rattle.lists.proofs.Laid.{laid_then, laid_over_lem}
 use Rattle.packet.specs.declared.MonitorId.{MonitorId}
@@ -17,7 +18,7 @@ use Rattle.qx.proofs.writing.put_picture.Goals as goal
 three : (id : MonitorId) (b c l : ℕ) (out : List ℕ) {p q r x y z : List ℕ} → longest ≤ length out
     → p ≡ qx_packet id (brightness_set ∷ b ∷ []) → q ≡ qx_packet id (contrast_set ∷ c ∷ []) → r ≡ qx_packet id (black_level_set ∷ l ∷ [])
     → x ≡ laid_at 0 p out → y ≡ laid_at 10 q x → z ≡ laid_at 20 r y
-    → z ≡ laid_over (flatten (map (qx_packet id) (data_for (Asked.SetPicture b c l)))) out
+    → z ≡ laid_over (flatten (map (qx_packet id) (data_for (Some (Asked.SetPicture b c l))))) out
 unfolding qx_packet message data_for flatten
 three id b c l out room ep eq er ex ey ez =
     let p = qx_packet id (brightness_set ∷ b ∷ []) in

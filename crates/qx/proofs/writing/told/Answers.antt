@@ -4,10 +4,6 @@ use Rattle.qx.specs.Asked.{data_for}
 use Rattle.qx.specs.Translation.{packets_told}
 use Rattle.qx.proofs.writing.told.Goals as goal
 
-pub returns-in-Nothing : goal.returns-in-Nothing
-unfolding data_for
-returns-in-Nothing c id = rw c.in-Nothing.is c.refused.ensures
-
 pub returns-in-GetPower : goal.returns-in-GetPower
 unfolding packets_told laid_over data_for qx_packet message
 returns-in-GetPower c id = rw c.in-GetPower.is

@@ -1,2 +1,0 @@
--- What only this crate's contracts cite: `Coded` is the line of a field.
-pub mod Coded
