@@ -4,14 +4,14 @@ use mathlib.Core.List.{List, map}
 use Prim.Native.Nat.{ℕ, ◌%◌, ◌<◌}
 use native.Mathlib.Omega.{arith}
 use lib.ListN.{length, get_or}
-use Rattle.std.specs.Prelude.{Option}
 use Rattle.packet.specs.declared.MonitorId.{MonitorId}
+use Rattle.packet.specs.declared.Edition.{Edition}
 use Rattle.packet.specs.declared.Verdict.{Verdict}
 use Rattle.packet.specs.Packet.{damage_in}
 use Rattle.packet.specs.Reading.{Reading}
 use Rattle.panels.specs.declared.Panel.{Panel}
 use Rattle.panels.specs.declared.Table.{Table}
-use Rattle.panels.specs.Wall.{blank, panels_of, table_of, most_panels, id_count, group_count}
+use Rattle.panels.specs.Wall.{Wall, blank, panels_of, table_of, most_panels, id_count, group_count}
 use Rattle.panels.specs.WellFormed.{WellFormed}
 use Rattle.lists.proofs.Places.{get_d_inside}
 use Rattle.panels.proofs.Laws.{held_places, places_many}
@@ -19,10 +19,13 @@ use Rattle.panels.proofs.Index.{place_found, members_found}
 use Rattle.answers.specs.declared.Entry.{Entry}
 use Rattle.answers.specs.declared.Names.{Names}
 use Rattle.answers.specs.declared.Played.{Played}
+use Rattle.answers.specs.declared.Heard.{Heard}
 use Rattle.answers.specs.declared.Turn.{Turn}
+use Rattle.answers.specs.declared.Change.{Change}
 use Rattle.answers.specs.Played.{answered_by, answered, answered_on}
-use Rattle.answers.specs.Turn.{names_in, turn_by, turned_by, Fits}
-use Rattle.answers.proofs.Turns.{entry_of, Leaves, turn_leaves, turn_replies}
+use Rattle.std.specs.Prelude.{Option, Some, None}
+use Rattle.answers.specs.Turn.{names_in, entry_of, turn_by, turn_on, heard_as, turned_by, Fits}
+use Rattle.answers.proofs.Turns.{Leaves, turn_leaves, turn_replies}
 
 -- the index and the places of a table have what its wall has
 pub entry_is : {t : Table} → WellFormed t → (n : Names) → n.id.0 < id_count → n.group.0 < group_count → (count : ℕ) → count ≡ length (panels_of t) → (d : Panel)
@@ -42,27 +45,34 @@ entry_is {t} f n i g count c d =
 abbrev pub reading : Verdict → List ℕ → Option MonitorId → Reading
 reading v d a = record { verdict = v; part = d; seems = a }
 
-module _ {t : Table} (f : WellFormed t) (v : Verdict) (d : List ℕ) (a : Option MonitorId) {turn : Turn} (is : turn ≡ turn_by (entry_of (panels_of t) (names_in v a)) v d a) where
-  abbrev leaves : Table → Played
-  leaves u = record { table = u; reply = turn.reply; damage = damage_in v }
+module _ {t : Table} (f : WellFormed t) (v : Verdict) (d : List ℕ) (a : Option MonitorId) where
+  -- by what the table has of its names
+  pub turn_is : {n : Names} {e : Entry} {turn : Turn} → n ≡ names_in v a → e ≡ entry_of (panels_of t) n → turn ≡ turn_by e v d a → turn ≡ turn_on (panels_of t) v d a
+  turn_is named there is = is ∙ ap (λ (e : Entry). turn_by e v d a) (there ∙ ap (entry_of (panels_of t)) named)
 
-  replies : turn.reply ≡ (answered_by v (panels_of t) d a).reply
-  replies = ap (λ (u : Turn). u.reply) is ∙ turn_replies (panels_of t) f.few f.good v d a
+  -- what a burst leaves of a table's wall
+  pub leaves : Leaves (turn_on (panels_of t) v d a).change d (panels_of t) (answered_by v (panels_of t) d a).wall
+  leaves = turn_leaves (panels_of t) f.few f.good v d a
 
-  walls : Leaves turn.change d (panels_of t) (answered_by v (panels_of t) d a).wall
-  walls =
-      subst (λ (u : Turn). Leaves u.change d (panels_of t) (answered_by v (panels_of t) d a).wall) (sym is) (turn_leaves (panels_of t) f.few f.good v d a)
-
-  with_wall : {u : Table} → u ≡ table_of (answered_by v (panels_of t) d a).wall → leaves u ≡ answered_on t (reading v d a)
+  -- and of the table
+  pub left_is : {u : Table} → u ≡ table_of (answered_by v (panels_of t) d a).wall
+      → ◌≡◌ {A = Played} (record { table = u; reply = (turn_on (panels_of t) v d a).reply; damage = damage_in v }) (answered_on t (reading v d a))
   unfolding answered
-  with_wall e = λ j. record { table = e j; reply = replies j; damage = damage_in v }
+  left_is e = λ j. record { table = e j; reply = turn_replies (panels_of t) f.few f.good v d a j; damage = damage_in v }
 
+-- what was heard of a burst
+pub heard_leaves : {t : Table} (f : WellFormed t) (edition : Edition) (v : Verdict) (d : List ℕ) (a : Option MonitorId) {h : Heard} → h ≡ heard_as edition (turn_on (panels_of t) v d a)
+    → Leaves h.change d (panels_of t) (answered_by v (panels_of t) d a).wall
+heard_leaves {t} f edition v d a gave =
+    subst (λ (o : Option Change). Leaves o d (panels_of t) (answered_by v (panels_of t) d a).wall) (sym (ap (λ (h : Heard). h.change) gave)) (leaves f v d a)
+
+module _ {t : Table} (f : WellFormed t) (d : List ℕ) (w : Wall) where
   -- nothing changes: the table stays
-  pub nothing_left : turn.change.first ≡ turn.change.end → leaves t ≡ answered_on t (reading v d a)
-  nothing_left e = with_wall (f.held ∙ ap table_of (sym (walls.0 e)))
+  pub table_stays : {o : Option Change} → o ≡ None → Leaves o d (panels_of t) w → t ≡ table_of w
+  table_stays e l = f.held ∙ ap table_of (sym (subst (λ (o : Option Change). Leaves o d (panels_of t) w) e l))
 
-  pub fits : (turn.change.first ≡ turn.change.end → ⊥) → Fits turn.change d (panels_of t)
-  fits some = (walls.1 some).0
+  pub change_fits : {o : Option Change} {c : Change} → o ≡ Some c → Leaves o d (panels_of t) w → Fits c d (panels_of t)
+  change_fits e l = (subst (λ (o : Option Change). Leaves o d (panels_of t) w) e l).0
 
-  pub something_left : (turn.change.first ≡ turn.change.end → ⊥) → {u : Table} → u ≡ table_of (map (turned_by turn.change d) (panels_of t)) → leaves u ≡ answered_on t (reading v d a)
-  something_left some e = with_wall (e ∙ ap table_of (sym (walls.1 some).1))
+  pub table_changed : {o : Option Change} {c : Change} {u : Table} → o ≡ Some c → Leaves o d (panels_of t) w → u ≡ table_of (map (turned_by c d) (panels_of t)) → u ≡ table_of w
+  table_changed e l is = is ∙ ap table_of (sym (subst (λ (o : Option Change). Leaves o d (panels_of t) w) e l).1)

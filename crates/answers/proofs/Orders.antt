@@ -1,5 +1,5 @@
 -- What an order says of the data that it was made of. Assumes nothing.
-use mathlib.Core.Path.{◌≡◌, refl, ap}
+use mathlib.Core.Path.{◌≡◌, refl, sym, ap, subst, ◌∙◌}
 use mathlib.Core.Bool.{true, false}
 use mathlib.Core.List.{List, [], ◌∷◌, flatten}
 use Prim.Native.Nat.{ℕ, ◌+◌, ◌<◌}
@@ -39,6 +39,10 @@ pub order_right : (d : List ℕ) → OrderIs d (order_of (command d))
 unfolding command
 order_right [] = λ p. unfold judge in refl
 order_right (code ∷ vs) = order_found code vs (found_by code) (found_right code) refl
+
+-- an order that is known
+pub order_told : (d : List ℕ) {given : Order} (o : Order) → given ≡ order_of (command d) → given ≡ o → OrderIs d o
+order_told d o e is = subst (OrderIs d) (sym e ∙ is) (order_right d)
 
 pub judge-get : (c : Command) (row : ℕ) (p : Panel) → c ≡ get_of row → judge c p ≡ reported (get_code row ∷ values_of row p.values)
 unfolding judge

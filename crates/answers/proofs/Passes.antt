@@ -1,14 +1,16 @@
 -- The pass of a change over a table, place by place: the first places are turned, the others are as they were. Assumes nothing.
-use mathlib.Core.Path.{◌≡◌, refl, sym, ap, ◌∙◌}
+use mathlib.Core.Path.{◌≡◌, refl, sym, ap, ap₂, ◌∙◌}
 use mathlib.Core.Bool.{true, false}
-use mathlib.Core.List.{List, ◌++◌, map}
-use Prim.Native.Nat.{ℕ, ◌+◌, ◌≤◌, ◌<◌}
+use mathlib.Core.List.{List, ◌++◌, map, map-append, append_assoc, append-nil}
+use Prim.Native.Nat.{ℕ, ◌+◌, ◌-◌, ◌≤◌, ◌<◌}
+use borrow.Rule.Slice.PartMut.{mid_of, put_mid}
 use native.Mathlib.Numerals.{add-one}
 use native.Mathlib.Omega.{arith}
 use lib.ListN.{length, get_or, take, drop, set, length-append, length-take, length-drop, length-map}
-use lib.Seq.{set-get_or}
+use Rattle.std.proofs.lemmas.List.{drop_all}
+use lib.Seq.{set-get_or, take_all, get_or-take, take-add, drop-drop}
 use Rattle.lists.proofs.Places.{get_d_inside}
-use Rattle.lists.proofs.Mapped.{seam_on}
+use Rattle.lists.proofs.Mapped.{map_same, take-map, seam_on}
 use Rattle.panels.specs.declared.Panel.{Panel}
 use Rattle.panels.specs.declared.Table.{Table}
 use Rattle.panels.specs.Wall.{blank, panels_of, table_of, most_panels}
@@ -21,15 +23,30 @@ use Rattle.answers.specs.Turn.{is_stored, turned_by, Fits}
 use Rattle.answers.proofs.Formed.{turned-keeps}
 use Rattle.answers.proofs.Turned.{turn_next, set-stored, set_not}
 
--- the table with its first k places turned
-abbrev pub turned_to : (Panel → Panel) → ℕ → Table → Table
-turned_to f k t = with_panels t (take k (map f t.panels) ++ drop k t.panels)
+-- a list with the elements in some places turned, before which none would change
+part_turned : (f : Panel → Panel) (l part : List Panel) (a b : ℕ) → a ≤ b → ((k : ℕ) → k < a → k < length l → f (get_or l k blank) ≡ get_or l k blank)
+    → part ≡ map f (mid_of a (b - a) l) → put_mid a (b - a) l part ≡ take b (map f l) ++ drop b l
+part_turned f l part a b h same e =
+    let all : a + (b - a) ≡ b = omega arith in
+    let front : map f (take a l) ≡ take a l =
+    map_same f blank (take a l) (λ k m. let low : k < a = omega (arith, rw length-take at m) in
+    let inside : k < length l = omega (arith, rw length-take at m) in
+    let here = get_or-take a l k blank low in
+    rw here (same k low inside)) in
+    let turned : take b (map f l) ≡ take a l ++ part =
+    take-map f b l ∙ ap (λ (n : ℕ). map f (take n l)) (sym all) ∙ ap (map f) (take-add a (b - a) l) ∙ map-append f (take a l) (mid_of a (b - a) l) ∙ ap₂ (λ (x y : List Panel). x ++ y) front (sym e) in
+    let rest : drop (b - a) (drop a l) ≡ drop b l = drop-drop (b - a) a l ∙ ap (λ (n : ℕ). drop n l) all in
+    sym (append_assoc (take a l) part (drop (b - a) (drop a l))) ∙ ap₂ (λ (x y : List Panel). x ++ y) (sym turned) rest
+
+-- and a list of which all are turned
+pub all_turned : (f : Panel → Panel) (l : List Panel) (k : ℕ) → length l ≤ k → take k (map f l) ++ drop k l ≡ map f l
+all_turned f l k h = rw (take_all k (map f l) (rw length-map h), drop_all k l h) (append-nil (map f l))
 
 -- a panel keeps its ID and its group
 keeps : (c : Change) (d : List ℕ) (p : Panel) → ((turned_by c d p).id ≡ p.id) × ((turned_by c d p).group ≡ p.group)
 unfolding stored
 keeps c d p =
-    (turned-keeps (λ (q : Panel). q.id) p (λ row vs. refl) c.id c.group _, turned-keeps (λ (q : Panel). q.group) p (λ row vs. refl) c.id c.group _)
+    (turned-keeps (λ (q : Panel). q.id) p (λ row vs. refl) c.names.id c.names.group _, turned-keeps (λ (q : Panel). q.group) p (λ row vs. refl) c.names.id c.names.group _)
 
 -- a change that is one of the table's wall
 module _ {t : Table} (f : WellFormed t) (c : Change) (d : List ℕ) (fits : Fits c d (panels_of t)) where
@@ -37,7 +54,7 @@ module _ {t : Table} (f : WellFormed t) (c : Change) (d : List ℕ) (fits : Fits
   many : length t.panels ≡ most_panels
   many = ap length (held_places f) ∙ places_many _ f.few
 
-  pub few : c.end ≤ most_panels
+  pub few : c.span.end ≤ most_panels
   few = omega (arith, fits.inside, f.few)
 
   -- a panel of the wall stays where the change does not go
@@ -45,38 +62,33 @@ module _ {t : Table} (f : WellFormed t) (c : Change) (d : List ℕ) (fits : Fits
       → turned_by c d (get_or t.panels k blank) ≡ get_or t.panels k blank
   stay k h e = let here = in_wall_lem f k blank (omega (arith, count_is f)) in rw here e
 
-  pub pass_first : t ≡ turned_to (turned_by c d) c.first t
-  pass_first =
-      ap (with_panels t)
-      (seam_on (turned_by c d) blank t.panels 0 c.first (omega arith) (omega (arith, many, few, fits.ordered))
-      (λ k _ h. stay k (omega (arith, fits.ordered, fits.inside)) (fits.before k h)))
-
-  pub pass_last : turned_to (turned_by c d) c.end t ≡ table_of (map (turned_by c d) (panels_of t))
-  pass_last =
+  -- the table with the places of the change turned
+  pub pass_last : (l : List Panel) → l ≡ map (turned_by c d) (mid_of c.span.first (c.span.end - c.span.first) t.panels)
+      → with_panels t (put_mid c.span.first (c.span.end - c.span.first) t.panels l) ≡ table_of (map (turned_by c d) (panels_of t))
+  pass_last l e =
       let w = panels_of t in
-      let l = t.panels in
-      let on = seam_on (turned_by c d) blank l c.end (length w) fits.inside (omega (arith, many, f.few)) (λ k h m. stay k m (fits.behind k h m)) in
+      let part = part_turned (turned_by c d) t.panels l c.span.first c.span.end fits.ordered (λ k h m. stay k (omega (arith, fits.ordered, fits.inside)) (fits.before k h)) e in
+      let on = seam_on (turned_by c d) blank t.panels c.span.end (length w) fits.inside (omega (arith, many, f.few)) (λ k h m. stay k m (fits.behind k h m)) in
       turned_table (turned_by c d) (keeps c d) f _
-      (on ∙ ap (λ (m : List Panel). take (length w) (map (turned_by c d) m) ++ drop (length w) m) (held_places f) ∙ turned_places (turned_by c d) w)
+      (part ∙ on ∙ ap (λ (m : List Panel). take (length w) (map (turned_by c d) m) ++ drop (length w) m) (held_places f) ∙ turned_places (turned_by c d) w)
 
-  -- at a place of the change
-  module _ {u : Table} {k : ℕ} (is : u ≡ turned_to (turned_by c d) k t) (h : k < c.end) where
-    places : length u.panels ≡ most_panels
-    places = ap (λ (t : Table). length t.panels) is ∙ simp (length-append, length-take, length-drop, length-map) (omega (arith, many, few))
+-- one place more of the list of a change's places
+module _ (c : Change) (d : List ℕ) (l : List Panel) {u : List Panel} {k : ℕ} (is : u ≡ take k (map (turned_by c d) l) ++ drop k l) (h : k < length l) where
+  abbrev next : List Panel
+  next = take (k + 1) (map (turned_by c d) l) ++ drop (k + 1) l
 
-    here : (e : Panel) → get_or u.panels k e ≡ get_or u.panels k blank
-    here e = get_d_inside u.panels k e blank (omega (arith, places, few))
+  here : (e : Panel) → get_or u k e ≡ get_or u k blank
+  here e = get_d_inside u k e blank (rw (is, length-append, length-take, length-drop, length-map) (omega arith))
 
-    turned_on : (q : Panel) → q ≡ turned_by c d (get_or u.panels k blank) → with_panels u (set u.panels k q) ≡ turned_to (turned_by c d) (k + 1) t
-    turned_on q p = ap (λ (q : Panel). with_panels u (set u.panels k q)) p ∙ rw (is, add-one) (ap (with_panels t) (turn_next (turned_by c d) t.panels k (omega (arith, many, few))))
+  turned_on : (q : Panel) → q ≡ turned_by c d (get_or u k blank) → set u k q ≡ next
+  turned_on q p = ap (set u k) p ∙ rw (is, add-one) (turn_next (turned_by c d) l k h)
 
-    -- the panel there takes it, or stays
-    pub pass_stored : (e : Panel) {q : Panel} → let p = get_or u.panels k e in
-        is_stored c.id c.group c.row (drop 1 d) p ≡ true → q ≡ stored c.row (held_then c.row (drop 1 d) p) p
-        → with_panels u (set u.panels k q) ≡ turned_to (turned_by c d) (k + 1) t
-    pass_stored e s q = turned_on _ (q ∙ sym (set-stored c.id c.group c.row (drop 1 d) _ s) ∙ ap (turned_by c d) (here e))
+  -- the panel there takes it, or stays
+  pub pass_stored : (e : Panel) {q : Panel} → let p = get_or u k e in
+      is_stored c.names c.row (drop 1 d) p ≡ true → q ≡ stored c.row (held_then c.row (drop 1 d) p) p → set u k q ≡ next
+  pass_stored e s q = turned_on _ (q ∙ sym (set-stored c.names c.row (drop 1 d) _ s) ∙ ap (turned_by c d) (here e))
 
-    pub pass_stays : (e : Panel) → is_stored c.id c.group c.row (drop 1 d) (get_or u.panels k e) ≡ false → u ≡ turned_to (turned_by c d) (k + 1) t
-    pass_stays e s =
-        let same = ap (turned_by c d) (sym (here e)) ∙ set_not c.id c.group c.row (drop 1 d) _ s ∙ here e in
-        sym (ap (with_panels u) (set-get_or u.panels k blank)) ∙ turned_on _ (sym same)
+  pub pass_stays : (e : Panel) → is_stored c.names c.row (drop 1 d) (get_or u k e) ≡ false → u ≡ next
+  pass_stays e s =
+      let same = ap (turned_by c d) (sym (here e)) ∙ set_not c.names c.row (drop 1 d) _ s ∙ here e in
+      sym (set-get_or u k blank) ∙ turned_on _ (sym same)

@@ -14,6 +14,7 @@ use Rattle.panels.specs.Addressed.{reaches}
 use Rattle.lists.proofs.Both.{both}
 use Rattle.lists.proofs.Mapped.{at_map}
 use Rattle.lists.proofs.Places.{store, from_seam}
+use Rattle.answers.specs.declared.Names.{Names}
 use Rattle.answers.specs.Judged.{Command, set_of, judge, takes, stored, held_then, panel_after}
 use Rattle.answers.specs.Played.{turned}
 use Rattle.answers.specs.Turn.{is_stored}
@@ -29,22 +30,22 @@ unfolding turned
 stays i g c p r = rw r
 
 -- a set: stored where the panel is addressed and takes it, and nowhere else
-module _ (i : MonitorId) (g : GroupId) (row : ℕ) (vs : List ℕ) (p : Panel) where
-  pub set-stored : is_stored i g row vs p ≡ true → turned i g (set_of row vs) p ≡ stored row (held_then row vs p) p
+module _ (n : Names) (row : ℕ) (vs : List ℕ) (p : Panel) where
+  pub set-stored : is_stored n row vs p ≡ true → turned n.id n.group (set_of row vs) p ≡ stored row (held_then row vs p) p
   unfolding turned is_stored
-  set-stored e = let (r, t) = both (reaches i g p) _ e in rw (r, judge-set (set_of row vs) row vs p refl t)
+  set-stored e = let (r, t) = both (reaches n.id n.group p) _ e in rw (r, judge-set (set_of row vs) row vs p refl t)
 
-  pub set_not : is_stored i g row vs p ≡ false → turned i g (set_of row vs) p ≡ p
+  pub set_not : is_stored n row vs p ≡ false → turned n.id n.group (set_of row vs) p ≡ p
   unfolding turned is_stored
-  set_not e = go (reaches i g p) refl e
+  set_not e = go (reaches n.id n.group p) refl e
     where
-      go : (t : Bool) → reaches i g p ≡ t → (t && takes row vs p) ≡ false → cond t (panel_after (judge (set_of row vs) p) p) p ≡ p
+      go : (t : Bool) → reaches n.id n.group p ≡ t → (t && takes row vs p) ≡ false → cond t (panel_after (judge (set_of row vs) p) p) p ≡ p
       go true r n = rw (judge_not (set_of row vs) row vs p refl n)
       go false r n = refl
 
-pub stored_many : (i : MonitorId) (g : GroupId) (row : ℕ) (d : List ℕ) (p : Panel) → 0 < length d → is_stored i g row (drop 1 d) p ≡ true → length d ≡ byte_count row + 1
+pub stored_many : (n : Names) (row : ℕ) (d : List ℕ) (p : Panel) → 0 < length d → is_stored n row (drop 1 d) p ≡ true → length d ≡ byte_count row + 1
 unfolding is_stored
-stored_many i g row d p h e = taken_many row d p h (both (reaches i g p) _ e).1
+stored_many n row d p h e = taken_many row d p h (both (reaches n.id n.group p) _ e).1
 
 -- The pass over the table: the first k places are turned, the others are still to come.
 pub turn_next : (f : Panel → Panel) (w : Wall) (k : ℕ) → k < length w

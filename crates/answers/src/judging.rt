@@ -6,9 +6,8 @@ ghost use Rattle.answers.specs.Judged.{command, stored, off_already, held_then, 
 ghost use Rattle.answers.specs.Turn.{allowed_by, is_stored};
 ghost use Rattle.answers.specs.Private.Orders.{order_of, stands_then};
 
-use crate::{Answer, MOST_REPORTED, Order, PROFILE_COUNT, Reply, TILING_COUNT};
+use crate::{Answer, MOST_REPORTED, Names, Order, PROFILE_COUNT, Reply, TILING_COUNT};
 use codes::Code;
-use packet::{GroupId, MonitorId};
 use panels::Panel;
 use settings::{OFF, Profile, Row, VALUE_COUNT};
 
@@ -101,18 +100,11 @@ pub fn takes(p: Panel, row: Row, allowed: [bool; PROFILE_COUNT], d: &[u8]) -> bo
 }
 
 // Whether a panel is addressed and takes them.
-pub fn is_stored(
-    p: Panel,
-    id: MonitorId,
-    group: GroupId,
-    row: Row,
-    allowed: [bool; PROFILE_COUNT],
-    d: &[u8],
-) -> bool
+pub fn is_stored(p: Panel, names: Names, row: Row, allowed: [bool; PROFILE_COUNT], d: &[u8]) -> bool
     requires { allowed ≡ allowed_by row (drop 1 d.now) }
-    ensures { result ≡ is_stored id group row (drop 1 d.now) p }
+    ensures { result ≡ is_stored names row (drop 1 d.now) p }
 {
-    panels::reaches(id, group, p) && takes(p, row, allowed, d)
+    panels::reaches(names.id, names.group, p) && takes(p, row, allowed, d)
 }
 
 // A row's values stored among a panel's.
@@ -137,54 +129,20 @@ pub fn with_values(mut p: Panel, row: Row, d: &[u8]) -> Panel
     p
 }
 
-// A panel's report of a row with one value: the get code, and then the value.
-fn report_of_one(p: Panel, row: Row) -> Reply
-    requires { byte_count row ≡ 1 }
-    ensures { result ≡ report_from p.id (get_code row ∷ values_of row p.values) }
-{
-    let first = row.place();
-    let id = p.id;
-    let values = p.values;
-    let mut bytes = [0u8; MOST_REPORTED];
-    bytes[0] = row.get_code();
-    bytes[1] = values[first];
-    Reply {
-        answer: Answer::Report,
-        id,
-        bytes,
-        count: 2,
-    }
-}
-
-// And of any row: the get code, and then its values.
-fn report_of_many(p: Panel, row: Row) -> Reply
+// A panel's report of a row: the get code, and then its values.
+pub fn report_of(p: Panel, row: Row) -> Reply
     ensures { result ≡ report_from p.id (get_code row ∷ values_of row p.values) }
 {
     let first = row.place();
     let count = row.byte_count();
-    let id = p.id;
     let values = p.values;
     let mut bytes = [0u8; MOST_REPORTED];
     bytes[0] = row.get_code();
-    let mut k = 0;
-    while k < count {
-        bytes[k + 1] = values[first + k];
-        k += 1;
-    }
+    bytes[1..count + 1].copy_from_slice(&values[first..first + count]);
     Reply {
         answer: Answer::Report,
-        id,
+        id: p.id,
         bytes,
         count: count + 1,
     }
-}
-
-// A panel's report of a row. Most rows have one value, for which a loop is long-winded.
-pub fn report_of(p: Panel, row: Row) -> Reply
-    ensures { result ≡ report_from p.id (get_code row ∷ values_of row p.values) }
-{
-    if row.byte_count() == 1 {
-        return report_of_one(p, row);
-    }
-    report_of_many(p, row)
 }

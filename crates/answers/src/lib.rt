@@ -7,12 +7,10 @@ mod playing;
 mod turning;
 
 pub use answering::write_answer;
-pub use judging::{is_stored, with_values};
 use packet::{Control, Damage, GroupId, MonitorId};
 use panels::{Panel, Table};
-pub use playing::{answered_on, hear, play, stored};
+pub use playing::{answered_on, hear, play, store};
 use settings::{MOST_VALUES, Row};
-pub use turning::names_in;
 
 // A report's data at its longest: the get code, and the values of the largest row.
 pub const MOST_REPORTED: usize = MOST_VALUES + 1;
@@ -72,30 +70,27 @@ pub struct Span {
     pub end: usize,
 }
 
-// A set as it goes to the panels in some places: for each profile, by its number, whether its ranges allow the values. Where
-// nothing changes there are no places.
+// A set as it goes to the panels in some places: for each profile, by its number, whether its ranges allow the values.
 #[derive(Clone, Copy)]
 pub struct Change {
-    pub id: MonitorId,
-    pub group: GroupId,
+    pub names: Names,
     pub row: Row,
     pub allowed: [bool; PROFILE_COUNT],
-    pub first: usize,
-    pub end: usize,
+    pub span: Span,
 }
 
-// What a burst comes to.
+// What a burst comes to: the reply, and what it changes, if anything.
 #[derive(Clone, Copy)]
 pub struct Turn {
     pub reply: Reply,
-    pub change: Change,
+    pub change: Option<Change>,
 }
 
-// How many bytes were sent in answer to a burst, and what it changes.
+// How many bytes were sent in answer to a burst, and what it changes, if anything.
 #[derive(Clone, Copy)]
 pub struct Heard {
     pub sent: usize,
-    pub change: Change,
+    pub change: Option<Change>,
 }
 
 // The table after a burst, the reply to it, and what was wrong with it.

@@ -1,25 +1,24 @@
 // What a burst comes to: the reply, and what changes in which places. It goes by what the table has of the names in the burst.
 ghost use Rattle.std.specs.Prelude.{◌≡◌, drop};
 ghost use Rattle.answers.specs.Judged.{command, reply_by, judge};
-ghost use Rattle.answers.specs.Turn.{names_in, span_of, no_change, change_of, reply_to, nack_to, turn_by};
+ghost use Rattle.answers.specs.Turn.{names_in, span_of, change_of, reply_to, nack_to, turn_by};
 ghost use Rattle.answers.specs.Private.Orders.{order_of, allowed_in};
 
 use crate::{Change, Entry, Names, Order, PROFILE_COUNT, Reply, Span, Turn, answering, judging};
-use packet::{Control, GroupId, MonitorId, Verdict};
+use packet::{Control, GroupId, MonitorId, Reading, Verdict};
 use panels::{MOST_PANELS, Panel};
-use settings::Row;
 
 // A damaged burst names the panel that it seems to be for.
-pub fn names_in(verdict: Verdict, seems: Option<MonitorId>) -> Names
-    ensures { result ≡ names_in verdict seems }
+pub fn names_in(reading: Reading) -> Names
+    ensures { result ≡ names_in reading.verdict reading.seems }
 {
     let nobody = Names {
         id: MonitorId(0),
         group: GroupId(0),
     };
-    match verdict {
+    match reading.verdict {
         Verdict::Empty => nobody,
-        Verdict::Damaged(_) => match seems {
+        Verdict::Damaged(_) => match reading.seems {
             None => nobody,
             Some(id) => Names {
                 id,
@@ -34,70 +33,64 @@ pub fn names_in(verdict: Verdict, seems: Option<MonitorId>) -> Names
     }
 }
 
-// The places of the panels that a packet can reach: all, one, or none.
-fn span_of(entry: Entry, id: MonitorId, group: GroupId) -> Span
-    ensures { result ≡ span_of entry id group }
+// The places of the panels that a packet can reach, if it can reach any.
+#[tactic(auto, using(std::proofs::lemmas::Bool::Decides::nat_tests), unfolding(crate::specs::Turn::span_of))]
+fn span_of(entry: Entry, names: Names) -> Option<Span>
+    ensures { result ≡ span_of entry names }
 {
+    let all = Span {
+        first: 0,
+        end: entry.count,
+    };
+    if names.group.0 != 0 {
+        return if entry.members == 0 { None } else { Some(all) };
+    }
+    if names.id.0 == 0 {
+        return Some(all);
+    }
     let first = entry.at;
-    if group.0 != 0 {
-        if entry.members == 0 {
-            return Span { first: 0, end: 0 };
-        }
-        return Span {
-            first: 0,
-            end: entry.count,
-        };
-    }
-    if id.0 == 0 {
-        return Span {
-            first: 0,
-            end: entry.count,
-        };
-    }
     if MOST_PANELS <= first {
-        return Span { first: 0, end: 0 };
+        return None;
     }
-    Span {
+    Some(Span {
         first,
         end: first + 1,
-    }
+    })
 }
 
-// No change.
-fn nothing() -> Change
-    ensures { result ≡ no_change }
+// For each profile, by its number, whether its ranges allow what an order stores.
+fn allowed_in(order: &Order, d: &[u8]) -> [bool; PROFILE_COUNT]
+    requires { order.now ≡ order_of (command d.now) }
+    ensures { result ≡ allowed_in order.now (drop 1 d.now) }
 {
-    Change {
-        id: MonitorId(0),
-        group: GroupId(0),
-        row: Row::KIND,
-        allowed: [false; PROFILE_COUNT],
-        first: 0,
-        end: 0,
+    match *order {
+        Order::Store(row) => judging::allowed_by(row, d),
+        _ => [false; PROFILE_COUNT],
     }
 }
 
 // What a packet changes, if it is a set.
-fn change_of(entry: Entry, id: MonitorId, group: GroupId, order: &Order, d: &[u8]) -> Change
-    requires { order.now ≡ order_of (command d.now) }
-    ensures { result ≡ change_of entry id group (command d.now) }
+#[tactic(auto, unfolding(crate::specs::Turn::change_of))]
+fn change_of(
+    entry: Entry,
+    names: Names,
+    order: &Order,
+    allowed: [bool; PROFILE_COUNT],
+    d: &[u8],
+) -> Option<Change>
+    requires { (order.now ≡ order_of (command d.now)) × (allowed ≡ allowed_in order.now (drop 1 d.now)) }
+    ensures { result ≡ change_of entry names (command d.now) }
 {
-    match *order {
-        Order::Report(_) => nothing(),
-        Order::Store(row) => {
-            let span = span_of(entry, id, group);
-            let allowed = judging::allowed_by(row, d);
-            Change {
-                id,
-                group,
-                row,
-                allowed,
-                first: span.first,
-                end: span.end,
-            }
-        }
-        Order::NotAvailable => nothing(),
-    }
+    let Order::Store(row) = *order else {
+        return None;
+    };
+    let span = span_of(entry, names)?;
+    Some(Change {
+        names,
+        row,
+        allowed,
+        span,
+    })
 }
 
 // A panel's own reply: the report of a get, ACK to a set that it takes, else NAV.
@@ -119,18 +112,18 @@ fn reply_from(p: Panel, order: &Order, allowed: [bool; PROFILE_COUNT], d: &[u8])
 }
 
 // The reply to a packet: that of the panel with its ID, where an answer is due and the panel is there.
+#[tactic(auto, using(std::proofs::lemmas::Bool::Decides::nat_tests), unfolding(crate::specs::Turn::reply_to))]
 fn reply_to(
     entry: Entry,
-    id: MonitorId,
-    group: GroupId,
+    names: Names,
     order: &Order,
     allowed: [bool; PROFILE_COUNT],
     d: &[u8],
 ) -> Reply
     requires { (order.now ≡ order_of (command d.now)) × (allowed ≡ allowed_in order.now (drop 1 d.now)) }
-    ensures { result ≡ reply_to entry id group (command d.now) }
+    ensures { result ≡ reply_to entry names (command d.now) }
 {
-    if !packet::is_heard(id, group) {
+    if !packet::is_heard(names.id, names.group) {
         return answering::silence();
     }
     if MOST_PANELS <= entry.at {
@@ -141,6 +134,7 @@ fn reply_to(
 }
 
 // The reply to a damaged burst: NACK from the panel that it seems to be for, where it is there.
+#[tactic(auto, using(std::proofs::lemmas::Bool::Decides::nat_tests), unfolding(crate::specs::Turn::nack_to))]
 fn nack_to(entry: Entry, seems: Option<MonitorId>) -> Reply
     ensures { result ≡ nack_to entry seems }
 {
@@ -154,35 +148,40 @@ fn nack_to(entry: Entry, seems: Option<MonitorId>) -> Reply
 }
 
 // An intact packet.
-fn turn_by(entry: Entry, id: MonitorId, group: GroupId, d: &[u8]) -> Turn
-    ensures { result ≡ record { reply = reply_to entry id group (command d.now); change = change_of entry id group (command d.now) } }
+fn turn_by(entry: Entry, names: Names, d: &[u8]) -> Turn
+    ensures { result ≡ record { reply = reply_to entry names (command d.now); change = change_of entry names (command d.now) } }
 {
     let order = judging::order_of(d);
-    let change = change_of(entry, id, group, &order, d);
-    let allowed = change.allowed;
-    let reply = reply_to(entry, id, group, &order, allowed, d);
+    let allowed = allowed_in(&order, d);
+    let change = change_of(entry, names, &order, allowed, d);
+    let reply = reply_to(entry, names, &order, allowed, d);
     Turn { reply, change }
 }
 
-// What a burst comes to, by its verdict, its data, whom it seems to be for if it is damaged, and what the table has of its names.
-pub fn turn_of(entry: Entry, verdict: Verdict, d: &[u8], seems: Option<MonitorId>) -> Turn
-    ensures { result ≡ turn_by entry verdict d.now seems }
+// What a burst comes to, by what was read of it and what the table has of its names.
+#[tactic(auto, unfolding(crate::specs::Turn::turn_by))]
+pub fn turn_of(entry: Entry, reading: Reading) -> Turn
+    ensures { result ≡ turn_by entry reading.verdict reading.data.now reading.seems }
 {
-    match verdict {
+    match reading.verdict {
         Verdict::Empty => {
             let reply = answering::silence();
-            let change = nothing();
-            Turn { reply, change }
+            Turn {
+                reply,
+                change: None,
+            }
         }
         Verdict::Damaged(_) => {
-            let reply = nack_to(entry, seems);
-            let change = nothing();
-            Turn { reply, change }
+            let reply = nack_to(entry, reading.seems);
+            Turn {
+                reply,
+                change: None,
+            }
         }
         Verdict::Intact {
             id,
             group,
             count: _,
-        } => turn_by(entry, id, group, d),
+        } => turn_by(entry, Names { id, group }, reading.data),
     }
 }

@@ -12,6 +12,7 @@ use Rattle.panels.proofs.Laws.{panels_of_table}
 use Rattle.answers.specs.Played.{played}
 use Rattle.answers.specs.Session.{by_burst, session}
 use Rattle.answers.proofs.Formed.{answered-count, answered_formed}
+use Rattle.std.specs.Prelude.{Option, Some, None}
 use Rattle.batch.specs.declared.Refusal.{Refusal}
 use Rattle.batch.specs.Scene.{refusal_of, scene_by, scene_of}
 
@@ -31,16 +32,14 @@ pub scene_formed : (edition : Edition) (list : List ℕ) (room : ℕ) {t : Table
 unfolding scene_of
 scene_formed edition list room {t} f = go (refusal_of list room) _
   where
-    go : (r : Refusal) (bursts : List (List ℕ)) → WellFormed (table_of (scene_by r edition (panels_of t) bursts).wall)
-    go Refusal.Nothing bursts = session_formed edition bursts f
-    go Refusal.Cut bursts = subst WellFormed f.held f
-    go Refusal.NoRoom bursts = subst WellFormed f.held f
+    go : (r : Option Refusal) (bursts : List (List ℕ)) → WellFormed (table_of (scene_by r edition (panels_of t) bursts).wall)
+    go None bursts = session_formed edition bursts f
+    go (Some r) bursts = subst WellFormed f.held f
 
 pub scene_count : (edition : Edition) (w : Wall) (list : List ℕ) (room : ℕ) → length (scene_of edition w list room).wall ≡ length w
 unfolding scene_of
 scene_count edition w list room = go (refusal_of list room) _
   where
-    go : (r : Refusal) (bursts : List (List ℕ)) → length (scene_by r edition w bursts).wall ≡ length w
-    go Refusal.Nothing bursts = session-count edition bursts w
-    go Refusal.Cut bursts = refl
-    go Refusal.NoRoom bursts = refl
+    go : (r : Option Refusal) (bursts : List (List ℕ)) → length (scene_by r edition w bursts).wall ≡ length w
+    go None bursts = session-count edition bursts w
+    go (Some r) bursts = refl

@@ -1,11 +1,11 @@
 -- A list that is taken or refused, and one that is played up to a burst. Assumes nothing.
-use Prim.Native.Nat.{ℕ, ◌+◌, ◌*◌, ◌≤◌}
-use mathlib.Core.Bool.{Bool, true, false, cond}
+use Prim.Native.Nat.{ℕ, ◌+◌, ◌*◌, ◌≤◌, ◌<◌}
+use mathlib.Core.Bool.{true, false}
+use Rattle.std.specs.Prelude.{Option, Some, None, Result, Ok, Err}
 use mathlib.Core.List.{List, [], ◌∷◌, ◌++◌, append_assoc, append-nil}
 use mathlib.Core.Path.{◌≡◌, refl, sym, ap, ap₂, ◌∙◌}
 use native.Mathlib.Omega.{arith}
-use borrow.Author.Tests.{leb-true}
-use lib.Dec.{leb}
+use borrow.Author.Tests.{le-leb, lt-leb}
 use lib.ListN.{length, length-append}
 use Rattle.lists.specs.Lists.{laid_at, laid_over}
 use Rattle.lists.proofs.Laid.{laid_none, laid_over_lem, laid_then}
@@ -16,46 +16,69 @@ use Rattle.answers.specs.declared.Reply.{Reply}
 use Rattle.answers.specs.Played.{played}
 use Rattle.answers.specs.Session.{by_burst}
 use Rattle.batch.specs.declared.Refusal.{Refusal}
-use Rattle.batch.specs.Scene.{Scene, refusal_number, with_count, answers_of, room_for_one, refusal_of, played_out, scene_by, scene_of}
+use Rattle.batch.specs.Scene.{Scene, refusal_number, with_count, answers_of, room_for_one, refusal_of, played_out, scene_by, scene_of, written_of}
 
--- a list that is not refused is whole, and there is room for each of its bursts
-pub taken-whole : (list : List ℕ) (room : ℕ) → refusal_number (refusal_of list room) ≡ 0
-    → ((bursts_in list).cut ≡ false) × (room_for_one * length (bursts_in list).whole ≤ room)
-unfolding refusal_of
-taken-whole list room e = go (bursts_in list).cut refl (leb (room_for_one * length (bursts_in list).whole) room) refl e
-  where
-    go : (t : Bool) → (bursts_in list).cut ≡ t → (u : Bool) → leb (room_for_one * length (bursts_in list).whole) room ≡ u
-        → refusal_number (cond t Refusal.Cut (cond u Refusal.Nothing Refusal.NoRoom)) ≡ 0 → ((bursts_in list).cut ≡ false) × (room_for_one * length (bursts_in list).whole ≤ room)
-    go true s u h e = absurd (omega arith)
-    go false s true h e = (s, leb-true _ _ h)
-    go false s false h e = absurd (omega arith)
+-- a whole list, for whose bursts there is room or not, and one that is cut
+module _ (list : List ℕ) (room : ℕ) where
+  pub taken_whole : (bursts_in list).cut ≡ false → room_for_one * length (bursts_in list).whole ≤ room → refusal_of list room ≡ None
+  unfolding refusal_of
+  taken_whole e h = rw (e, le-leb _ _ h)
 
-module _ (edition : Edition) (w : Wall) (bursts : List (List ℕ)) where
-  pub scene_played : (r : Refusal) → refusal_number r ≡ 0 → played_out edition w bursts ≡ scene_by r edition w bursts
-  scene_played Refusal.Nothing e = refl
-  scene_played Refusal.Cut e = absurd (omega arith)
-  scene_played Refusal.NoRoom e = absurd (omega arith)
+  pub no_room : (bursts_in list).cut ≡ false → room < room_for_one * length (bursts_in list).whole → refusal_of list room ≡ Some Refusal.NoRoom
+  unfolding refusal_of
+  no_room e h = rw (e, lt-leb _ _ h)
 
-  pub scene_refusal : (r : Refusal) → (scene_by r edition w bursts).refusal ≡ r
-  scene_refusal Refusal.Nothing = refl
-  scene_refusal Refusal.Cut = refl
-  scene_refusal Refusal.NoRoom = refl
+  pub cut_refused : (bursts_in list).cut ≡ true → refusal_of list room ≡ Some Refusal.Cut
+  unfolding refusal_of
+  cut_refused e = rw e
 
-  pub scene_refused : (r : Refusal) → (refusal_number r ≡ 0 → ⊥) → record { wall = w; answers = []; refusal = r } ≡ scene_by r edition w bursts
-  scene_refused Refusal.Nothing e = absurd (e refl)
-  scene_refused Refusal.Cut e = refl
-  scene_refused Refusal.NoRoom e = refl
-
--- a list that is refused leaves the wall as it was, and nothing is written of it
-module _ (edition : Edition) (w : Wall) (list : List ℕ) (room : ℕ) (refused : refusal_number (scene_of edition w list room).refusal ≡ 0 → ⊥) where
-  pub refused_leaves : scene_of edition w list room ≡ record { wall = w; answers = []; refusal = refusal_of list room }
+module _ (edition : Edition) (w : Wall) (list : List ℕ) (room : ℕ) where
+  pub scene_played : refusal_of list room ≡ None → scene_of edition w list room ≡ played_out edition w (bursts_in list).whole
   unfolding scene_of
-  refused_leaves =
-      let r = refusal_of list room in
-      sym (scene_refused edition w (bursts_in list).whole r (λ e. refused (ap refusal_number (scene_refusal edition w (bursts_in list).whole r) ∙ e)))
+  scene_played e = ap (λ (r : Option Refusal). scene_by r edition w (bursts_in list).whole) e
 
-  pub refused_silent : (scene_of edition w list room).answers ≡ []
-  refused_silent = ap (λ (s : Scene). s.answers) refused_leaves
+  pub scene_refused : {r : Refusal} → refusal_of list room ≡ Some r → scene_of edition w list room ≡ record { wall = w; answers = []; refusal = Some r }
+  unfolding scene_of
+  scene_refused e = ap (λ (r : Option Refusal). scene_by r edition w (bursts_in list).whole) e
+
+  pub scene_refusal : (scene_of edition w list room).refusal ≡ refusal_of list room
+  unfolding scene_of
+  scene_refusal = go (refusal_of list room)
+    where
+      go : (r : Option Refusal) → (scene_by r edition w (bursts_in list).whole).refusal ≡ r
+      go None = refl
+      go (Some r) = refl
+
+  -- a list that is refused leaves the wall as it was, and nothing is written of it
+  pub refused_leaves : (refusal_number (scene_of edition w list room).refusal ≡ 0 → ⊥) → scene_of edition w list room ≡ record { wall = w; answers = []; refusal = refusal_of list room }
+  refused_leaves refused = go (refusal_of list room) refl
+    where
+      go : (r : Option Refusal) → refusal_of list room ≡ r → scene_of edition w list room ≡ record { wall = w; answers = []; refusal = r }
+      go None e = absurd (refused (ap refusal_number (scene_refusal ∙ e)))
+      go (Some r) e = scene_refused e
+
+  pub refused_silent : (refusal_number (scene_of edition w list room).refusal ≡ 0 → ⊥) → (scene_of edition w list room).answers ≡ []
+  refused_silent refused = ap (λ (s : Scene). s.answers) (refused_leaves refused)
+
+-- what a call gave back tells which
+module _ (s : Scene) where
+  pub refused_for : (r : Refusal) → ◌≡◌ {A = Result ℕ Refusal} (Err r) (written_of s) → s.refusal ≡ Some r
+  refused_for r e = go s.refusal e
+    where
+      go : (o : Option Refusal) → ◌≡◌ {A = Result ℕ Refusal} (Err r) (elim o [ None ↦ Ok (length s.answers) | Some refusal ↦ Err refusal ]) → o ≡ Some r
+      go None e = cc
+      go (Some q) e = cc
+
+  pub written_so : (n : ℕ) → ◌≡◌ {A = Result ℕ Refusal} (Ok n) (written_of s) → (s.refusal ≡ None) × (n ≡ length s.answers)
+  written_so n e = go s.refusal e
+    where
+      go : (o : Option Refusal) → ◌≡◌ {A = Result ℕ Refusal} (Ok n) (elim o [ None ↦ Ok (length s.answers) | Some refusal ↦ Err refusal ]) → (o ≡ None) × (n ≡ length s.answers)
+      go None e = (refl, cc)
+      go (Some q) e = cc
+
+pub numbered_some : (r : Refusal) → refusal_number (Some r) ≡ 0 → ⊥
+numbered_some Refusal.Cut e = omega arith
+numbered_some Refusal.NoRoom e = omega arith
 
 -- behind what was written
 abbrev behind : List ℕ → Scene → Scene

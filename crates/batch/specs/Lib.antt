@@ -1,3 +1,2 @@
--- `Scene` is what a list of bursts comes to. `Private` has how its code counts them.
+-- `Scene` is what a list of bursts comes to.
 pub mod Scene
-pub mod Private

@@ -23,9 +23,10 @@ use Rattle.answers.specs.declared.Reply.{Reply}
 use Rattle.answers.specs.Reply.{most_reported, sent_bytes}
 use Rattle.answers.specs.Played.{answered, played}
 use Rattle.answers.specs.Session.{Ended, by_burst, session}
+use Rattle.std.specs.Prelude.{Option, Some, None}
 use Rattle.batch.specs.declared.Refusal.{Refusal}
 use Rattle.batch.specs.Scene.{Scene, refusal_number, with_count, answers_of, room_for_one, refusal_of, played_out, scene_by, scene_of}
-use Rattle.batch.proofs.Scenes.{scene_refusal, refused_leaves}
+use Rattle.batch.proofs.Scenes.{cut_refused, scene_refusal, refused_leaves}
 use Rattle.answers.proofs.Lengths.{sent-few}
 use Rattle.demands.specs.Demand1.{BadForEach}
 use Rattle.demands.specs.Demand2.{Answer-Is}
@@ -77,20 +78,20 @@ answers_listed edition [] = refl
 answers_listed edition (r ∷ rs) = ap (λ (l : List ℕ). with_count edition r ++ l) (answers_listed edition rs)
 
 -- a whole list goes by its room
-abbrev by_room : Bool → Refusal
-by_room t = cond t Refusal.Nothing Refusal.NoRoom
+abbrev by_room : Bool → Option Refusal
+by_room t = cond t None (Some Refusal.NoRoom)
 
 by_room_lem : (edition : Edition) (w : Wall) (bursts : List (List ℕ)) (room : ℕ)
     → scene_of edition w (list_of bursts) room ≡ scene_by (by_room (leb (41 * length bursts) room)) edition w bursts
 unfolding scene_of refusal_of
 by_room_lem edition w bursts room =
-    ap (λ (b : Bursts). scene_by (cond b.cut Refusal.Cut (by_room (leb (room_for_one * length b.whole) room))) edition w b.whole) (told-again bursts)
+    ap (λ (b : Bursts). scene_by (cond b.cut (Some Refusal.Cut) (by_room (leb (room_for_one * length b.whole) room))) edition w b.whole) (told-again bursts)
 
 pub one_by_one : OneByOne
 one_by_one edition w bursts room h =
     by_room_lem edition w bursts room
     ∙ rw (le-leb _ _ h)
-    (ap {B = Scene} (λ (l : List ℕ). record { wall = (session edition w bursts).wall; answers = l; refusal = Refusal.Nothing }) (answers_listed edition _))
+    (ap {B = Scene} (λ (l : List ℕ). record { wall = (session edition w bursts).wall; answers = l; refusal = None }) (answers_listed edition _))
 
 pub session_then : (edition : Edition) (w : Wall) (a b : List (List ℕ))
     → let s = session edition w a in
@@ -112,14 +113,10 @@ in_order edition w front rest room h =
     ap (λ (l : List ℕ). scene_of edition w l room) (sym (list_append front rest)) ∙ one_by_one edition w (front ++ rest) room h
     ∙ rw (session_then edition w front rest, first, then, map-append (sent_bytes edition) s.replies t.replies, list_append)
 
-cut-refused : (list : List ℕ) (room : ℕ) → (bursts_in list).cut ≡ true → refusal_of list room ≡ Refusal.Cut
-unfolding refusal_of
-cut-refused list room e = rw e
-
 pub list_numbers : ListNumbers
 unfolding scene_of
 list_numbers edition w bursts room = (
-  (λ n part h. ap refusal_number (scene_refusal edition w _ _ ∙ cut-refused (list_of bursts ++ n ∷ part) room (stops bursts n part h))),
+  (λ n part h. ap refusal_number (scene_refusal edition w (list_of bursts ++ n ∷ part) room ∙ cut_refused (list_of bursts ++ n ∷ part) room (stops bursts n part h))),
   ap (λ (s : Scene). refusal_number s.refusal) (by_room_lem edition w bursts room) ∙ go (leb (41 * length bursts) room),
 )
   where

@@ -1,5 +1,5 @@
 -- A night's changes in one call. 02, A9. List and answers are written here by a definition of this file's own.
-use Rattle.std.specs.Prelude.{ℕ, ◌*◌, ◌≤◌, ◌<◌, false, cond, ◌⊎◌, ◌≡◌, leb, length, drop}
+use Rattle.std.specs.Prelude.{ℕ, ◌*◌, ◌≤◌, ◌<◌, false, cond, ◌⊎◌, ◌≡◌, None, leb, length, drop}
 use mathlib.Core.List.{List, [], ◌∷◌, ◌++◌, map, Memᴰ}
 use Rattle.lists.specs.Lists.{laid_over}
 use Rattle.bursts.specs.Bursts.{bursts_in}
@@ -10,7 +10,6 @@ use Rattle.packet.specs.Reading.{reading_of}
 use Rattle.panels.specs.Wall.{Wall}
 use Rattle.answers.specs.Reply.{word_from, sent_bytes}
 use Rattle.answers.specs.Session.{session}
-use Rattle.batch.specs.declared.Refusal.{Refusal}
 use Rattle.batch.specs.Scene.{refusal_number, scene_of}
 use Rattle.demands.specs.Demand1.{BadForEach}
 use Rattle.demands.specs.Demand3.{Item, sent, kept, Answered}
@@ -37,7 +36,7 @@ abbrev pub OneByOne : Type 0
 OneByOne =
     (edition : Edition) (w : Wall) (bursts : List (List ℕ)) (room : ℕ) → 41 * length bursts ≤ room
     → let e = session edition w bursts in
-    scene_of edition w (list_of bursts) room ≡ record { wall = e.wall; answers = list_of (map (sent_bytes edition) e.replies); refusal = Refusal.Nothing }
+    scene_of edition w (list_of bursts) room ≡ record { wall = e.wall; answers = list_of (map (sent_bytes edition) e.replies); refusal = None }
 
 -- In order: wherever a list is parted, its rest is played on the wall that the front leaves, and answered behind the front's answers.
 abbrev pub InOrder : Type 0

@@ -9,7 +9,7 @@ ghost use Rattle.answers.specs.Played.{answered_on};
 ghost use Rattle.line.specs.Receiver.{receiver_of, with_byte, burst_of, at_mark};
 
 use answers::{Played, Reply};
-use packet::{Damage, Edition, LONGEST, Verdict};
+use packet::{Damage, Edition, LONGEST, Reading, Verdict};
 use panels::Table;
 
 // Counted where more bytes came than a packet may have.
@@ -80,9 +80,12 @@ impl Receiver {
         let bytes = self.bytes;
         let n = self.count;
         if LONGEST < n {
-            let verdict = Verdict::Damaged(Damage::TooLong);
-            let seems = packet::seems_for(edition, &bytes);
-            return answers::answered_on(t, verdict, &bytes[..0], seems);
+            let reading = Reading {
+                verdict: Verdict::Damaged(Damage::TooLong),
+                data: &[],
+                seems: packet::seems_for(edition, &bytes),
+            };
+            return answers::answered_on(t, reading);
         }
         answers::play(edition, t, &bytes[..n])
     }

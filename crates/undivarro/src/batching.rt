@@ -14,7 +14,7 @@ use panels::Table;
 // A list played on a table, on a line of an edition: the answers, and the setup as it then is, in an output with room for it.
 pub(crate) fn played(
     edition: Edition,
-    t: Table,
+    mut t: Table,
     list: &[u8],
     answers: &mut [u8],
     out: &mut [u8],
@@ -24,19 +24,16 @@ pub(crate) fn played(
     ensures answers_after { answers.new ≡ (after_list edition (panels_of t) list.now answers.old out.old).answer }
     ensures out_after { out.new ≡ (after_list edition (panels_of t) list.now answers.old out.old).out }
 {
-    let batch = batch::play_list(edition, t, list, answers);
-    let table = batch.table;
-    let answered = batch.written;
-    let why = batch.refusal;
-    let refusal = batch::refusal_number(why);
-    if refusal != 0 {
-        return parts::refused(refusal as u32);
-    }
-    let written = parts::put_setup(Form::Two, table, out);
-    Outcome {
-        refusal: 0,
-        damage: 0,
-        answered,
-        written,
+    match batch::play_list(edition, &mut t, list, answers) {
+        Err(refusal) => parts::refused(u32::from(u8::from(refusal))),
+        Ok(answered) => {
+            let written = parts::put_setup(Form::Two, t, out);
+            Outcome {
+                refusal: 0,
+                damage: 0,
+                answered,
+                written,
+            }
+        }
     }
 }

@@ -8,10 +8,9 @@ ghost use Rattle.image_write.specs.Written.{size_of};
 ghost use Rattle.undivarro.specs.Calls.{after_burst};
 
 use crate::{Outcome, parts};
-use answers::Entry;
 use image_forms::Form;
 use packet::{Edition, Verdict};
-use panels::{MOST_PANELS, Table};
+use panels::Table;
 
 // The outcome of a burst that was played.
 fn given(answered: usize, written: usize, verdict: Verdict) -> Outcome
@@ -27,10 +26,10 @@ fn given(answered: usize, written: usize, verdict: Verdict) -> Outcome
 }
 
 // A burst played on a table, on a line of an edition: the answer, and the setup as it then is, in outputs with room for them. It does
-// what answers::play does, but a table that nothing changes is written where it lies.
+// what answers::play does.
 pub(crate) fn played(
     edition: Edition,
-    t: Table,
+    mut t: Table,
     burst: &[u8],
     answer: &mut [u8],
     out: &mut [u8],
@@ -40,25 +39,11 @@ pub(crate) fn played(
     ensures answer_after { answer.new ≡ (after_burst edition (panels_of t) burst.now answer.old out.old).answer }
     ensures out_after { out.new ≡ (after_burst edition (panels_of t) burst.now answer.old out.old).out }
 {
-    let verdict = packet::verdict_of(edition, burst);
-    let d = packet::data_of(edition, burst, verdict);
-    let seems = packet::seems_for(edition, burst);
-    let names = answers::names_in(verdict, seems);
-    let at = t.places[names.id.0 as usize] as usize;
-    let entry = Entry {
-        count: panels::count_of(t),
-        members: t.members[names.group.0 as usize] as usize,
-        at,
-        panel: t.panels[at % MOST_PANELS],
-    };
-    let heard = answers::hear(edition, entry, verdict, d, seems, answer);
-    let answered = heard.sent;
-    let change = heard.change;
-    if change.first == change.end {
-        let written = parts::put_setup(Form::Two, t, out);
-        return given(answered, written, verdict);
+    let reading = packet::read(edition, burst);
+    let heard = answers::hear(edition, &t, reading, answer);
+    if let Some(change) = heard.change {
+        answers::store(&mut t, change, reading.data);
     }
-    let after = answers::stored(t, change, d);
-    let written = parts::put_setup(Form::Two, after, out);
-    given(answered, written, verdict)
+    let written = parts::put_setup(Form::Two, t, out);
+    given(heard.sent, written, reading.verdict)
 }

@@ -1,52 +1,64 @@
-use mathlib.Core.Path.{◌≡◌, sym, ap, ap₂, ◌∙◌}
-use lib.ListN.{length}
+-- A list that is not refused is whole, and there is room; on a refusal nothing changes. Assumes nothing.
+use Rattle.std.proofs.Common.{◌≡◌, List, ℕ, length, Some, Ok, Result, sym, ap, ◌∙◌, arith}
+use mathlib.Core.List.{[]}
 use Rattle.lists.specs.Lists.{laid_over}
-use Rattle.bursts.specs.Bursts.{bursts_in}
+use Rattle.bursts.specs.Left.{bursts_left}
+use Rattle.bursts.proofs.Lists.{made_whole, made_none}
+use Rattle.packet.specs.declared.Edition.{Edition}
 use Rattle.panels.specs.declared.Table.{Table}
-use Rattle.panels.specs.Wall.{panels_of}
+use Rattle.panels.specs.Wall.{panels_of, table_of}
 use Rattle.batch.specs.declared.Refusal.{Refusal}
-use Rattle.batch.specs.declared.Batch.{Batch}
-use Rattle.batch.specs.Scene.{Scene, refusal_number, refusal_of, scene_of, batch_of}
-use Rattle.batch.proofs.Scenes.{taken-whole, scene_played, scene_refused}
+use Rattle.batch.specs.Scene.{Scene, scene_of, played_out, written_of}
+use Rattle.batch.proofs.Scenes.{taken_whole, no_room, cut_refused, scene_played, scene_refused}
 use Rattle.batch.proofs.play_list.Goals as goal
+use Rattle.batch.proofs.play_list.Goals.{In_default, Then-out-len, Else-out-len}
 
--- A list that is not refused is whole, and there is room. Assumes nothing.
-pub returns-then-refusal_number-ne0-clause-value : goal.returns-then-refusal_number-ne0-clause-value
-unfolding scene_of
-returns-then-refusal_number-ne0-clause-value c =
-    let a = c.args in
-    let number : c.refusal_number.result ≡ refusal_number (refusal_of a.list.now (length a.out.now)) = c.refusal_number.ensures ∙ ap refusal_number c.refusal_of-refusal.ensures in
-    ap₂ {C = Batch} (λ (t : Table) (r : Refusal). record { table = t; written = 0; refusal = r }) c.requires.held c.refusal_of-refusal.ensures
-    ∙ ap batch_of (scene_refused a.edition (panels_of a.t) (bursts_in a.list.now).whole (refusal_of a.list.now (length a.out.now)) (λ e. c.if-refusal_number-ne0.true (number ∙ e)))
+module _ (edition : Edition) (t : Table) (list out : List ℕ) where
+  abbrev scene : Scene
+  scene = scene_of edition (panels_of t) list (length out)
 
-pub returns-then-refusal_number-ne0-clause-out_after : goal.returns-then-refusal_number-ne0-clause-out_after
-unfolding scene_of laid_over
-returns-then-refusal_number-ne0-clause-out_after c =
-    let a = c.args in
-    let number : c.refusal_number.result ≡ refusal_number (refusal_of a.list.now (length a.out.now)) = c.refusal_number.ensures ∙ ap refusal_number c.refusal_of-refusal.ensures in
-    ap (λ (s : Scene). laid_over s.answers a.out.now)
-    (scene_refused a.edition (panels_of a.t) (bursts_in a.list.now).whole (refusal_of a.list.now (length a.out.now)) (λ e. c.if-refusal_number-ne0.true (number ∙ e)))
+-- a list that stops inside a burst
+cut : (c : In_default) → scene c.args.edition c.args.t.now c.args.list.now c.args.out.now ≡ record { wall = panels_of c.args.t.now; answers = []; refusal = Some Refusal.Cut }
+cut c = scene_refused _ _ _ _ (cut_refused _ _ (made_none c.args.list.now c.of.ensures c.in_default.is))
 
-pub play_all-requires : goal.play_all-requires
-play_all-requires c =
-    let a = c.args in
-    let number : c.refusal_number.result ≡ refusal_number (refusal_of a.list.now (length a.out.now)) = c.refusal_number.ensures ∙ ap refusal_number c.refusal_of-refusal.ensures in
-    let (whole, room) = taken-whole a.list.now (length a.out.now) (sym number ∙ c.if-refusal_number-ne0.false) in
-    (c.requires, whole, room)
+-- an output without room for each
+small : (c : Then-out-len) → scene c.args.edition c.args.t.now c.args.list.now c.args.out.now ≡ record { wall = panels_of c.args.t.now; answers = []; refusal = Some Refusal.NoRoom }
+small c =
+    let (whole, left) = made_whole c.args.list.now c.of.ensures c.in-Some.bursts c.in-Some.is in
+    scene_refused _ _ _ _ (no_room _ _ whole (omega (arith, c.len.ensures, ap {B = ℕ} length left)))
+
+-- all bursts played
+all : (c : Else-out-len) → scene c.args.edition c.args.t.now c.args.list.now c.args.out.now ≡ played_out c.args.edition (panels_of c.args.t.now) (bursts_left c.in-Some.bursts)
+all c =
+    let (whole, left) = made_whole c.args.list.now c.of.ensures c.in-Some.bursts c.in-Some.is in
+    scene_played _ _ _ _ (taken_whole _ _ whole (omega (arith, c.len.ensures, ap {B = ℕ} length left)))
+    ∙ ap (λ (l : List (List ℕ)). played_out c.args.edition (panels_of c.args.t.now) l) (sym left)
+
+pub returns-in_default-clause-value : goal.returns-in_default-clause-value
+returns-in_default-clause-value c = sym (ap written_of (cut (goal.at.returns-in_default-clause-value c).In_default))
+
+pub returns-in_default-clause-table_after : goal.returns-in_default-clause-table_after
+returns-in_default-clause-table_after c = c.requires.held ∙ sym (ap (λ (s : Scene). table_of s.wall) (cut (goal.at.returns-in_default-clause-table_after c).In_default))
+
+pub returns-in_default-clause-out_after : goal.returns-in_default-clause-out_after
+unfolding laid_over
+returns-in_default-clause-out_after c = sym (ap (λ (s : Scene). laid_over s.answers c.args.out.now) (cut (goal.at.returns-in_default-clause-out_after c).In_default))
+
+pub returns-then-out-len-clause-value : goal.returns-then-out-len-clause-value
+returns-then-out-len-clause-value c = sym (ap written_of (small (goal.at.returns-then-out-len-clause-value c).Then-out-len))
+
+pub returns-then-out-len-clause-table_after : goal.returns-then-out-len-clause-table_after
+returns-then-out-len-clause-table_after c = c.requires.held ∙ sym (ap (λ (s : Scene). table_of s.wall) (small (goal.at.returns-then-out-len-clause-table_after c).Then-out-len))
+
+pub returns-then-out-len-clause-out_after : goal.returns-then-out-len-clause-out_after
+unfolding laid_over
+returns-then-out-len-clause-out_after c = sym (ap (λ (s : Scene). laid_over s.answers c.args.out.now) (small (goal.at.returns-then-out-len-clause-out_after c).Then-out-len))
 
 pub returns-clause-value : goal.returns-clause-value
-unfolding scene_of
-returns-clause-value c =
-    let a = c.args in
-    let number : c.refusal_number.result ≡ refusal_number (refusal_of a.list.now (length a.out.now)) = c.refusal_number.ensures ∙ ap refusal_number c.refusal_of-refusal.ensures in
-    c.play_all.ensures.value
-    ∙ ap batch_of (scene_played a.edition (panels_of a.t) (bursts_in a.list.now).whole (refusal_of a.list.now (length a.out.now)) (sym number ∙ c.if-refusal_number-ne0.false))
+returns-clause-value c = ap {B = Result ℕ Refusal} Ok c.play_all.ensures.value ∙ sym (ap written_of (all (goal.at.returns-clause-value c).Else-out-len))
+
+pub returns-clause-table_after : goal.returns-clause-table_after
+returns-clause-table_after c = c.play_all.ensures.table_after ∙ sym (ap (λ (s : Scene). table_of s.wall) (all (goal.at.returns-clause-table_after c).Else-out-len))
 
 pub returns-clause-out_after : goal.returns-clause-out_after
-unfolding scene_of
-returns-clause-out_after c =
-    let a = c.args in
-    let number : c.refusal_number.result ≡ refusal_number (refusal_of a.list.now (length a.out.now)) = c.refusal_number.ensures ∙ ap refusal_number c.refusal_of-refusal.ensures in
-    c.play_all.ensures.out_after
-    ∙ ap (λ (s : Scene). laid_over s.answers a.out.now)
-    (scene_played a.edition (panels_of a.t) (bursts_in a.list.now).whole (refusal_of a.list.now (length a.out.now)) (sym number ∙ c.if-refusal_number-ne0.false))
+returns-clause-out_after c = c.play_all.ensures.out_after ∙ sym (ap (λ (s : Scene). laid_over s.answers c.args.out.now) (all (goal.at.returns-clause-out_after c).Else-out-len))

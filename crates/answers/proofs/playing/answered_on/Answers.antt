@@ -1,35 +1,37 @@
-use mathlib.Core.Path.{◌≡◌, ap, ◌∙◌}
 use Rattle.std.specs.Prelude.{Option}
+use Rattle.std.proofs.Common.{◌≡◌, sym, ap, ap₂, ◌∙◌}
 use Rattle.packet.specs.declared.Damage.{Damage}
 use Rattle.panels.specs.declared.Table.{Table}
-use Rattle.panels.specs.Wall.{panels_of}
-use Rattle.answers.specs.declared.Entry.{Entry}
+use Rattle.panels.specs.Wall.{panels_of, table_of}
 use Rattle.answers.specs.declared.Played.{Played}
 use Rattle.answers.specs.declared.Reply.{Reply}
-use Rattle.answers.specs.Turn.{names_in, turn_by}
-use Rattle.answers.proofs.Turns.{entry_of}
-use Rattle.answers.proofs.Entries.{entry_is, nothing_left, fits, something_left}
-use borrow.Author.Rules.{rules}
+use Rattle.answers.specs.Played.{answered_by}
+use Rattle.answers.specs.declared.Turn.{Turn}
+use Rattle.answers.proofs.Entries.{turn_is, leaves, left_is, change_fits, table_changed, table_stays}
 use Rattle.answers.proofs.playing.answered_on.Goals as goal
+use Rattle.answers.proofs.playing.answered_on.Goals.{in-Some, in_default}
 
--- The entry is the wall's, so the turn leaves what the definition says. Assumes nothing.
+-- The turn leaves what the definition says. Assumes nothing.
 abbrev damaged : Table → Reply → Option Damage → Played
 damaged t r d = record { table = t; reply = r; damage = d }
 
-pub returns-then-change : goal.returns-then-change
-returns-then-change c =
-    let turn_is : let a = c.args in c.turn_of-turn.result ≡ turn_by (entry_of (panels_of a.t) (names_in a.verdict a.seems)) a.verdict a.d.now a.seems = let a = c.args in let f = c.requires in let there = entry_is f c.names_in-names.result (search rules) (search rules) _ c.count_of.ensures _ in c.turn_of-turn.ensures ∙ ap (λ (e : Entry). turn_by e a.verdict a.d.now a.seems) (there ∙ ap (entry_of (panels_of a.t)) c.names_in-names.ensures) in
+pub store-requires : goal.store-requires
+store-requires c =
     let a = c.args in
-    ap (damaged _ _) c.damage_in-damage.ensures ∙ nothing_left c.requires a.verdict a.d.now a.seems turn_is c.if-change.true
-
-pub stored-table-requires : goal.stored-table-requires
-stored-table-requires c =
-    let turn_is : let a = c.args in c.turn_of-turn.result ≡ turn_by (entry_of (panels_of a.t) (names_in a.verdict a.seems)) a.verdict a.d.now a.seems = let a = c.args in let f = c.requires in let there = entry_is f c.names_in-names.result (search rules) (search rules) _ c.count_of.ensures _ in c.turn_of-turn.ensures ∙ ap (λ (e : Entry). turn_by e a.verdict a.d.now a.seems) (there ∙ ap (entry_of (panels_of a.t)) c.names_in-names.ensures) in
-    let a = c.args in
-    (c.requires, fits c.requires a.verdict a.d.now a.seems turn_is c.if-change.false)
+    let f = c.requires in
+    let turn = turn_is f a.reading.verdict a.reading.data.now a.reading.seems c.names_in.ensures c.entry_of-entry.ensures c.turn_of-turn.ensures in
+    (f, change_fits f a.reading.data.now _ (sym (ap (λ (t : Turn). t.change) turn) ∙ c.in-Some.is) (leaves f a.reading.verdict a.reading.data.now a.reading.seems))
 
 pub returns : goal.returns
 returns c =
-    let turn_is : let a = c.args in c.turn_of-turn.result ≡ turn_by (entry_of (panels_of a.t) (names_in a.verdict a.seems)) a.verdict a.d.now a.seems = let a = c.args in let f = c.requires in let there = entry_is f c.names_in-names.result (search rules) (search rules) _ c.count_of.ensures _ in c.turn_of-turn.ensures ∙ ap (λ (e : Entry). turn_by e a.verdict a.d.now a.seems) (there ∙ ap (entry_of (panels_of a.t)) c.names_in-names.ensures) in
     let a = c.args in
-    ap (damaged _ _) c.damage_in-damage.ensures ∙ something_left c.requires a.verdict a.d.now a.seems turn_is c.if-change.false c.stored-table.ensures
+    let f = c.requires in
+    let turn = turn_is f a.reading.verdict a.reading.data.now a.reading.seems c.names_in.ensures c.entry_of-entry.ensures c.turn_of-turn.ensures in
+    let change = sym (ap (λ (t : Turn). t.change) turn) in
+    let all = leaves f a.reading.verdict a.reading.data.now a.reading.seems in
+    let table : c.match-turn.t ≡ table_of (answered_by a.reading.verdict (panels_of a.t) a.reading.data.now a.reading.seems).wall =
+    elim c.match-turn.branch [
+      | in-Some w ↦ w.t-is ∙ table_changed f a.reading.data.now _ (change ∙ w.in-Some.is) all w.store.ensures
+      | in_default w ↦ w.t-is ∙ table_stays f a.reading.data.now _ (change ∙ w.in_default.is) all
+    ] in
+    ap₂ (damaged c.match-turn.t) (ap (λ (t : Turn). t.reply) turn) c.damage_in.ensures ∙ left_is f a.reading.verdict a.reading.data.now a.reading.seems table
