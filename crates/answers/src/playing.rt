@@ -43,8 +43,8 @@ pub fn store(t: &mut Table, change: Change, d: &[u8])
 // What a burst comes to on a table, with its answer written out on a line of an edition.
 pub fn hear(edition: Edition, t: &Table, reading: Reading, out: &mut [u8]) -> Heard
     requires { WellFormed t.now × (longest ≤ length out.old) }
-    ensures value { (result ≡ heard_as edition (turn_on (panels_of t.now) reading.verdict reading.data.now reading.seems)) × (result.sent ≤ longest) }
-    ensures out_after { out.new ≡ laid_over (sent_bytes edition (turn_on (panels_of t.now) reading.verdict reading.data.now reading.seems).reply) out.old }
+    ensures value { (result ≡ heard_as edition (turn_on (panels_of t.now) reading.entry.verdict reading.entry.data.now reading.entry.seems)) × (result.sent ≤ longest) }
+    ensures out_after { out.new ≡ laid_over (sent_bytes edition (turn_on (panels_of t.now) reading.entry.verdict reading.entry.data.now reading.entry.seems).reply) out.old }
 {
     let entry = entry_of(t, turning::names_in(reading));
     let turn = turning::turn_of(entry, reading);
@@ -56,7 +56,7 @@ pub fn hear(edition: Edition, t: &Table, reading: Reading, out: &mut [u8]) -> He
 // The answer to what was read of a burst.
 pub fn answered_on(mut t: Table, reading: Reading) -> Played
     requires { WellFormed t }
-    ensures { result ≡ answered_on t (reading_in reading) }
+    ensures { result ≡ answered_on t (reading_in reading.entry) }
 {
     let entry = entry_of(&t, turning::names_in(reading));
     let turn = turning::turn_of(entry, reading);

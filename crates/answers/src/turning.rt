@@ -10,7 +10,7 @@ use panels::{MOST_PANELS, Panel};
 
 // A damaged burst names the panel that it seems to be for.
 pub fn names_in(reading: Reading) -> Names
-    ensures { result ≡ names_in reading.verdict reading.seems }
+    ensures { result ≡ names_in reading.entry.verdict reading.entry.seems }
 {
     let nobody = Names {
         id: MonitorId(0),
@@ -161,7 +161,7 @@ fn turn_by(entry: Entry, names: Names, d: &[u8]) -> Turn
 // What a burst comes to, by what was read of it and what the table has of its names.
 #[tactic(auto, unfolding(crate::specs::Turn::turn_by))]
 pub fn turn_of(entry: Entry, reading: Reading) -> Turn
-    ensures { result ≡ turn_by entry reading.verdict reading.data.now reading.seems }
+    ensures { result ≡ turn_by entry reading.entry.verdict reading.entry.data.now reading.entry.seems }
 {
     match reading.verdict {
         Verdict::Empty => {
