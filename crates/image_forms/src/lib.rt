@@ -81,6 +81,7 @@ fn is_fresh(row: Row, values: &[u8]) -> bool
     ensures { result ≡ is_fresh row values.now }
 {
     let fresh = settings::fresh(Profile::General);
+<<<<<<< HEAD
     let mut at = row.place();
     let end = at + row.byte_count();
     while at < end {
@@ -90,6 +91,11 @@ fn is_fresh(row: Row, values: &[u8]) -> bool
         at += 1;
     }
     true
+=======
+    let first = settings::place_of(row);
+    let end = first + settings::byte_count(row);
+    values[first..end] == fresh[first..end]
+>>>>>>> 2d0da59a4fda1db34aa663d649bfbf468d46a130
 }
 
 // Whether a form loses nothing of a panel with this profile and these values.
