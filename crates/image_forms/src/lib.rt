@@ -81,21 +81,9 @@ fn is_fresh(row: Row, values: &[u8]) -> bool
     ensures { result ≡ is_fresh row values.now }
 {
     let fresh = settings::fresh(Profile::General);
-<<<<<<< HEAD
-    let mut at = row.place();
-    let end = at + row.byte_count();
-    while at < end {
-        if values[at] != fresh[at] {
-            return false;
-        }
-        at += 1;
-    }
-    true
-=======
-    let first = settings::place_of(row);
-    let end = first + settings::byte_count(row);
+    let first = row.place();
+    let end = first + row.byte_count();
     values[first..end] == fresh[first..end]
->>>>>>> 2d0da59a4fda1db34aa663d649bfbf468d46a130
 }
 
 // Whether a form loses nothing of a panel with this profile and these values.
