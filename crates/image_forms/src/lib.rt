@@ -3,7 +3,7 @@
 
 ghost use Rattle.std.specs.Prelude.{◌≡◌, length, ok_or};
 ghost use Rattle.settings.specs.Settings.{value_count};
-ghost use Rattle.image_forms.specs.Forms.{form_byte, form_with, head_size, holds, has_field, is_fresh, keeps};
+ghost use Rattle.image_forms.specs.Forms.{form_byte, form_with, head_size, holds, has_field, is_fresh, keeps_row, keeps};
 
 use settings::{Profile, Row};
 
@@ -86,16 +86,21 @@ fn is_fresh(row: Row, values: &[u8]) -> bool
     values[first..end] == fresh[first..end]
 }
 
+// Whether a form loses nothing of a row: it has a field for it, or the row is fresh.
+fn keeps_row(form: Form, row: Row, values: &[u8]) -> bool
+    requires { length values.now ≡ value_count }
+    ensures { result ≡ keeps_row form row values.now }
+{
+    has_field(form, row) || is_fresh(row, values)
+}
+
 // Whether a form loses nothing of a panel with this profile and these values.
+#[tactic(auto, unfolding(crate::specs::Forms::keeps))]
 pub fn keeps(form: Form, profile: Profile, values: &[u8]) -> bool
     requires { length values.now ≡ value_count }
     ensures { result ≡ keeps form profile values.now }
 {
-    if !holds(form, profile) {
-        return false;
-    }
-    match form {
-        Form::One => is_fresh(Row::KIND, values) && is_fresh(Row::TILING, values),
-        Form::Two => true,
-    }
+    holds(form, profile)
+        && keeps_row(form, Row::KIND, values)
+        && keeps_row(form, Row::TILING, values)
 }

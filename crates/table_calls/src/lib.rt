@@ -92,8 +92,7 @@ pub fn add(
     if id.0 == 0 {
         return Err(Refusal::IdZero);
     }
-    let place = panels::place_of(was, id);
-    if let Some(_) = place {
+    if panels::place_of(was, id).is_some() {
         return Err(Refusal::IdTaken);
     }
     if group.0 == 0 {
@@ -127,10 +126,7 @@ pub fn remove(t: &mut Table, id: MonitorId) -> Result<(), Refusal>
     ensures table { t.new ≡ table_of (removed (panels_of t.old) id) }
 {
     let was = *t;
-    let place = panels::place_of(was, id);
-    let Some(k) = place else {
-        return Err(Refusal::NoPanel);
-    };
+    let k = panels::place_of(was, id).ok_or(Refusal::NoPanel)?;
     *t = closed_up(was, k);
     Ok(())
 }

@@ -1,10 +1,10 @@
-use mathlib.Core.Path.{◌≡◌, sym, ap, ap₂, ◌∙◌}
+use mathlib.Core.Path.{◌≡◌, ap, ap₂, ◌∙◌}
 use mathlib.Core.List.{◌∷◌, [], ◌++◌}
 use Prim.Native.Nat.{ℕ, ◌+◌, ◌<◌}
 use native.Mathlib.Omega.{arith}
 use borrow.Author.Tests.{le-leb, lt-leb, eq-eqb, ne_eqb}
 use lib.ListN.{length, set, length-append}
-use Rattle.std.specs.Prelude.{List, Some, None, Err, Result}
+use Rattle.std.specs.Prelude.{List, true, Some, None, is_some, Err, Result}
 use Rattle.std.specs.Option.{option_map_or}
 use Rattle.std.proofs.lemmas.Result.{err_from_is_err_and}
 use Rattle.tiling.specs.Kinds.{kind_with}
@@ -46,11 +46,11 @@ returns-then-id-eq0 c =
     let (answer, table) = stays {t = t} _ _ _ _ _ c.requires (simp (lt-leb most_panels (length (panels_of t)) (omega arith), eq-eqb _ _ c.if-id-eq0.true)) in
     record { answer = answer; table = table }
 
-pub returns-in-Some : goal.returns-in-Some
+pub returns-then-is_some : goal.returns-then-is_some
 unfolding add_refusal
-returns-in-Some c =
+returns-then-is_some c =
     let t = c.args.t.now in
-    let there = sym c.place_of-place.ensures ∙ c.in-Some.is in
+    let there : is_some (place_of c.args.id (panels_of c.args.t.now)) ≡ true = grind (arith, c.place_of.ensures, c.is_some.ensures, c.if-is_some.true) in
     let (answer, table) = stays {t = t} _ _ _ _ _ c.requires (simp (lt-leb most_panels (length (panels_of t)) (omega arith), ne_eqb _ _ c.if-id-eq0.false, there)) in
     record { answer = answer; table = table }
 
@@ -58,7 +58,7 @@ pub returns-then-group-eq0 : goal.returns-then-group-eq0
 unfolding add_refusal
 returns-then-group-eq0 c =
     let t = c.args.t.now in
-    let nowhere = sym c.place_of-place.ensures ∙ c.in_default.is in
+    let nowhere : place_of c.args.id (panels_of c.args.t.now) ≡ None = grind (arith, c.place_of.ensures, c.is_some.ensures, c.if-is_some.false) in
     let (answer, table) = stays {t = t} _ _ _ _ _ c.requires (simp (lt-leb most_panels (length (panels_of t)) (omega arith), ne_eqb _ _ c.if-id-eq0.false, nowhere, eq-eqb _ _ c.if-group-eq0.true)) in
     record { answer = answer; table = table }
 
@@ -68,7 +68,7 @@ returns-in_err-profile c =
     let w = panels_of a.t.now in
     let p = err_from_is_err_and c.from_residual.result c.from_residual.ensures.1 in
     let unknown : profile_with c.args.number ≡ None = grind (arith, c.try_from.ensures, c.in_err-profile.was) in
-    let nowhere : place_of c.args.id (panels_of c.args.t.now) ≡ None = sym c.place_of-place.ensures ∙ c.in_default.is in
+    let nowhere : place_of c.args.id (panels_of c.args.t.now) ≡ None = grind (arith, c.place_of.ensures, c.is_some.ensures, c.if-is_some.false) in
     let e = asked w a.id a.group a.number a.kind (omega (arith, c.count_of-n.ensures)) c.if-id-eq0.false nowhere c.if-group-eq0.false in
     let (answer, table) = stays {t = a.t.now} _ _ _ _ Refusal.UnknownProfile c.requires (rw (e, unknown)) in
     record { answer = p.1 ∙ ap (λ (r : Refusal). Err r) p.2 ∙ answer; table = table }
@@ -80,7 +80,7 @@ returns-in_err-kind c =
     let p = err_from_is_err_and c.from_residual-in_err-kind.result c.from_residual-in_err-kind.ensures.1 in
     let known : profile_with c.args.number ≡ Some c.in_ok-profile.profile = grind (arith, c.try_from.ensures, c.in_ok-profile.was) in
     let unknown : kind_with c.args.kind ≡ None = grind (arith, c.try_from-2.ensures, c.in_err-kind.was) in
-    let nowhere : place_of c.args.id (panels_of c.args.t.now) ≡ None = sym c.place_of-place.ensures ∙ c.in_default.is in
+    let nowhere : place_of c.args.id (panels_of c.args.t.now) ≡ None = grind (arith, c.place_of.ensures, c.is_some.ensures, c.if-is_some.false) in
     let e = asked w a.id a.group a.number a.kind (omega (arith, c.count_of-n.ensures)) c.if-id-eq0.false nowhere c.if-group-eq0.false in
     let (answer, table) = stays {t = a.t.now} _ _ _ _ Refusal.UnknownKind c.requires (rw (e, known, unknown)) in
     record { answer = p.1 ∙ ap (λ (r : Refusal). Err r) p.2 ∙ answer; table = table }
@@ -106,7 +106,7 @@ returns c =
     let room : length (panels_of c.args.t.now) < most_panels = omega (arith, c.count_of-n.ensures) in
     let known : profile_with c.args.number ≡ Some c.in_ok-profile.profile = grind (arith, c.try_from.ensures, c.in_ok-profile.was) in
     let kind : kind_with c.args.kind ≡ Some c.in_ok-kind.kind = grind (arith, c.try_from-2.ensures, c.in_ok-kind.was) in
-    let nowhere : place_of c.args.id (panels_of c.args.t.now) ≡ None = sym c.place_of-place.ensures ∙ c.in_default.is in
+    let nowhere : place_of c.args.id (panels_of c.args.t.now) ≡ None = grind (arith, c.place_of.ensures, c.is_some.ensures, c.if-is_some.false) in
     let taken : let a = c.args in add_refusal (panels_of a.t.now) a.id a.group a.number a.kind ≡ None = let a = c.args in asked (panels_of a.t.now) a.id a.group a.number a.kind room c.if-id-eq0.false nowhere c.if-group-eq0.false ∙ rw (known, kind) in
     let e = grown w _ _ c.fresh_panel-p.result c.panels_of-places.ensures c.count_of-n.ensures room in
     record {
