@@ -60,8 +60,8 @@ pub fn answered_on(mut t: Table, reading: Reading) -> Played
 {
     let entry = entry_of(&t, turning::names_in(reading));
     let turn = turning::turn_of(entry, reading);
-    if let Some(change) = turn.change {
-        store(&mut t, change, reading.data);
+    if let Some(change) = &turn.change {
+        store(&mut t, *change, reading.data);
     }
     Played {
         table: t,

@@ -7,7 +7,8 @@ use native.Mathlib.Omega.{arith}
 use lib.ListN.{get_or}
 use Rattle.std.specs.Prelude.{Option, Some, None}
 use Rattle.settings.specs.Settings.{kind_row}
-use Rattle.codes.specs.declared.Found.{Found}
+use Rattle.std.proofs.Common.{Option, Some, None}
+use Rattle.codes.specs.declared.Code.{Code}
 use Rattle.codes.specs.Found.{found_by}
 use Rattle.lists.proofs.Mapped.{at_map}
 use Rattle.packet.specs.declared.Edition.{Edition}
@@ -74,10 +75,10 @@ still_all edition w good b (r ∷ rs) (request, stands, others) = (request, (λ 
 abbrev Once : Edition → Move → Type 0
 Once edition m = (sendings_in m.outcome ≡ 1) × (m.next ≡ idle edition)
 
-ends_once : (edition : Edition) (f : Found) (r : Request) (p : Panel) (m : Move) → EndsWith edition f r p 1 m → Once edition m
-ends_once edition (Found.Set row) r p m e = rw e (refl, refl)
-ends_once edition (Found.Get row) r p m e = rw e (refl, refl)
-ends_once edition Found.Nothing r p m e = absurd e
+ends_once : (edition : Edition) (f : Option Code) (r : Request) (p : Panel) (m : Move) → EndsWith edition f r p 1 m → Once edition m
+ends_once edition (Some (Code.Set row)) r p m e = rw e (refl, refl)
+ends_once edition (Some (Code.Get row)) r p m e = rw e (refl, refl)
+ends_once edition None r p m e = absurd e
 
 module _ (edition : Edition) (t : Table) (f : WellFormed t) (r : Request) (request : is_request edition r ≡ true)
     (stands : is_heard r.id r.group ≡ true → StandsAs r (panels_of t) (place_of r.id (panels_of t))) where

@@ -7,7 +7,8 @@ use native.Mathlib.Omega.{arith}
 use borrow.Author.Tests.{ne_eqb}
 use lib.ListN.{length, get_or}
 use Rattle.lists.proofs.Mapped.{at_map}
-use Rattle.codes.specs.declared.Found.{Found}
+use Rattle.std.proofs.Common.{Option, Some}
+use Rattle.codes.specs.declared.Code.{Code}
 use Rattle.codes.specs.Found.{found_by}
 use Rattle.codes.proofs.Laws.{IsFound, found_right}
 use Rattle.settings.specs.Settings.{set_code}
@@ -100,10 +101,10 @@ pub none_in_common : NoneInCommon
 none_in_common edition t f b c apart = change_places edition t f b c (apart_free edition (panels_of t) b c apart)
 
 -- a set with a code is of the row that has it
-set_with : (code row : ℕ) (d values : List ℕ) → d ≡ code ∷ values → found_by code ≡ Found.Set row → (command d ≡ set_of row values) × (set_code row ≡ code)
+set_with : (code row : ℕ) (d values : List ℕ) → d ≡ code ∷ values → found_by code ≡ Some (Code.Set row) → (command d ≡ set_of row values) × (set_code row ≡ code)
 unfolding command
 set_with code row d values is found =
-    (ap command is ∙ ap (λ (f : Found). command_by f values) found, (subst (IsFound code) found (found_right code)).1)
+    (ap command is ∙ ap (λ (f : Option Code). command_by f values) found, (subst (IsFound code) found (found_right code)).1)
 
 pub other_codes : OtherCodes
 other_codes edition t f b c (code, other, ne, (i, g, n, row, vs, _, is, found), (j, h, m, row_other, us, _, is-other, found-other)) =

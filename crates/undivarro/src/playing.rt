@@ -41,8 +41,8 @@ pub(crate) fn played(
 {
     let reading = packet::read(edition, burst);
     let heard = answers::hear(edition, &t, reading, answer);
-    if let Some(change) = heard.change {
-        answers::store(&mut t, change, reading.data);
+    if let Some(change) = &heard.change {
+        answers::store(&mut t, *change, reading.data);
     }
     let written = parts::put_setup(Form::Two, t, out);
     given(heard.sent, written, reading.verdict)

@@ -12,13 +12,13 @@ at : (n : ℕ) → n ≡ place tiling_row → n ≡ 2
 at n e = e ∙ third
 
 pub overflow_add-first : goal.overflow_add-first
-overflow_add-first g c = omega (arith, at c.place_of-first.result c.place_of-first.ensures)
+overflow_add-first g c = omega (arith, at c.place-first.result c.place-first.ensures)
 
 pub bounds-values-first : goal.bounds-values-first
-bounds-values-first g c = omega (arith, at c.place_of-first.result c.place_of-first.ensures)
+bounds-values-first g c = omega (arith, at c.place-first.result c.place-first.ensures)
 
 pub overflow_add-first-in-Some : goal.overflow_add-first-in-Some
-overflow_add-first-in-Some g c = omega (arith, at c.place_of-first.result c.place_of-first.ensures)
+overflow_add-first-in-Some g c = omega (arith, at c.place-first.result c.place-first.ensures)
 
 pub bounds-values-first-in-Some : goal.bounds-values-first-in-Some
-bounds-values-first-in-Some g c = omega (arith, at c.place_of-first.result c.place_of-first.ensures)
+bounds-values-first-in-Some g c = omega (arith, at c.place-first.result c.place-first.ensures)
