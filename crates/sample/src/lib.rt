@@ -25,6 +25,7 @@ pub fn two_panels() -> Table
 }
 
 // The reply of the sample wall, fresh, to a burst on a line of an edition.
+#[tactic(auto, using(panels::proofs::Laws::panels_of_table))]
 pub fn reply_to(edition: Edition, burst: &[u8]) -> Reply
     ensures { result ≡ (played edition two_panels burst.now).reply }
 {
@@ -33,6 +34,7 @@ pub fn reply_to(edition: Edition, burst: &[u8]) -> Reply
 }
 
 // Its reply to the burst the second time.
+#[tactic(auto, using(panels::proofs::Laws::panels_of_table, answers::proofs::Formed::answered_formed))]
 pub fn reply_again(edition: Edition, burst: &[u8]) -> Reply
     ensures { result ≡ (played edition (played edition two_panels burst.now).wall burst.now).reply }
 {
