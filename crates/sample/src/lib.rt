@@ -50,6 +50,7 @@ pub struct Shown<'a>(pub &'a [u8]);
 impl fmt::Display for Shown<'_> {
     ghost output = { λ shown. Some (shown_of shown.0.now) };
 
+    #[tactic(auto, using(std::proofs::lemmas::Bool::Decides::nat_tests))]
     fn fmt<W: fmt::Write>(&self, f: &mut fmt::Formatter<W>) -> fmt::Result {
         if self.0.is_empty() {
             return f.write_str("-");
