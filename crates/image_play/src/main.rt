@@ -51,16 +51,14 @@ fn print_reading(rt: &impl Print, bytes: &[u8]) -> io::Result<()> {
     if 4096 < bytes.len() {
         return print!(rt; "too-long");
     }
-    let read = image_read::read_image(bytes);
-    let refusal = read.refusal;
-    let number = refusals::refusal_number(refusal);
-    if number != 0 {
-        return print_refusal(rt, number);
+    match image_read::read_image(bytes) {
+        Ok(table) => {
+            print_image(rt, Form::Two, table)?;
+            print!(rt; " ")?;
+            print_image(rt, Form::One, table)
+        }
+        Err(refusal) => print_refusal(rt, refusal.into()),
     }
-    let table = read.table;
-    print_image(rt, Form::Two, table)?;
-    print!(rt; " ")?;
-    print_image(rt, Form::One, table)
 }
 
 fn run(rt: &(impl Print + Input)) -> io::Result<()> {

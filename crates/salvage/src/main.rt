@@ -125,19 +125,17 @@ fn keep(rt: &(impl Files + Eprint + AllocGlobal), t: Table, path: &str) -> io::R
 }
 
 // The lines come first, and where they are lost no file is made: a setup without them does not tell what is from the image.
-#[tactic(auto, using(image_salvage::proofs::Sound::salvage_formed))]
+#[tactic(auto, using(image_salvage::proofs::Sound::table_formed))]
 fn salvage(
     rt: &(impl Files + Print + Eprint + AllocGlobal),
     image: &[u8],
     name: Option<String>,
 ) -> io::Result<()> {
     let mut lines = [0u8; LINES_CAP];
-    let salvaged = image_salvage::salvage(image, &mut lines);
-    let refusal = salvaged.refusal;
-    let number = refusals::refusal_number(refusal);
-    if number != 0 {
-        return print_line(rt, number);
-    }
+    let salvaged = match image_salvage::salvage(image, &mut lines) {
+        Ok(salvaged) => salvaged,
+        Err(refusal) => return print_line(rt, u8::from(refusal)),
+    };
     if let Err(error) = rt.write_all(text::front(&lines, salvaged.told)) {
         return tell(rt, "standard output", &error);
     }
