@@ -13,7 +13,8 @@ use text::{Hex, Stop};
 // The longest image of the input, whose length is two bytes, fits in it.
 const ROOM: usize = 65536;
 
-// Reads an image's length and the image into the front of buf, and answers the length, or where the input stopped.
+// Reads an image's length and the image into the front of buf, and answers the length, or where the input stopped. It stands beside
+// text::read_step, which reads a count of one byte: each clause of a function for both would have to speak of the count's bytes too.
 fn read_image<R: io::Read>(reader: &mut R, buf: &mut [u8]) -> io::Result<Result<usize, Stop>>
     requires { 65536 ≤ length buf.old }
 {
@@ -45,6 +46,7 @@ fn print_image(rt: &impl Print, form: Form, t: Table) -> io::Result<()>
     }
 }
 
+#[tactic(auto, using(image_read::proofs::Sound::read_formed))]
 fn print_reading(rt: &impl Print, bytes: &[u8]) -> io::Result<()> {
     if 4096 < bytes.len() {
         return print!(rt; "too-long");

@@ -20,6 +20,7 @@ use std::io;
 use tiling::Kind;
 
 // Plays a packet, and prints it and its answer.
+#[tactic(auto, using(answers::proofs::Formed::answered_formed))]
 fn send(rt: &impl Print, t: Table, burst: &[u8]) -> io::Result<Table>
     requires { WellFormed t }
     ensures { IfOk result

@@ -25,6 +25,7 @@ pub fn two_panels() -> Table
 }
 
 // The reply of the sample wall, fresh, to a burst on a line of an edition.
+#[tactic(auto, using(panels::proofs::Laws::panels_of_table))]
 pub fn reply_to(edition: Edition, burst: &[u8]) -> Reply
     ensures { result ≡ (played edition two_panels burst.now).reply }
 {
@@ -33,6 +34,7 @@ pub fn reply_to(edition: Edition, burst: &[u8]) -> Reply
 }
 
 // Its reply to the burst the second time.
+#[tactic(auto, using(panels::proofs::Laws::panels_of_table, answers::proofs::Formed::answered_formed))]
 pub fn reply_again(edition: Edition, burst: &[u8]) -> Reply
     ensures { result ≡ (played edition (played edition two_panels burst.now).wall burst.now).reply }
 {
@@ -48,6 +50,7 @@ pub struct Shown<'a>(pub &'a [u8]);
 impl fmt::Display for Shown<'_> {
     ghost output = { λ shown. Some (shown_of shown.0.now) };
 
+    #[tactic(auto, using(std::proofs::lemmas::Bool::Decides::nat_tests))]
     fn fmt<W: fmt::Write>(&self, f: &mut fmt::Formatter<W>) -> fmt::Result {
         if self.0.is_empty() {
             return f.write_str("-");

@@ -62,6 +62,7 @@ pub fn read_full<R: io::Read>(reader: &mut R, buf: &mut [u8]) -> io::Result<usiz
     ensures end { IfOk result (λ n. n < length buf.new → IsAtEnd (R.remaining reader.new)) }
     ensures err { OnErr result (TakesFewer (length buf.new) (R.remaining reader.old) (R.remaining reader.new)) }
 {
+    // Counted, since a read may give fewer bytes than were asked for, and std's read_exact does not say how many came.
     let mut done = 0;
     while done < buf.len() {
         let got = reader.read(&mut buf[done..])?;

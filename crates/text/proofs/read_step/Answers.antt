@@ -1,5 +1,5 @@
 -- What was read stands at the front of the buffer, behind which it is as it was.
-use Rattle.std.proofs.Common.{◌≡◌, ℕ, ◌+◌, ◌-◌, ◌≤◌, ◌<◌, Option, get_or, Ok, Err, List, [], ◌∷◌, ◌++◌, arith, refl, length, take, drop, sym, ap, ◌∙◌, subst, length-append, length-take, length-take-le}
+use Rattle.std.proofs.Common.{rules, ◌≡◌, ℕ, ◌+◌, ◌-◌, ◌≤◌, ◌<◌, Option, get_or, Ok, Err, List, [], ◌∷◌, ◌++◌, arith, refl, length, take, drop, sym, ap, ◌∙◌, subst, length-append, length-take, length-take-le}
 use lib.Seq.{take-append-le, take-append_seam, drop-append_seam, drop-drop}
 use Rattle.std.specs.Io.KnownBytes.{Consumes}
 use Rattle.std.proofs.KnownBytes.{Consumes-trans}
@@ -42,59 +42,38 @@ taken old mid new b r n one a rest e p q h same =
 
 pub returns-in_err-read_full-2-clause-err : goal.returns-in_err-read_full-2-clause-err
 returns-in_err-read_full-2-clause-err g c =
-    let n = c.from-size.result in
-    let buf = c.args.buf.now in
-    let fits : n ≤ length buf = omega arith in
-    on_err _ _ (past n c.read_full-2.new.buf buf (omega (arith, length-take-le n buf fits)) longest_step (omega arith))
+    on_err _ _ (past c.from-size.result c.read_full-2.new.buf c.args.buf.now (search (rules, length-take-le)) longest_step (omega arith))
 
 pub returns-in_err-read_full-2-clause-taken : goal.returns-in_err-read_full-2-clause-taken
 returns-in_err-read_full-2-clause-taken g c =
-    let n = c.from-size.result in
-    let buf = c.args.buf.now in
-    let fits : n ≤ length buf = omega arith in
-    let len : length c.read_full-2.new.buf ≡ n = omega (arith, length-take-le n buf fits) in
-    let k = c.in_ok-read_full.field-0 in
-    let one : length (take k c.read_full.new.buf) ≤ 1 = rw length-take (omega arith) in
-    on_err _ _ (behind_one _ _ _ (take k c.read_full.new.buf) _ 256 one (omega arith) c.in_ok-read_full.ensures.bytes c.in_err-read_full-2.ensures.err)
+    let one : length (take c.in_ok-read_full.field-0 c.read_full.new.buf) ≤ 1 = rw length-take (omega arith) in
+    on_err _ _ (behind_one _ _ _ _ (length c.read_full-2.new.buf) 256 one (search (rules, length-take-le)) c.in_ok-read_full.ensures.bytes c.in_err-read_full-2.ensures.err)
 
 pub returns-then-branch-size-clause-ok : goal.returns-then-branch-size-clause-ok
 returns-then-branch-size-clause-ok g c =
-    let n = c.from-size.result in
-    let buf = c.args.buf.now in
-    let fits : n ≤ length buf = omega arith in
-    cut n c.read_full-2.new.buf buf (omega (arith, length-take-le n buf fits)) c.in_ok-read_full-2.field-0 (omega arith) (omega arith)
+    cut c.from-size.result c.read_full-2.new.buf c.args.buf.now (search (rules, length-take-le)) c.in_ok-read_full-2.field-0 (omega arith) (search rules)
+
+pub returns-clause-ok : goal.returns-clause-ok
+returns-clause-ok g c = search (rules, stepped, length-take-le)
 
 pub returns-then-branch-size-clause-bytes : goal.returns-then-branch-size-clause-bytes
 returns-then-branch-size-clause-bytes g c =
     let n = c.from-size.result in
     let r = c.in_ok-read_full-2.field-0 in
-    let buf = c.args.buf.now in
     let a = c.read_full-2.new.buf in
-    let fits : n ≤ length buf = omega arith in
-    let len : length a ≡ n = omega (arith, length-take-le n buf fits) in
     let first = one_taken c.read_full.new.buf c.in_ok-read_full.field-0 n (omega arith) (omega (arith, c.in_ok-read_full.ensures.prefix_len.0)) c.from-size.ensures in (
       n,
       r,
       omega arith,
       taken _ _ _ n r r _ a _ first c.in_ok-read_full.ensures.bytes c.in_ok-read_full-2.ensures.bytes c.in_ok-read_full-2.ensures.prefix_len.0 refl,
-      c.in_ok-read_full-2.ensures.end (omega arith),
+      c.in_ok-read_full-2.ensures.end (search (rules, length-take-le)),
     )
-
-pub returns-clause-ok : goal.returns-clause-ok
-returns-clause-ok g c =
-    let n = c.from-size.result in
-    let buf = c.args.buf.now in
-    let fits : n ≤ length buf = omega arith in
-    stepped n c.read_full-2.new.buf buf (omega (arith, length-take-le n buf fits)) fits
 
 pub returns-clause-bytes : goal.returns-clause-bytes
 returns-clause-bytes g c =
     let n = c.from-size.result in
     let r = c.in_ok-read_full-2.field-0 in
-    let buf = c.args.buf.now in
     let a = c.read_full-2.new.buf in
-    let fits : n ≤ length buf = omega arith in
-    let len : length a ≡ n = omega (arith, length-take-le n buf fits) in
-    let all : r ≡ n = omega (arith, c.in_ok-read_full-2.ensures.prefix_len.0) in
+    let all : r ≡ n = search (rules, length-take-le) in
     let first = one_taken c.read_full.new.buf c.in_ok-read_full.field-0 n (omega arith) (omega (arith, c.in_ok-read_full.ensures.prefix_len.0)) c.from-size.ensures in
     taken _ _ _ n r n _ a _ first c.in_ok-read_full.ensures.bytes c.in_ok-read_full-2.ensures.bytes c.in_ok-read_full-2.ensures.prefix_len.0 all
