@@ -24,7 +24,8 @@ use Rattle.requests.specs.Request.{request_packet, is_request}
 use Rattle.requests.specs.Said.{word_in}
 use Rattle.host.specs.Heard.{said_by, said_to}
 use Rattle.host.specs.Machine.{Happening, start, burst, mark, State, idle, quiet, begun, again, ending, heard, telling, step}
-use Rattle.host.specs.Calls.{asked_state, state_by, state_of, call}
+use Rattle.host.specs.Calls.{state_by, state_of, call}
+use Rattle.host.specs.Private.Steps.{asked_state}
 
 pub no_room : (out : List ℕ) (s : State) (h : Happening) → length out < longest → call out s h ≡ quiet s (Outcome.Refused Refusal.NoRoom)
 unfolding call

@@ -7,14 +7,13 @@ use Rattle.lists.specs.Lists.{laid_over}
 use Rattle.refusals.specs.Refusals.{no_room}
 use Rattle.packet.specs.declared.Edition.{Edition}
 use Rattle.requests.specs.declared.Request.{Request}
-use Rattle.host.specs.declared.Asked.{Asked}
 use Rattle.host.specs.declared.Phase.{Phase}
 use Rattle.host.specs.declared.Host.{Host}
 use Rattle.host.specs.declared.Step.{Step}
 use Rattle.host.specs.declared.Refusal.{Refusal}
 use Rattle.host.specs.declared.Outcome.{Outcome}
 use Rattle.requests.specs.Request.{request_packet}
-use Rattle.host.specs.Machine.{Happening, State, Move, waiting_for, blank, quiet, step}
+use Rattle.host.specs.Machine.{Happening, State, Move, blank, quiet, step}
 
 -- 01's numbers, and 02's (A12)
 abbrev pub refusal_number : Refusal → ℕ
@@ -34,9 +33,6 @@ phase_by r resting (p ∷ given) = Phase.Waiting (record { request = r; again = 
 
 abbrev pub host_of : State → Host
 host_of s = record { edition = s.edition; phase = phase_by s.request s.resting s.given }
-
-abbrev pub asked_state : Edition → Asked → State
-asked_state edition a = waiting_for edition a.request (replicate (suc a.again) (request_packet edition a.request))
 
 abbrev pub request_in : Phase → Request
 request_in Phase.Idle = blank

@@ -2,7 +2,8 @@
 ghost use Rattle.std.specs.Prelude.{◌≡◌, ◌≤◌, length};
 ghost use Rattle.packet.specs.declared.Edition.{Edition};
 ghost use Rattle.packet.specs.Packet.{longest};
-ghost use Rattle.host.specs.Calls.{asked_state, Answers};
+ghost use Rattle.host.specs.Calls.{Answers};
+ghost use Rattle.host.specs.Private.Steps.{asked_state};
 ghost use Rattle.host.specs.Heard.{said_by};
 ghost use Rattle.host.specs.Machine.{nav_ends, ending};
 ghost use Rattle.requests.specs.Said.{word_in};

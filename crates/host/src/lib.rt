@@ -9,8 +9,8 @@ ghost use Rattle.std.specs.Prelude.{◌≡◌, ℕ, ◌+◌, ◌≤◌, ltb, len
 ghost use mathlib.Core.List.{List, flatten};
 ghost use Rattle.settings.specs.Settings.{most_values};
 ghost use Rattle.host.specs.Machine.{start, burst, mark, idle, over};
-ghost use Rattle.host.specs.Calls.{refusal_number, rest_after, host_of, asked_state, state_of, step_of, call, Answers};
-ghost use Rattle.host.specs.Private.Steps.{asked_host, plain_step, telling_step};
+ghost use Rattle.host.specs.Calls.{refusal_number, rest_after, host_of, state_of, step_of, call, Answers};
+ghost use Rattle.host.specs.Private.Steps.{asked_state, asked_host, plain_step, telling_step};
 
 use packet::{Damage, Edition, LONGEST};
 use refusals::NO_ROOM;
@@ -62,7 +62,8 @@ pub enum End {
     GivenUp,
 }
 
-// What has become of the request; where it is over, how it ended and how often its packet was sent.
+// What has become of the request; where it is over, how it ended and how often its packet was sent. A refusal is an outcome and no
+// Err, since CallRefused, NotCounted and RestsUntilMark say of each call, a refused one too, which host it leaves.
 #[derive(Clone, Copy, Debug, PartialEq, Eq)]
 pub enum Outcome {
     Idle,
@@ -72,8 +73,9 @@ pub enum Outcome {
     Refused(Refusal),
 }
 
-// What a call answers: the host as it then is, the length of the packet given out (0 where there is none), what has become
-// of the request, the values of a report, and what was wrong with the burst that was heard.
+// What a call answers: the host as it then is, the length of the packet given out (0 where there is none, as it counts the bytes at
+// the output's front), what has become of the request, the values of a report, and what was wrong with the burst that was heard. The
+// values stand in an array with their count beside, since there is no heap.
 #[derive(Clone, Copy)]
 pub struct Step {
     pub host: Host,

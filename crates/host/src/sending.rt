@@ -4,7 +4,8 @@ ghost use Rattle.lists.specs.Lists.{laid_over};
 ghost use Rattle.packet.specs.Packet.{longest};
 ghost use Rattle.requests.specs.Request.{request_packet};
 ghost use Rattle.host.specs.Machine.{begun, again};
-ghost use Rattle.host.specs.Calls.{asked_state, Answers};
+ghost use Rattle.host.specs.Calls.{Answers};
+ghost use Rattle.host.specs.Private.Steps.{asked_state};
 
 use crate::{Asked, End, MOST_SENDINGS, Step};
 use packet::Edition;

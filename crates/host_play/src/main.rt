@@ -69,37 +69,25 @@ fn play_open(rt: &impl Print, host: Host, number: u8) -> io::Result<Host> {
 // One step: its kind, 1 for a start, 2 for a burst, 3 for the mark, 4 for a start with a model, 5 for a line opened, and what
 // stands behind it.
 fn play(rt: &impl Print, host: Host, step: &[u8]) -> io::Result<Host> {
-    let n = step.len();
-    if n == 0 {
-        return unknown(rt, host);
-    }
     let mut out = [0u8; LONGEST];
-    match step[0] {
-        1 => {
+    match step {
+        [1, told @ ..] => {
             let model = Model {
                 profile: Profile::General,
                 kind: Kind::FiveByFive,
             };
-            play_start(rt, host, request_steps::told_for(model, &step[1..]))
+            play_start(rt, host, request_steps::told_for(model, told))
         }
-        2 => {
-            let step = host.hear(&step[1..], &mut out);
+        [2, burst @ ..] => {
+            let step = host.hear(burst, &mut out);
             show(rt, step, &out)
         }
-        3 => {
-            if n != 1 {
-                return unknown(rt, host);
-            }
+        [3] => {
             let step = host.mark(&mut out);
             show(rt, step, &out)
         }
-        4 => play_start(rt, host, request_steps::told_with_model(&step[1..])),
-        5 => {
-            if n != 2 {
-                return unknown(rt, host);
-            }
-            play_open(rt, host, step[1])
-        }
+        [4, told @ ..] => play_start(rt, host, request_steps::told_with_model(told)),
+        [5, number] => play_open(rt, host, *number),
         _ => unknown(rt, host),
     }
 }

@@ -39,7 +39,7 @@ fn picture_of(profile: Profile, v: [u8; MOST_VALUES]) -> Option<Asked>
     }
 }
 
-// By the request's code, whoever it is for.
+// By the request's code, whoever it is for; by tests, since a pattern takes no call.
 fn asked_by(request: Request) -> Option<Asked>
     ensures { result ≡ asked_by request }
 {

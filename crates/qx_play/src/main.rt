@@ -7,30 +7,16 @@ use requests::Request;
 use std::io;
 use text::Hex;
 
-// The bytes behind the first n.
-fn behind(bytes: &[u8], n: usize) -> &[u8] {
-    if n < bytes.len() {
-        &bytes[n..]
-    } else {
-        &bytes[..0]
-    }
-}
-
-// Prints a space and the packet of this size, where there is one.
-fn print_next(rt: &impl Print, out: &[u8], size: usize) -> io::Result<()> {
-    if size != 0 {
-        print!(rt; " {}", Hex(text::front(out, size)))?;
-    }
-    Ok(())
-}
-
 // Prints the packets that stand one behind the other, a space between two.
 fn print_packets(rt: &impl Print, packets: Packets, out: &[u8]) -> io::Result<()> {
-    let sizes = packets.sizes;
-    print!(rt; "{}", Hex(text::front(out, sizes[0])))?;
-    let out = behind(out, sizes[0]);
-    print_next(rt, out, sizes[1])?;
-    print_next(rt, behind(out, sizes[1]), sizes[2])?;
+    let mut left = out;
+    for (k, size) in packets.sizes.iter().take(packets.count).enumerate() {
+        if k != 0 {
+            print!(rt; " ")?;
+        }
+        print!(rt; "{}", Hex(text::front(left, *size)))?;
+        left = left.get(*size..).unwrap_or(&[]);
+    }
     println!(rt)
 }
 
@@ -86,14 +72,10 @@ fn play_answers(rt: &impl Print, last: Option<Request>, answers: &[u8]) -> io::R
 
 // One step: its kind, 1 for a request and 2 for answers, and what stands behind it.
 fn play(rt: &impl Print, last: Option<Request>, step: &[u8]) -> io::Result<Option<Request>> {
-    if step.len() == 0 {
-        unknown(rt)?;
-        return Ok(last);
-    }
-    match step[0] {
-        1 => play_request(rt, last, request_steps::told_with_model(&step[1..])),
-        2 => {
-            play_answers(rt, last, &step[1..])?;
+    match step {
+        [1, told @ ..] => play_request(rt, last, request_steps::told_with_model(told)),
+        [2, answers @ ..] => {
+            play_answers(rt, last, answers)?;
             Ok(last)
         }
         _ => {

@@ -15,7 +15,7 @@ use settings::{MOST_VALUES, OFF, Profile, Row};
 use tiling::Kind;
 
 // A set with its values or a get, and the profile and kind of the panel that it is for, by the caller's word. The first count of the
-// values are the request's; the others mean nothing.
+// values are the request's; the others mean nothing, and stand there since there is no heap.
 #[derive(Clone, Copy)]
 pub struct Request {
     pub model: Model,

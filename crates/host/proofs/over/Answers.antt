@@ -14,7 +14,8 @@ use Rattle.host.specs.declared.Step.{Step}
 use Rattle.host.specs.declared.End.{End}
 use Rattle.host.specs.declared.Outcome.{Outcome}
 use Rattle.host.specs.Machine.{over}
-use Rattle.host.specs.Calls.{rest_after, asked_state, step_of}
+use Rattle.host.specs.Calls.{rest_after, step_of}
+use Rattle.host.specs.Private.Steps.{asked_state}
 use Rattle.host.proofs.over.Goals as goal
 
 -- The values are laid over seven zeros. Assumes nothing.

@@ -1,13 +1,18 @@
--- A host that waits, an answer that carries no values, and an answer to a burst.
-use Rattle.std.specs.Prelude.{ℕ, replicate, None, Option}
+-- The state of a request that waits, its host, an answer that carries no values, and an answer to a burst.
+use Rattle.std.specs.Prelude.{ℕ, suc, replicate, None, Option}
 use Rattle.settings.specs.Settings.{most_values}
 use Rattle.packet.specs.declared.Damage.{Damage}
 use Rattle.packet.specs.declared.Edition.{Edition}
+use Rattle.requests.specs.Request.{request_packet}
 use Rattle.host.specs.declared.Asked.{Asked}
 use Rattle.host.specs.declared.Phase.{Phase}
 use Rattle.host.specs.declared.Host.{Host}
 use Rattle.host.specs.declared.Outcome.{Outcome}
 use Rattle.host.specs.declared.Step.{Step}
+use Rattle.host.specs.Machine.{State, waiting_for}
+
+abbrev pub asked_state : Edition → Asked → State
+asked_state edition a = waiting_for edition a.request (replicate (suc a.again) (request_packet edition a.request))
 
 abbrev pub asked_host : Edition → Asked → Host
 asked_host edition a = record { edition = edition; phase = Phase.Waiting a }

@@ -10,8 +10,8 @@ use Rattle.packet.specs.Reading.{Reading, reading_of}
 use Rattle.host.specs.declared.Step.{Step}
 use Rattle.host.specs.declared.Outcome.{Outcome}
 use Rattle.host.specs.Machine.{quiet, heard}
-use Rattle.host.specs.Calls.{asked_state, state_of}
-use Rattle.host.specs.Private.Steps.{telling_step}
+use Rattle.host.specs.Calls.{state_of}
+use Rattle.host.specs.Private.Steps.{asked_state, telling_step}
 use Rattle.host.proofs.Moves.{no_room, idle-burst, resting-burst, burst-heard, heard_is}
 use Rattle.host.proofs.Answers.{stays, tells}
 use Rattle.host.proofs.Host.hear.Goals as goal

@@ -1,5 +1,4 @@
-use Rattle.host.specs.Calls.{asked_state}
-use Rattle.host.specs.Private.Steps.{asked_host}
+use Rattle.host.specs.Private.Steps.{asked_state, asked_host}
 use Rattle.host.proofs.Moves.{not_intact, other-group, other-id, addressed}
 use Rattle.host.proofs.Answers.{stays}
 use Rattle.host.proofs.hearing.heeded.Goals as goal

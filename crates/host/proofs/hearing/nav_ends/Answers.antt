@@ -9,7 +9,7 @@ use Rattle.requests.specs.Request.{is_power_off}
 use Rattle.host.specs.declared.Asked.{Asked}
 use Rattle.host.specs.declared.End.{End}
 use Rattle.host.specs.Machine.{nav_ends}
-use Rattle.host.specs.Calls.{asked_state}
+use Rattle.host.specs.Private.Steps.{asked_state}
 use Rattle.host.proofs.hearing.nav_ends.Goals.{else-asked-gt0-via-then-asked-gt0+else-is_power_off, else-asked-gt0-via-else-asked-gt0}
 use Rattle.host.proofs.hearing.nav_ends.Goals as goal
 

@@ -9,8 +9,7 @@ use Rattle.models.specs.declared.Model.{Model}
 use Rattle.requests.specs.declared.Said.{Said}
 use Rattle.requests.specs.Said.{word_in}
 use Rattle.host.specs.Machine.{ending}
-use Rattle.host.specs.Calls.{asked_state}
-use Rattle.host.specs.Private.Steps.{asked_host}
+use Rattle.host.specs.Private.Steps.{asked_state, asked_host}
 use Rattle.requests.proofs.Words.{report_length}
 use Rattle.host.proofs.Answers.{stays, ends}
 use Rattle.host.proofs.hearing.told.Goals as goal

@@ -11,7 +11,7 @@ use Rattle.host.specs.declared.End.{End}
 use Rattle.host.specs.declared.Outcome.{Outcome}
 use Rattle.host.specs.Machine.{waiting_for, most_sendings, move, over, again}
 use Rattle.requests.specs.Request.{request_packet}
-use Rattle.host.specs.Calls.{asked_state}
+use Rattle.host.specs.Private.Steps.{asked_state}
 use Rattle.host.proofs.Answers.{ends, gives}
 use Rattle.host.proofs.sending.send_again.Goals as goal
 
