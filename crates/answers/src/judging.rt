@@ -66,7 +66,7 @@ fn tiling_then(p: Panel, d: &[u8]) -> [u8; TILING_COUNT]
     let values = p.values;
     let wall = values[Row::TILING.place() + 3];
     let mut held = [d[1], d[2], d[3], d[4]];
-    models::fill(Row::TILING, wall, &mut held);
+    models::fill(Row::TILING.index(), wall, &mut held);
     held
 }
 

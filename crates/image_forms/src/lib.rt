@@ -66,11 +66,11 @@ pub fn holds(form: Form, profile: Profile) -> bool
 }
 
 // Whether a form has a field for a row. Form 1 has none for the kind and the tiling.
-pub fn has_field(form: Form, row: Row) -> bool
+pub fn has_field(form: Form, row: usize) -> bool
     ensures { result ≡ has_field form row }
 {
     match form {
-        Form::One => row != Row::KIND && row != Row::TILING,
+        Form::One => row != Row::KIND.index() && row != Row::TILING.index(),
         Form::Two => true,
     }
 }
@@ -91,7 +91,7 @@ fn keeps_row(form: Form, row: Row, values: &[u8]) -> bool
     requires { length values.now ≡ value_count }
     ensures { result ≡ keeps_row form row values.now }
 {
-    has_field(form, row) || is_fresh(row, values)
+    has_field(form, row.index()) || is_fresh(row, values)
 }
 
 // Whether a form loses nothing of a panel with this profile and these values.

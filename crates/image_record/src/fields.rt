@@ -12,7 +12,7 @@ use settings::{Profile, ROW_COUNT, Row, VALUE_COUNT};
 fn is_misplaced(form: Form, row: Row, seen: &[bool; ROW_COUNT]) -> bool
     ensures { result ≡ misplaced form seen.now row }
 {
-    if !image_forms::has_field(form, row) {
+    if !image_forms::has_field(form, row.index()) {
         return true;
     }
     if seen[row.index()] {

@@ -32,7 +32,7 @@ fn field_in(form: Form, out: &mut [u8], row: Row, values: &[u8; VALUE_COUNT]) ->
     ensures value { result ≡ length (field_in form values.now row) }
     ensures out_after { out.new ≡ laid_over (field_in form values.now row) out.old }
 {
-    if !image_forms::has_field(form, row) {
+    if !image_forms::has_field(form, row.index()) {
         return 0;
     }
     one_field(out, row, values);

@@ -47,10 +47,10 @@ pub fn allowed(model: Model, row: Row, values: &[u8]) -> bool
 }
 
 // The values of a set, in which the byte of a wall stands where a tiling has 0, which means don't care.
-pub fn fill(row: Row, wall: u8, vs: &mut [u8])
+pub fn fill(row: usize, wall: u8, vs: &mut [u8])
     ensures { vs.new ≡ filled row wall vs.old }
 {
-    if row != Row::TILING {
+    if row != Row::TILING.index() {
         return;
     }
     if vs.len() < 4 {

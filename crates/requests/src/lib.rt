@@ -42,7 +42,7 @@ fn may_set(model: Model, row: Row, v: [u8; MOST_VALUES], count: usize) -> bool
 {
     let kind = model.kind;
     let mut values = v;
-    models::fill(row, tiling::largest(kind), &mut values[..count]);
+    models::fill(row.index(), tiling::largest(kind), &mut values[..count]);
     models::allowed(model, row, &values[..count])
 }
 

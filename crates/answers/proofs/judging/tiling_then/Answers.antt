@@ -18,6 +18,9 @@ four (k ∷ a ∷ []) e = absurd (omega arith)
 four (k ∷ []) e = absurd (omega arith)
 four [] e = absurd (omega arith)
 
+same_filled : {row v w : ℕ} {a b : List ℕ} → row ≡ tiling_row → v ≡ w → a ≡ b → filled row v a ≡ filled tiling_row w b
+same_filled row v a = rw (row, v, a) refl
+
 third : place tiling_row ≡ 2
 unfolding settings allowed_by_row flatten
 third = refl
@@ -53,4 +56,4 @@ unfolding settings
 returns c =
     let a = c.args in
     let own = ap (λ (at : ℕ). get_or a.p.values (at + 3) 0) c.place.ensures ∙ sym (value_of tiling_row 3 a.p.values (omega arith)) in
-    c.fill.ensures ∙ ap₂ (filled tiling_row) own (four a.d.now c.requires)
+    c.fill.ensures ∙ same_filled c.index.ensures.number own (four a.d.now c.requires)
