@@ -22,12 +22,12 @@ use Rattle.answers.specs.Session.{session}
 use Rattle.answers.specs.Sample.{two_panels}
 use Rattle.answers.proofs.Longest.{too_much}
 use Rattle.line.specs.declared.Heard.{Heard as FirstHeard}
-use Rattle.line.proofs.Streams as first
+use Rattle.line.specs.Streams as first
 use Rattle.small_receiver.specs.declared.Heard.{Heard}
 use Rattle.small_receiver.specs.Stream.{streamed_by}
 use Rattle.small_receiver.specs.Small.{keeping, small_of, with_byte, reading_in, streamed}
-use Rattle.small_receiver.proofs.AnyReceiver.{fed_after}
-use Rattle.small_receiver.proofs.Small as small
+use Rattle.small_receiver.specs.AnyReceiver.{fed_after}
+use Rattle.small_receiver.specs.Laws as small
 use Rattle.demands.specs.Demand3.{sent, kept, on_line}
 use Rattle.demands.specs.Repeater.{KeepsTwelve, SameAtMark, SameOnLine, Demand3-repeater, NoLonger, ElevenTooFew}
 use Rattle.demands.proofs.Demand3.{heard_all, demand3}

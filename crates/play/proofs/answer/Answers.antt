@@ -11,7 +11,7 @@ use Rattle.answers.proofs.Formed.{answered_formed}
 use Rattle.line.specs.declared.Heard.{Heard}
 use Rattle.line.specs.declared.Receiver.{Receiver}
 use Rattle.line.specs.Receiver.{receiver_of, at_mark, with_byte}
-use Rattle.line.proofs.Streams.{heard_as, marked}
+use Rattle.line.specs.Streams.{heard_as, marked}
 use Rattle.play.proofs.answer.Goals as goal
 
 -- the receiver, fed the bytes and a mark, gives what playing the burst gives

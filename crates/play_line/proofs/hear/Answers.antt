@@ -6,11 +6,11 @@ use Rattle.panels.specs.declared.Table.{Table}
 use Rattle.line.specs.declared.Heard.{Heard as FirstHeard}
 use Rattle.line.specs.declared.Receiver.{Receiver}
 use Rattle.line.specs.Receiver.{with_byte as first_with_byte, at_mark as first_at_mark}
-use Rattle.line.proofs.Streams as first
+use Rattle.line.specs.Streams as first
 use Rattle.small_receiver.specs.declared.Heard.{Heard as SmallHeard}
 use Rattle.small_receiver.specs.declared.SmallReceiver.{SmallReceiver}
 use Rattle.small_receiver.specs.Small.{longest_command, with_byte, at_mark}
-use Rattle.small_receiver.proofs.Small as small
+use Rattle.small_receiver.specs.Laws as small
 use Rattle.play_line.specs.declared.Heard.{Heard}
 use Rattle.play_line.specs.declared.Line.{Line}
 use Rattle.play_line.specs.Private.Lines.{line_of, heard_on}
