@@ -7,7 +7,7 @@ use Prim.Native.Nat.{ℕ, ◌<◌}
 use native.Mathlib.Omega.{arith}
 use lib.ListN.{length, get_or, take, length-take}
 use lib.Seq.{take_all}
-use Rattle.std.specs.Prelude.{Option}
+use Rattle.std.specs.Prelude.{Option, Some, None}
 use Rattle.lists.proofs.Sizes.{by_size}
 use Rattle.settings.specs.Settings.{row_count}
 use Rattle.settings.proofs.Laws.{byte-count-few}
@@ -18,7 +18,6 @@ use Rattle.packet.specs.declared.MonitorId.{MonitorId}
 use Rattle.packet.specs.declared.Verdict.{Verdict}
 use Rattle.packet.specs.Answered.{is_heard}
 use Rattle.panels.specs.declared.Panel.{Panel}
-use Rattle.panels.specs.declared.Place.{Place}
 use Rattle.panels.specs.Wall.{Wall, blank, place_of}
 use Rattle.panels.specs.Addressed.{reaches}
 use Rattle.answers.specs.Reply.{silence, most_reported}
@@ -49,9 +48,9 @@ module _ (n : ℕ) (most : most_reported < n) (d : List ℕ) where
       (λ h. too_much (take n d) (simp length-take (omega arith)) p ∙ sym (too_much d (omega arith) p))
       (λ h. ap (λ (l : List ℕ). judge (command l) p) (take_all n d h))
 
-  reply_stands : (w : Wall) (i : MonitorId) (q : Place) → reply_from w i (command (take n d)) q ≡ reply_from w i (command d) q
-  reply_stands w i Place.Nowhere = refl
-  reply_stands w i (Place.At k) = ap (reply_by i) (first_stand (get_or w k blank))
+  reply_stands : (w : Wall) (i : MonitorId) (q : Option ℕ) → reply_from w i (command (take n d)) q ≡ reply_from w i (command d) q
+  reply_stands w i None = refl
+  reply_stands w i (Some k) = ap (reply_by i) (first_stand (get_or w k blank))
 
   -- whatever else was read of the burst
   pub answered_first : (w : Wall) (v : Verdict) (seems : Option MonitorId)

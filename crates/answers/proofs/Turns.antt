@@ -9,16 +9,15 @@ use native.Mathlib.Omega.{arith}
 use borrow.Author.Tests.{eq-eqb, ne_eqb, eqb-true, eqb-false, lt-ltb}
 use lib.Dec.{eqb, ltb}
 use lib.ListN.{length, get_or, drop}
-use Rattle.std.specs.Prelude.{Option, Some, None}
+use Rattle.packet.specs.declared.MonitorId.{MonitorId}
+use Rattle.std.specs.Prelude.{Option, Some, None, is_some}
 use Rattle.std.specs.Option.{option_map}
 use Rattle.settings.specs.Settings.{row_count}
-use Rattle.packet.specs.declared.MonitorId.{MonitorId}
 use Rattle.packet.specs.declared.Verdict.{Verdict}
 use Rattle.packet.specs.Packet.{group_id}
 use Rattle.packet.specs.Answered.{is_heard}
 use Rattle.panels.specs.declared.Panel.{Panel}
-use Rattle.panels.specs.declared.Place.{Place}
-use Rattle.panels.specs.Wall.{Wall, blank, place_of, place_number, members_of, if_there, most_panels}
+use Rattle.panels.specs.Wall.{Wall, blank, place_of, place_number, members_of, most_panels}
 use Rattle.panels.specs.Addressed.{reaches}
 use Rattle.panels.specs.WellFormed.{GoodWall}
 use Rattle.lists.proofs.Mapped.{map_same}
@@ -69,9 +68,9 @@ module _ (n : Names) (w : Wall) (few : length w ≤ most_panels) (good : GoodWal
   unfolding reaches
   other-id z named p other = rw (eq-eqb _ _ z, ne_eqb _ _ named, ne_eqb _ _ other)
 
-  one : n.group.0 ≡ 0 → (n.id.0 ≡ 0 → ⊥) → (q : Place) → place_of n.id w ≡ q
+  one : n.group.0 ≡ 0 → (n.id.0 ≡ 0 → ⊥) → (q : Option ℕ) → place_of n.id w ≡ q
       → Reached n w (cond (ltb (place_number q) most_panels) (Some (from (place_number q) (suc (place_number q)))) None)
-  one z named (Place.At k) e =
+  one z named (Some k) e =
       let (h, same) = place_there n.id w k e in
       let not_there : (j : ℕ) → Outside j (from k (suc k)) → j ≡ k → ⊥ = λ j o s. outside_not j k o s in
       rw (lt-ltb k most_panels (omega arith))
@@ -84,7 +83,7 @@ module _ (n : Names) (w : Wall) (few : length w ≤ most_panels) (good : GoodWal
       outside_not : (j k : ℕ) → Outside j (from k (suc k)) → j ≡ k → ⊥
       outside_not j k (inl h) s = omega arith
       outside_not j k (inr h) s = omega arith
-  one z named Place.Nowhere e = λ j t. other-id z named (get_or w j blank) (place_nowhere n.id w e j t)
+  one z named None e = λ j t. other-id z named (get_or w j blank) (place_nowhere n.id w e j t)
 
   -- a packet to a group
   group : (n.group.0 ≡ 0 → ⊥) → (m : ℕ) → members_of n.group w ≡ m → Reached n w (cond (eqb m 0) None (Some (from 0 (length w))))
@@ -122,7 +121,7 @@ module _ (n : Names) (w : Wall) (few : length w ≤ most_panels) (good : GoodWal
     )
 
   -- the panel of the entry is the one with the ID
-  entry_there : (k : ℕ) → place_of n.id w ≡ Place.At k → ((entry_of w n).at ≡ k) × (k < most_panels) × ((entry_of w n).panel ≡ get_or w k blank)
+  entry_there : (k : ℕ) → place_of n.id w ≡ Some k → ((entry_of w n).at ≡ k) × (k < most_panels) × ((entry_of w n).panel ≡ get_or w k blank)
   unfolding entry_of
   entry_there k e =
       let h = (place_there n.id w k e).0 in
@@ -130,13 +129,13 @@ module _ (n : Names) (w : Wall) (few : length w ≤ most_panels) (good : GoodWal
       let here : k % most_panels ≡ k = omega arith in
       (ap place_number e, small, rw (e, here) (place_is w k blank small))
 
-  entry_nowhere : place_of n.id w ≡ Place.Nowhere → (entry_of w n).at ≡ most_panels
+  entry_nowhere : place_of n.id w ≡ None → (entry_of w n).at ≡ most_panels
   unfolding entry_of
   entry_nowhere e = ap place_number e
 
-  there : (q : Place) → place_of n.id w ≡ q → {A : Type 0} (a b : A) → cond (ltb (entry_of w n).at most_panels) a b ≡ if_there q a b
-  there (Place.At k) e a b = let (at, small, _) = entry_there k e in rw (at, lt-ltb k most_panels small)
-  there Place.Nowhere e a b = rw (entry_nowhere e)
+  there : (q : Option ℕ) → place_of n.id w ≡ q → {A : Type 0} (a b : A) → cond (ltb (entry_of w n).at most_panels) a b ≡ cond (is_some q) a b
+  there (Some k) e a b = let (at, small, _) = entry_there k e in rw (at, lt-ltb k most_panels small)
+  there None e a b = rw (entry_nowhere e)
 
   -- the reply is that of the panel with the ID, or silence
   reply_is : (c : Command) → reply_to (entry_of w n) n c ≡ cond (is_heard n.id n.group) (reply_from w n.id c (place_of n.id w)) silence
@@ -146,13 +145,13 @@ module _ (n : Names) (w : Wall) (few : length w ≤ most_panels) (good : GoodWal
       e : Entry
       e = entry_of w n
 
-      go : (b : Bool) (q : Place) → place_of n.id w ≡ q
+      go : (b : Bool) (q : Option ℕ) → place_of n.id w ≡ q
           → cond (b && ltb e.at most_panels) (reply_by e.panel.id (judge c e.panel)) silence ≡ cond b (reply_from w n.id c q) silence
-      go true (Place.At k) s =
+      go true (Some k) s =
           let (_, _, p) = entry_there k s in
           let id : (get_or w k blank).id ≡ n.id = λ t. record { 0 = (place_there n.id w k s).1 t } in
-          there (Place.At k) s _ _ ∙ rw (p, id)
-      go true Place.Nowhere s = there Place.Nowhere s _ _
+          there (Some k) s _ _ ∙ rw (p, id)
+      go true None s = there None s _ _
       go false q s = refl
 
 module _ (w : Wall) (few : length w ≤ most_panels) (good : GoodWall w) where

@@ -1,5 +1,5 @@
 -- The outcome of a burst. 01, "Answering a burst, in this order".
-use Rattle.std.specs.Prelude.{ℕ, cond, List, map, get_or, Option, Some, None}
+use Rattle.std.specs.Prelude.{ℕ, cond, List, map, get_or, Option, Some, None, is_some}
 use Rattle.packet.specs.declared.Edition.{Edition}
 use Rattle.packet.specs.declared.MonitorId.{MonitorId}
 use Rattle.packet.specs.declared.GroupId.{GroupId}
@@ -8,9 +8,8 @@ use Rattle.packet.specs.declared.Control.{Control}
 use Rattle.packet.specs.Packet.{damage_in}
 use Rattle.packet.specs.Reading.{Reading, reading_of}
 use Rattle.panels.specs.declared.Panel.{Panel}
-use Rattle.panels.specs.declared.Place.{Place}
 use Rattle.panels.specs.declared.Table.{Table}
-use Rattle.panels.specs.Wall.{Wall, blank, table_of, panels_of, place_of, if_there}
+use Rattle.panels.specs.Wall.{Wall, blank, table_of, panels_of, place_of}
 use Rattle.packet.specs.Answered.{is_heard}
 use Rattle.panels.specs.Addressed.{reaches}
 use Rattle.answers.specs.declared.Reply.{Reply}
@@ -27,9 +26,9 @@ unfoldable pub turned : MonitorId → GroupId → Command → Panel → Panel
 turned i g c p = cond (reaches i g p) (panel_after (judge c p) p) p
 
 -- silence where no panel has the ID, else what that panel's judgement says
-abbrev pub reply_from : Wall → MonitorId → Command → Place → Reply
-reply_from w i c Place.Nowhere = silence
-reply_from w i c (Place.At k) = reply_by i (judge c (get_or w k blank))
+abbrev pub reply_from : Wall → MonitorId → Command → Option ℕ → Reply
+reply_from w i c None = silence
+reply_from w i c (Some k) = reply_by i (judge c (get_or w k blank))
 
 abbrev pub played_packet : Wall → MonitorId → GroupId → Command → Outcome
 played_packet w i g c = record { wall = map (turned i g c) w; reply = cond (is_heard i g) (reply_from w i c (place_of i w)) silence }
@@ -37,7 +36,7 @@ played_packet w i g c = record { wall = map (turned i g c) w; reply = cond (is_h
 -- NACK if the ID that a damaged burst seems to be for is a panel's
 abbrev pub nack_from : Wall → Option MonitorId → Reply
 nack_from w None = silence
-nack_from w (Some i) = if_there (place_of i w) (word_from i Control.Nack) silence
+nack_from w (Some i) = cond (is_some (place_of i w)) (word_from i Control.Nack) silence
 
 abbrev pub answered_by : Verdict → Wall → List ℕ → Option MonitorId → Outcome
 answered_by Verdict.Empty w d seems = record { wall = w; reply = silence }

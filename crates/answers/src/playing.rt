@@ -1,6 +1,6 @@
 // A burst played on the table.
 ghost use Rattle.std.specs.Prelude.{◌≡◌, map, ◌≤◌, length};
-ghost use Rattle.packet.specs.Reading.{reading_of};
+ghost use Rattle.packet.specs.Reading.{reading_in, reading_of};
 ghost use Rattle.panels.specs.Wall.{table_of, panels_of};
 ghost use Rattle.panels.specs.WellFormed.{WellFormed};
 ghost use Rattle.lists.specs.Lists.{laid_over};
@@ -10,7 +10,7 @@ ghost use Rattle.answers.specs.Turn.{entry_of, turn_on, heard_as, turned_by, Fit
 ghost use Rattle.answers.specs.Played.{answered_on};
 
 use crate::{Change, Entry, Heard, Names, Played, answering, judging, turning};
-use packet::{Edition, MonitorId, Verdict};
+use packet::{Edition, Reading};
 use panels::{MOST_PANELS, Table};
 
 // What a table has of the names in a burst.
@@ -41,39 +41,32 @@ pub fn store(t: &mut Table, change: Change, d: &[u8])
 }
 
 // What a burst comes to on a table, with its answer written out on a line of an edition.
-pub fn hear(
-    edition: Edition,
-    t: &Table,
-    verdict: Verdict,
-    d: &[u8],
-    seems: Option<MonitorId>,
-    out: &mut [u8],
-) -> Heard
+pub fn hear(edition: Edition, t: &Table, reading: Reading, out: &mut [u8]) -> Heard
     requires { WellFormed t.now × (longest ≤ length out.old) }
-    ensures value { (result ≡ heard_as edition (turn_on (panels_of t.now) verdict d.now seems)) × (result.sent ≤ longest) }
-    ensures out_after { out.new ≡ laid_over (sent_bytes edition (turn_on (panels_of t.now) verdict d.now seems).reply) out.old }
+    ensures value { (result ≡ heard_as edition (turn_on (panels_of t.now) reading.entry.verdict reading.entry.data.now reading.entry.seems)) × (result.sent ≤ longest) }
+    ensures out_after { out.new ≡ laid_over (sent_bytes edition (turn_on (panels_of t.now) reading.entry.verdict reading.entry.data.now reading.entry.seems).reply) out.old }
 {
-    let entry = entry_of(t, turning::names_in(verdict, seems));
-    let turn = turning::turn_of(entry, verdict, d, seems);
+    let entry = entry_of(t, turning::names_in(reading));
+    let turn = turning::turn_of(entry, reading);
     let sent = answering::put_answer(edition, turn.reply, out);
     let change = turn.change;
     Heard { sent, change }
 }
 
-// The answer to what was read of a burst: its verdict, its data, and whom it seems to be for if it is damaged.
-pub fn answered_on(mut t: Table, verdict: Verdict, d: &[u8], seems: Option<MonitorId>) -> Played
+// The answer to what was read of a burst.
+pub fn answered_on(mut t: Table, reading: Reading) -> Played
     requires { WellFormed t }
-    ensures { result ≡ answered_on t (record { verdict = verdict; part = d.now; seems = seems }) }
+    ensures { result ≡ answered_on t (reading_in reading.entry) }
 {
-    let entry = entry_of(&t, turning::names_in(verdict, seems));
-    let turn = turning::turn_of(entry, verdict, d, seems);
+    let entry = entry_of(&t, turning::names_in(reading));
+    let turn = turning::turn_of(entry, reading);
     if let Some(change) = turn.change {
-        store(&mut t, change, d);
+        store(&mut t, change, reading.data);
     }
     Played {
         table: t,
         reply: turn.reply,
-        damage: packet::damage_in(verdict),
+        damage: packet::damage_in(reading.verdict),
     }
 }
 
@@ -82,8 +75,5 @@ pub fn play(edition: Edition, t: Table, burst: &[u8]) -> Played
     requires { WellFormed t }
     ensures { result ≡ answered_on t (reading_of edition burst.now) }
 {
-    let verdict = packet::verdict_of(edition, burst);
-    let d = packet::data_of(edition, burst, verdict);
-    let seems = packet::seems_for(edition, burst);
-    answered_on(t, verdict, d, seems)
+    answered_on(t, packet::read(edition, burst))
 }

@@ -5,20 +5,20 @@ ghost use Rattle.answers.specs.Turn.{names_in, span_of, change_of, reply_to, nac
 ghost use Rattle.answers.specs.Private.Orders.{order_of, allowed_in};
 
 use crate::{Change, Entry, Names, Order, PROFILE_COUNT, Reply, Span, Turn, answering, judging};
-use packet::{Control, GroupId, MonitorId, Verdict};
+use packet::{Control, GroupId, MonitorId, Reading, Verdict};
 use panels::{MOST_PANELS, Panel};
 
 // A damaged burst names the panel that it seems to be for.
-pub fn names_in(verdict: Verdict, seems: Option<MonitorId>) -> Names
-    ensures { result ≡ names_in verdict seems }
+pub fn names_in(reading: Reading) -> Names
+    ensures { result ≡ names_in reading.entry.verdict reading.entry.seems }
 {
     let nobody = Names {
         id: MonitorId(0),
         group: GroupId(0),
     };
-    match verdict {
+    match reading.verdict {
         Verdict::Empty => nobody,
-        Verdict::Damaged(_) => match seems {
+        Verdict::Damaged(_) => match reading.seems {
             None => nobody,
             Some(id) => Names {
                 id,
@@ -158,12 +158,12 @@ fn turn_by(entry: Entry, names: Names, d: &[u8]) -> Turn
     Turn { reply, change }
 }
 
-// What a burst comes to, by its verdict, its data, whom it seems to be for if it is damaged, and what the table has of its names.
+// What a burst comes to, by what was read of it and what the table has of its names.
 #[tactic(auto, unfolding(crate::specs::Turn::turn_by))]
-pub fn turn_of(entry: Entry, verdict: Verdict, d: &[u8], seems: Option<MonitorId>) -> Turn
-    ensures { result ≡ turn_by entry verdict d.now seems }
+pub fn turn_of(entry: Entry, reading: Reading) -> Turn
+    ensures { result ≡ turn_by entry reading.entry.verdict reading.entry.data.now reading.entry.seems }
 {
-    match verdict {
+    match reading.verdict {
         Verdict::Empty => {
             let reply = answering::silence();
             Turn {
@@ -172,7 +172,7 @@ pub fn turn_of(entry: Entry, verdict: Verdict, d: &[u8], seems: Option<MonitorId
             }
         }
         Verdict::Damaged(_) => {
-            let reply = nack_to(entry, seems);
+            let reply = nack_to(entry, reading.seems);
             Turn {
                 reply,
                 change: None,
@@ -182,6 +182,6 @@ pub fn turn_of(entry: Entry, verdict: Verdict, d: &[u8], seems: Option<MonitorId
             id,
             group,
             count: _,
-        } => turn_by(entry, Names { id, group }, d),
+        } => turn_by(entry, Names { id, group }, reading.data),
     }
 }

@@ -20,14 +20,12 @@ pub(crate) fn play_all(edition: Edition, t: &mut Table, list: BurstList, out: &m
 {
     let mut written = 0;
     for burst in list {
-        let verdict = packet::verdict_of(edition, burst);
-        let d = packet::data_of(edition, burst, verdict);
-        let seems = packet::seems_for(edition, burst);
-        let heard = answers::hear(edition, t, verdict, d, seems, &mut out[written + 1..]);
+        let reading = packet::read(edition, burst);
+        let heard = answers::hear(edition, t, reading, &mut out[written + 1..]);
         out[written] = heard.sent as u8;
         written = written + 1 + heard.sent;
         if let Some(change) = heard.change {
-            answers::store(t, change, d);
+            answers::store(t, change, reading.data);
         }
     }
     written

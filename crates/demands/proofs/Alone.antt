@@ -6,7 +6,7 @@ use mathlib.Core.List.{List, [], ◌∷◌, map}
 use borrow.Author.Tests.{eqb-true}
 use lib.Dec.{eqb}
 use lib.ListN.{length, get_or}
-use Rattle.std.specs.Prelude.{Option, Some, None}
+use Rattle.std.specs.Prelude.{Option, Some, None, is_some}
 use Rattle.lists.proofs.Mapped.{at_map}
 use Rattle.packet.specs.declared.Edition.{Edition}
 use Rattle.packet.specs.declared.MonitorId.{MonitorId}
@@ -15,8 +15,7 @@ use Rattle.packet.specs.declared.Verdict.{Verdict}
 use Rattle.packet.specs.Answered.{is_heard}
 use Rattle.packet.specs.Reading.{Reading, reading_of}
 use Rattle.panels.specs.declared.Panel.{Panel}
-use Rattle.panels.specs.declared.Place.{Place}
-use Rattle.panels.specs.Wall.{Wall, blank, panels_of, place_of, place_from, if_there}
+use Rattle.panels.specs.Wall.{Wall, blank, panels_of, place_of, place_from}
 use Rattle.panels.specs.WellFormed.{GoodWall}
 use Rattle.panels.proofs.Formed.{apart}
 use Rattle.panels.proofs.Laws.{place_there, place_nowhere}
@@ -44,27 +43,27 @@ module _ (w : Wall) (good : GoodWall w) (k : ℕ) (inside : k < length w) where
   p = get_or w k blank
 
   -- an answer that goes by the place of an ID
-  record Says (i : MonitorId) (say : Panel → Reply) (from : Wall → Place → Reply) : Type 0 where
+  record Says (i : MonitorId) (say : Panel → Reply) (from : Wall → Option ℕ → Reply) : Type 0 where
     named : (q : Panel) → (say q).id ≡ i
-    nowhere : (v : Wall) → from v Place.Nowhere ≡ silence
-    at : (v : Wall) (j : ℕ) → from v (Place.At j) ≡ say (get_or v j blank)
+    nowhere : (v : Wall) → from v None ≡ silence
+    at : (v : Wall) (j : ℕ) → from v (Some j) ≡ say (get_or v j blank)
 
-  module _ {i : MonitorId} {say : Panel → Reply} {from : Wall → Place → Reply} (s : Says i say from) where
+  module _ {i : MonitorId} {say : Panel → Reply} {from : Wall → Option ℕ → Reply} (s : Says i say from) where
     alone_says : from (p ∷ []) (place_of i (p ∷ [])) ≡ cond (eqb p.id.0 i.0) (say p) silence
     unfolding place_from
     alone_says = go (eqb p.id.0 i.0)
       where
-        go : (t : Bool) → from (p ∷ []) (cond t (Place.At 0) Place.Nowhere) ≡ cond t (say p) silence
+        go : (t : Bool) → from (p ∷ []) (cond t (Some 0) None) ≡ cond t (say p) silence
         go true = s.at (p ∷ []) 0
         go false = s.nowhere (p ∷ [])
 
-    among_says : (q : Place) → place_of i w ≡ q → if_from p.id (from w q) ≡ cond (eqb p.id.0 i.0) (say p) silence
-    among_says Place.Nowhere e = rw (s.nowhere w) (silent (eqb p.id.0 _) ∙ go (eqb p.id.0 i.0) refl)
+    among_says : (q : Option ℕ) → place_of i w ≡ q → if_from p.id (from w q) ≡ cond (eqb p.id.0 i.0) (say p) silence
+    among_says None e = rw (s.nowhere w) (silent (eqb p.id.0 _) ∙ go (eqb p.id.0 i.0) refl)
       where
         go : (t : Bool) → eqb p.id.0 i.0 ≡ t → silence ≡ cond t (say p) silence
         go true h = absurd (place_nowhere i w e k inside (eqb-true _ _ h))
         go false h = refl
-    among_says (Place.At j) e =
+    among_says (Some j) e =
         ap (if_from p.id) (s.at w j)
         ∙ ap (λ (m : MonitorId). cond (eqb p.id.0 m.0) (say (get_or w j blank)) silence) (s.named (get_or w j blank))
         ∙ go (eqb p.id.0 i.0) refl
@@ -78,7 +77,7 @@ module _ (w : Wall) (good : GoodWall w) (k : ℕ) (inside : k < length w) where
     says_alone : if_from p.id (from w (place_of i w)) ≡ from (p ∷ []) (place_of i (p ∷ []))
     says_alone = among_says (place_of i w) refl ∙ sym alone_says
 
-  nack_says : (i : MonitorId) → Says i (λ q. word_from i Control.Nack) (λ v q. if_there q (word_from i Control.Nack) silence)
+  nack_says : (i : MonitorId) → Says i (λ q. word_from i Control.Nack) (λ v q. cond (is_some q) (word_from i Control.Nack) silence)
   nack_says i = record { named = λ q. refl; nowhere = λ v. refl; at = λ v j. refl }
 
   reply_says : (i : MonitorId) (c : Command) → Says i (λ q. reply_by i (judge c q)) (λ v q. reply_from v i c q)

@@ -4,7 +4,7 @@ use mathlib.Core.Bool.{Bool, true, false, cond, false≢true, ◌&&◌}
 use mathlib.Core.Logic.{inl, inr}
 use mathlib.Core.Path.{◌≡◌, refl, sym, ap, ◌∙◌}
 use mathlib.Core.List.{List, [], ◌∷◌, flatten}
-use Rattle.std.specs.Prelude.{Ok, Err}
+use Rattle.std.specs.Prelude.{Ok, Err, Option, Some, None, is_some}
 use lib.Dec.{leb, eqb}
 use lib.ListN.{length, get_or, drop}
 use Rattle.lists.proofs.Laid.{behind-over}
@@ -14,11 +14,10 @@ use Rattle.packet.specs.declared.Verdict.{Verdict}
 use Rattle.packet.specs.Packet.{longest}
 use Rattle.lists.specs.Lists.{laid_over}
 use Rattle.panels.specs.declared.Panel.{Panel}
-use Rattle.panels.specs.declared.Place.{Place}
 use Rattle.table_calls.specs.declared.Refusal.{Refusal}
-use Rattle.panels.specs.Wall.{Wall, blank, place_of, panels_of, if_there}
+use Rattle.panels.specs.Wall.{Wall, blank, place_of, panels_of}
 use Rattle.panels.specs.Addressed.{reaches}
-use Rattle.table_calls.specs.Calls.{refusal_number as table_number, add_refusal, added, without, removed}
+use Rattle.table_calls.specs.Calls.{add_refusal, added, without, removed}
 use Rattle.answers.specs.declared.Sent.{Sent}
 use Rattle.answers.specs.Reply.{sent_bytes, sent_of, refusal_number as answer_number, output_of as answer_output}
 use Rattle.answers.specs.Judged.{command}
@@ -46,23 +45,17 @@ pub add-refused : AddRefused
 unfolding added
 add-refused w i g n k refused = go (add_refusal w i g n k) _ refused
   where
-    go : (r : Refusal) (then : Wall) → (r ≡ Refusal.Nothing → ⊥) → cond (eqb (table_number r) 0) then w ≡ w
-    go Refusal.Nothing then n = absurd (n refl)
-    go Refusal.Full then n = refl
-    go Refusal.IdZero then n = refl
-    go Refusal.IdTaken then n = refl
-    go Refusal.GroupZero then n = refl
-    go Refusal.UnknownProfile then n = refl
-    go Refusal.NoPanel then n = refl
-    go Refusal.UnknownKind then n = refl
+    go : (r : Option Refusal) (then : Wall) → (r ≡ None → ⊥) → cond (is_some r) w then ≡ w
+    go None then n = absurd (n refl)
+    go (Some refusal) then n = refl
 
 pub remove-refused : RemoveRefused
 unfolding removed
 remove-refused w i refused = go (place_of i w) refused
   where
-    go : (q : Place) → (if_there q Refusal.Nothing Refusal.NoPanel ≡ Refusal.Nothing → ⊥) → without q w ≡ w
-    go (Place.At k) n = absurd (n refl)
-    go Place.Nowhere n = refl
+    go : (q : Option ℕ) → (cond (is_some q) None (Some Refusal.NoPanel) ≡ None → ⊥) → without q w ≡ w
+    go (Some k) n = absurd (n refl)
+    go None n = refl
 
 pub bad_burst : BadBurst
 unfolding answered turned

@@ -5,7 +5,7 @@ use mathlib.Core.Logic.{◌⊎◌, inl, inr}
 use mathlib.Core.Path.{◌≡◌, refl, sym, ap, ◌∙◌}
 use mathlib.Core.List.{[], ◌∷◌}
 use lib.ListN.{length, get_or}
-use Rattle.std.specs.Prelude.{Option, Some, None}
+use Rattle.std.specs.Prelude.{Option, Some, None, is_some}
 use Rattle.codes.proofs.Laws.{get_found}
 use Rattle.packet.specs.declared.MonitorId.{MonitorId}
 use Rattle.packet.specs.declared.GroupId.{GroupId}
@@ -14,8 +14,7 @@ use Rattle.packet.specs.declared.Verdict.{Verdict}
 use Rattle.packet.specs.Reading.{Reading, reading_of}
 use Rattle.packet.proofs.Packets.{packet_verdict, packet_data_lem}
 use Rattle.panels.specs.declared.Panel.{Panel}
-use Rattle.panels.specs.declared.Place.{Place}
-use Rattle.panels.specs.Wall.{Wall, blank, table_of, panels_of, place_of, if_there}
+use Rattle.panels.specs.Wall.{Wall, blank, table_of, panels_of, place_of}
 use Rattle.packet.specs.Answered.{is_heard}
 use Rattle.panels.specs.Addressed.{reaches}
 use Rattle.panels.specs.WellFormed.{GoodPanel, GoodWall}
@@ -121,17 +120,17 @@ judged-answer w i k (set_of row vs) on h e = go (takes row vs (get_or w k blank)
     go true = inr (inl (i, Control.Ack, refl))
     go false = inr (inl (i, Control.Nav, refl))
 
-heard-answer : (w : Wall) (i : MonitorId) (c : Command) → OnLine c → (q : Place) → place_of i w ≡ q → Answer-Is w (reply_from w i c q)
-heard-answer w i c on Place.Nowhere e = inl refl
-heard-answer w i c on (Place.At k) e = let (h, same) = place_there i w k e in judged-answer w i k c on h same
+heard-answer : (w : Wall) (i : MonitorId) (c : Command) → OnLine c → (q : Option ℕ) → place_of i w ≡ q → Answer-Is w (reply_from w i c q)
+heard-answer w i c on None e = inl refl
+heard-answer w i c on (Some k) e = let (h, same) = place_there i w k e in judged-answer w i k c on h same
 
 packet_answer : (w : Wall) (i : MonitorId) (c : Command) → OnLine c → (t : Bool) → Answer-Is w (cond t (reply_from w i c (place_of i w)) silence)
 packet_answer w i c on true = heard-answer w i c on (place_of i w) refl
 packet_answer w i c on false = inl refl
 
-nack_answer : (w : Wall) (i : MonitorId) (q : Place) → Answer-Is w (if_there q (word_from i Control.Nack) silence)
-nack_answer w i Place.Nowhere = inl refl
-nack_answer w i (Place.At k) = inr (inl (i, Control.Nack, refl))
+nack_answer : (w : Wall) (i : MonitorId) (q : Option ℕ) → Answer-Is w (cond (is_some q) (word_from i Control.Nack) silence)
+nack_answer w i None = inl refl
+nack_answer w i (Some k) = inr (inl (i, Control.Nack, refl))
 
 damaged_answer : (w : Wall) (a : Option MonitorId) → Answer-Is w (nack_from w a)
 damaged_answer w None = inl refl

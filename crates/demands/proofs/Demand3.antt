@@ -4,7 +4,7 @@ use mathlib.Core.Bool.{true}
 use mathlib.Core.Logic.{inl, inr}
 use mathlib.Core.Path.{◌≡◌, refl, sym, ap, subst, ◌∙◌}
 use mathlib.Core.List.{List, [], ◌∷◌, ◌++◌, map, append_assoc, append-nil}
-use Rattle.std.specs.Prelude.{Option, Some, None}
+use Rattle.std.specs.Prelude.{Option, Some, None, is_some, cond}
 use Rattle.packet.specs.declared.Edition.{Edition}
 use Rattle.packet.specs.declared.Control.{Control}
 use Rattle.packet.specs.declared.Damage.{Damage}
@@ -14,8 +14,7 @@ use Rattle.packet.specs.Reading.{Reading, reading_of}
 use Rattle.packet.specs.Packet.{is_intact}
 use Rattle.packet.specs.Spoiled.{Spoiling, spoiled, Spoils}
 use Rattle.packet.proofs.Spoiled.{spoiled_damaged}
-use Rattle.panels.specs.declared.Place.{Place}
-use Rattle.panels.specs.Wall.{Wall, place_of, if_there}
+use Rattle.panels.specs.Wall.{Wall, place_of}
 use Rattle.answers.specs.declared.Reply.{Reply}
 use Rattle.answers.specs.Reply.{silence, word_from}
 use Rattle.answers.specs.Played.{Outcome, nack_from, answered, played}
@@ -25,9 +24,9 @@ use Rattle.answers.proofs.Readings.{answered_damaged}
 use Rattle.line.specs.Streams.{stream_after}
 use Rattle.demands.specs.Demand3.{whole, spoilt, sent, kept, SilenceOrNack, AsIfNeverSent, Withstands, Demand3, on_line, Demand3-line}
 
-nack_or_silent : (i : MonitorId) (q : Place) → SilenceOrNack (if_there q (word_from i Control.Nack) silence)
-nack_or_silent i Place.Nowhere = inl refl
-nack_or_silent i (Place.At k) = inr (i, refl)
+nack_or_silent : (i : MonitorId) (q : Option ℕ) → SilenceOrNack (cond (is_some q) (word_from i Control.Nack) silence)
+nack_or_silent i None = inl refl
+nack_or_silent i (Some k) = inr (i, refl)
 
 damaged_answer : (w : Wall) (a : Option MonitorId) → SilenceOrNack (nack_from w a)
 damaged_answer w None = inl refl

@@ -5,6 +5,7 @@ use mathlib.Core.Path.{◌≡◌, refl, sym, ap, subst, ◌∙◌}
 use mathlib.Core.List.{List, [], ◌∷◌, map}
 use native.Mathlib.Omega.{arith}
 use lib.ListN.{get_or}
+use Rattle.std.specs.Prelude.{Option, Some, None}
 use Rattle.settings.specs.Settings.{kind_row}
 use Rattle.codes.specs.declared.Found.{Found}
 use Rattle.codes.specs.Found.{found_by}
@@ -14,7 +15,6 @@ use Rattle.packet.specs.declared.Verdict.{Verdict}
 use Rattle.packet.specs.Answered.{is_heard}
 use Rattle.packet.specs.Reading.{Reading, reading_of}
 use Rattle.panels.specs.declared.Panel.{Panel}
-use Rattle.panels.specs.declared.Place.{Place}
 use Rattle.panels.specs.declared.Table.{Table}
 use Rattle.panels.specs.Wall.{Wall, model_of, blank, place_of, panels_of, table_of}
 use Rattle.panels.specs.Addressed.{reaches}
@@ -60,11 +60,11 @@ still_stands : (w : Wall) → GoodWall w → (b : Reading) (r : Request) → Sta
 still_stands w good b r stands =
     subst (StandsAs r (map (changed b) w)) (sym (same_place (changed b) (λ p. kept-names b.verdict b.part p) r.id 0 w)) (go (place_of r.id w) refl stands)
   where
-    go : (q : Place) → place_of r.id w ≡ q → StandsAs r w q → StandsAs r (map (changed b) w) q
-    go (Place.At k) e s =
+    go : (q : Option ℕ) → place_of r.id w ≡ q → StandsAs r w q → StandsAs r (map (changed b) w) q
+    go (Some k) e s =
         let (there, _) = place_there r.id w k e in
         ap model_of (at_map (changed b) w k blank blank there) ∙ kept_model b (get_or w k blank) (good_at w good k there) ∙ s
-    go Place.Nowhere e s = s
+    go None e s = s
 
 still_all : (edition : Edition) (w : Wall) → GoodWall w → (b : Reading) (rs : List Request) → AllAnswered edition w rs → AllAnswered edition (map (changed b) w) rs
 still_all edition w good b [] all = tt
@@ -84,10 +84,10 @@ module _ (edition : Edition) (t : Table) (f : WellFormed t) (r : Request) (reque
   abbrev answer : List ℕ
   answer = sent_bytes edition (played edition (panels_of t) (request_packet edition r)).reply
 
-  heard_once : is_heard r.id r.group ≡ true → (q : Place) → place_of r.id (panels_of t) ≡ q → StandsAs r (panels_of t) q
+  heard_once : is_heard r.id r.group ≡ true → (q : Option ℕ) → place_of r.id (panels_of t) ≡ q → StandsAs r (panels_of t) q
       → Once edition (step (step (idle edition) (start r)).next (burst answer))
-  heard_once due (Place.At k) there told = ends_once edition (found_by r.code) r _ _ (lossless edition t f r k 0 request due there told (omega arith))
-  heard_once due Place.Nowhere there told = absurd told
+  heard_once due (Some k) there told = ends_once edition (found_by r.code) r _ _ (lossless edition t f r k 0 request due there told (omega arith))
+  heard_once due None there told = absurd told
 
   unheard_once : is_heard r.id r.group ≡ false → Once edition (step (idle edition) (start r))
   unfolding step begun

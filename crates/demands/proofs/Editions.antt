@@ -6,6 +6,7 @@ use mathlib.Core.List.{List, []}
 use borrow.Author.Tests.{eq-eqb, ne_eqb, eqb-true, eqb-false}
 use lib.Dec.{leb, ltb, eqb}
 use lib.ListN.{length, get_or}
+use Rattle.std.specs.Prelude.{None}
 use Rattle.settings.specs.Settings.{most_values}
 use Rattle.packet.specs.declared.Edition.{Edition}
 use Rattle.packet.specs.declared.Verdict.{Verdict}
@@ -14,7 +15,6 @@ use Rattle.packet.specs.Packet.{monitor_id, group_id, longest, is_intact, verdic
 use Rattle.packet.proofs.EachEdition.{number_back}
 use Rattle.packet.proofs.Packets.{intact-verdict}
 use Rattle.requests.specs.declared.Request.{Request}
-use Rattle.requests.specs.declared.Said.{Said}
 use Rattle.requests.specs.Request.{is_request}
 use Rattle.requests.specs.Said.{word_in}
 use Rattle.line.specs.declared.Receiver.{Receiver}
@@ -71,17 +71,17 @@ group-zero r = go (eqb r.group.0 0) refl
 -- of an intact burst
 heeded_so : (edition : Edition) (r : Request) (b : List ℕ) (n : ℕ)
     → said_by r (Verdict.Intact (monitor_id (get_or b 1 0)) (group_id (group_on edition (get_or b 2 0))) n) (data_of edition b)
-    ≡ cond (heeds edition r b) (word_in r.model r.code (data_of edition b)) Said.Nothing
+    ≡ cond (heeds edition r b) (word_in r.model r.code (data_of edition b)) None
 unfolding said_by
 heeded_so Edition.Sicp185 r b n = refl
 heeded_so Edition.Sicp201 r b n = refl
 
 -- and of another
-ignored : (r : Request) (edition : Edition) (b d : List ℕ) → is_intact edition b ≡ false → said_by r (verdict_of edition b) d ≡ Said.Nothing
+ignored : (r : Request) (edition : Edition) (b d : List ℕ) → is_intact edition b ≡ false → said_by r (verdict_of edition b) d ≡ None
 unfolding verdict_of is_intact said_by
 ignored r edition b d e = go (eqb (length b) 0) refl
   where
-    go : (z : Bool) → eqb (length b) 0 ≡ z → said_by r (verdict_of edition b) d ≡ Said.Nothing
+    go : (z : Bool) → eqb (length b) 0 ≡ z → said_by r (verdict_of edition b) d ≡ None
     go true z = rw z
     go false z = rw (z, e)
 
@@ -90,6 +90,6 @@ unfolding said_to
 heeded edition r b = go (is_intact edition b) refl
   where
     go : (t : Bool) → is_intact edition b ≡ t
-        → said_by r (verdict_of edition b) (data_of edition b) ≡ cond (t && heeds edition r b) (word_in r.model r.code (data_of edition b)) Said.Nothing
+        → said_by r (verdict_of edition b) (data_of edition b) ≡ cond (t && heeds edition r b) (word_in r.model r.code (data_of edition b)) None
     go true e = ap (λ (v : Verdict). said_by r v (data_of edition b)) (intact-verdict edition b e) ∙ heeded_so edition r b _
     go false e = ignored r edition b _ e

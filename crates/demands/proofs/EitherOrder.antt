@@ -6,7 +6,7 @@ use mathlib.Core.List.{List, [], ◌∷◌, map}
 use borrow.Author.Tests.{eqb-false, eq-eqb}
 use lib.Dec.{eqb}
 use lib.ListN.{length, get_or}
-use Rattle.std.specs.Prelude.{Option, Some, None}
+use Rattle.std.specs.Prelude.{Option, Some, None, is_some}
 use Rattle.lists.proofs.Both.{both}
 use Rattle.lists.proofs.Mapped.{at_map, map_alike}
 use Rattle.packet.specs.declared.MonitorId.{MonitorId}
@@ -16,8 +16,7 @@ use Rattle.packet.specs.declared.Control.{Control}
 use Rattle.packet.specs.Answered.{is_heard}
 use Rattle.packet.specs.Reading.{Reading}
 use Rattle.panels.specs.declared.Panel.{Panel}
-use Rattle.panels.specs.declared.Place.{Place}
-use Rattle.panels.specs.Wall.{Wall, blank, place_of, if_there}
+use Rattle.panels.specs.Wall.{Wall, blank, place_of}
 use Rattle.panels.specs.Addressed.{reaches}
 use Rattle.panels.specs.WellFormed.{GoodPanel, GoodWall}
 use Rattle.panels.proofs.Formed.{good_at}
@@ -131,12 +130,12 @@ module _ (w : Wall) (good : GoodWall w) (r s : Reading) (free : (k : ℕ) → k 
 
       nack : (a : Option MonitorId) → nack_from v a ≡ nack_from w a
       nack None = refl
-      nack (Some i) = ap (λ (q : Place). if_there q (word_from i Control.Nack) silence) (place i)
+      nack (Some i) = ap (λ (q : Option ℕ). cond (is_some q) (word_from i Control.Nack) silence) (place i)
 
-      from : (i : MonitorId) (g : GroupId) (n : ℕ) → r.verdict ≡ Verdict.Intact i g n → is_heard i g ≡ true → (q : Place) → place_of i w ≡ q
+      from : (i : MonitorId) (g : GroupId) (n : ℕ) → r.verdict ≡ Verdict.Intact i g n → is_heard i g ≡ true → (q : Option ℕ) → place_of i w ≡ q
           → reply_from v i (command r.part) q ≡ reply_from w i (command r.part) q
-      from i g n e h Place.Nowhere at = refl
-      from i g n e h (Place.At k) at =
+      from i g n e h None at = refl
+      from i g n e h (Some k) at =
           let (inside, same) = place_there i w k at in
           let p = get_or w k blank in
           ap (λ (u : Wall). reply_by i (judge (command r.part) (get_or u k blank))) is

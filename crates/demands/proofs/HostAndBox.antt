@@ -8,7 +8,7 @@ use borrow.Author.Tests.{eqb-true, eqb-false, eq-eqb, ne_eqb, lt-ltb}
 use lib.Dec.{eqb, leb, ltb}
 use lib.ListN.{length, get_or, length-take, length-replicate}
 use lib.Seq.{take-append_seam}
-use Rattle.std.specs.Prelude.{None}
+use Rattle.std.specs.Prelude.{Option, Some, None}
 use Rattle.models.specs.declared.Model.{Model}
 use Rattle.codes.specs.declared.Found.{Found}
 use Rattle.settings.specs.Settings.{settings, set_code, get_code, byte_count, values_of, row_count, most_values, kind_row, power_row, tiling_row, off}
@@ -30,7 +30,6 @@ use Rattle.packet.specs.Answered.{is_heard}
 use Rattle.packet.proofs.EachEdition.{head_few, group-none}
 use Rattle.packet.proofs.Packets.{packet_verdict, packet_data_lem}
 use Rattle.panels.specs.declared.Panel.{Panel}
-use Rattle.panels.specs.declared.Place.{Place}
 use Rattle.panels.specs.Wall.{Wall, model_of, blank, place_of, panels_of}
 use Rattle.panels.specs.WellFormed.{GoodPanel}
 use Rattle.panels.proofs.Laws.{place_there}
@@ -61,7 +60,7 @@ codes_some row s h =
 
 -- The box answers a request to a panel that is there as that panel judges it.
 word_report : (model : Model) (code row : ℕ) (values : List ℕ) → found_by code ≡ Found.Get row → eqb (get_code row) 0 ≡ false
-    → allowed_for model row values ≡ true → word_in model code (get_code row ∷ values) ≡ Said.Report
+    → allowed_for model row values ≡ true → word_in model code (get_code row ∷ values) ≡ (Some Said.Report)
 unfolding word_in is_control same ended_by is_report
 word_report model code row values found not_zero allowed = rw (not_zero, found, eq-eqb (get_code row) _ refl, allowed)
 
@@ -113,7 +112,7 @@ may_hold p row vs may = go (eqb row tiling_row) (eqb (get_or vs 3 0) 0) refl ref
         subst (λ (r : ℕ). allowed_for model r (held_then r vs p) ≡ not (past_wall r vs p)) (sym same_row)
         (open_wall p vs (four ∙ ap byte_count same_row ∙ tiling_count) (subst (λ (r : ℕ). may_set model r vs ≡ true) same_row may) (eqb-true (get_or vs 3 0) 0 ez))
 
-module _ (edition : Edition) (w : Wall) (r : Request) (k : ℕ) (asked : is_request edition r ≡ true) (due : is_heard r.id r.group ≡ true) (there : place_of r.id w ≡ Place.At k)
+module _ (edition : Edition) (w : Wall) (r : Request) (k : ℕ) (asked : is_request edition r ≡ true) (due : is_heard r.id r.group ≡ true) (there : place_of r.id w ≡ Some k)
     (told : model_of (get_or w k blank) ≡ r.model) where
   abbrev panel : Panel
   panel = get_or w k blank
@@ -137,17 +136,17 @@ module _ (edition : Edition) (w : Wall) (r : Request) (k : ℕ) (asked : is_requ
   waits_on (suc n) h = ap (λ (s : State). (step s mark).next) (waits_on n (omega arith)) ∙ sends n h
 
   -- what is heeded has no damage
-  untold : (s : State) (d : List ℕ) (w : Said) → telling None (ending s d w) ≡ ending s d w
+  untold : (s : State) (d : List ℕ) (w : Option Said) → telling None (ending s d w) ≡ ending s d w
   unfolding ending again
-  untold s d Said.Ack = refl
-  untold s d Said.Nack = go (ltb (sendings s) most_sendings) refl refl
+  untold s d (Some Said.Ack) = refl
+  untold s d (Some Said.Nack) = go (ltb (sendings s) most_sendings) refl refl
     where
       go : (t : Bool) {m o : Move} → telling None m ≡ m → telling None o ≡ o → telling None (cond t m o) ≡ cond t m o
       go true h k = h
       go false h k = k
-  untold s d Said.Nav = refl
-  untold s d Said.Report = refl
-  untold s d Said.Nothing = refl
+  untold s d (Some Said.Nav) = refl
+  untold s d (Some Said.Report) = refl
+  untold s d None = refl
 
   -- NAV to a power off
   power_off_lem : (row : ℕ) → found_by r.code ≡ Found.Set row → off_already row (request_values r) panel ≡ true → is_power_off r ≡ true

@@ -7,6 +7,7 @@ use native.Mathlib.Omega.{arith}
 use borrow.Author.Tests.{ltb-true, ltb-false, lt-ltb, lt-leb, le-leb, ne_eqb}
 use lib.Dec.{leb, ltb, eqb}
 use lib.ListN.{length}
+use Rattle.std.specs.Prelude.{Option, Some, None}
 use Rattle.lists.specs.Lists.{same}
 use Rattle.settings.specs.Settings.{settings, get_code}
 use Rattle.codes.specs.declared.Found.{Found}
@@ -38,7 +39,7 @@ ends_by_lem r (Found.Get row) [] = refl
 ends_by_lem r (Found.Get row) (c ∷ values) = rw (and-true (eqb c (get_code row)))
 ends_by_lem r Found.Nothing d = refl
 
-word_in_lem : (r : Request) (d : List ℕ) → word_in r.model r.code d ≡ cond (same d (0x00 ∷ 0x15 ∷ [])) Said.Nack (cond (same d (0x00 ∷ 0x18 ∷ [])) Said.Nav (ends_by r (found_by r.code) d))
+word_in_lem : (r : Request) (d : List ℕ) → word_in r.model r.code d ≡ cond (same d (0x00 ∷ 0x15 ∷ [])) (Some Said.Nack) (cond (same d (0x00 ∷ 0x18 ∷ [])) (Some Said.Nav) (ends_by r (found_by r.code) d))
 unfolding word_in is_control
 word_in_lem r d = rw (ends_by_lem r (found_by r.code) d)
 
@@ -46,7 +47,7 @@ pub said_is : (edition : Edition) (r : Request) (b : List ℕ) → said_to r (re
 said_is edition r b = heeded edition r b ∙ go (is_intact edition b) refl
   where
     go : (t : Bool) → is_intact edition b ≡ t
-        → cond (is_intact edition b && heeds edition r b) (word_in r.model r.code (data_of edition b)) Said.Nothing ≡ said edition r b
+        → cond (is_intact edition b && heeds edition r b) (word_in r.model r.code (data_of edition b)) None ≡ said edition r b
     go true e = rw (data_in_lem edition b e, word_in_lem r (data_in edition b))
     go false e = rw e
 
@@ -63,13 +64,13 @@ again_by : (s : State) → again s ≡ sent_again s
 unfolding again
 again_by s = never_both (length s.given) _ _
 
-moved_by_lem : (s : State) (d : List ℕ) (w : Said) → ending s d w ≡ moved_by s d w
+moved_by_lem : (s : State) (d : List ℕ) (w : Option Said) → ending s d w ≡ moved_by s d w
 unfolding ending nav_ends is_power_off settings
-moved_by_lem s d Said.Ack = refl
-moved_by_lem s d Said.Nack = again_by s
-moved_by_lem s d Said.Nav = refl
-moved_by_lem s d Said.Report = refl
-moved_by_lem s d Said.Nothing = refl
+moved_by_lem s d (Some Said.Ack) = refl
+moved_by_lem s d (Some Said.Nack) = again_by s
+moved_by_lem s d (Some Said.Nav) = refl
+moved_by_lem s d (Some Said.Report) = refl
+moved_by_lem s d None = refl
 
 -- what is not intact says nothing
 waiting_by : (s : State) (b : List ℕ) → heard s (reading_of s.edition b) ≡ moved_by s (data_in s.edition b) (said s.edition s.request b)

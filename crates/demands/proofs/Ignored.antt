@@ -7,9 +7,9 @@ use native.Mathlib.Omega.{arith}
 use borrow.Author.Tests.{eqb-true, eqb-false, lt-ltb}
 use lib.Dec.{eqb}
 use lib.ListN.{length-replicate}
+use Rattle.std.specs.Prelude.{None}
 use Rattle.packet.specs.Packet.{damage_in}
 use Rattle.packet.specs.Reading.{reading_of}
-use Rattle.requests.specs.declared.Said.{Said}
 use Rattle.host.specs.declared.Host.{Host}
 use Rattle.host.specs.declared.Outcome.{Outcome}
 use Rattle.host.specs.Machine.{burst, is_over, quiet, unasked, ending, heard, telling, step}
@@ -46,7 +46,7 @@ not_over true true = refl
 not_over true false = refl
 not_over false resting = refl
 
-module _ (host : Host) (b lent : List ℕ) (nothing : eqb host.sendings 0 ≡ false → said host.edition host.request b ≡ Said.Nothing) where
+module _ (host : Host) (b lent : List ℕ) (nothing : eqb host.sendings 0 ≡ false → said host.edition host.request b ≡ None) where
   abbrev heard_call : Call
   heard_call = record { happens = burst b; lent = lent }
 

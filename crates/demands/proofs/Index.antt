@@ -8,10 +8,10 @@ use native.Mathlib.Decide.{ℕ_discrete}
 use borrow.Author.Tests.{eq-eqb, ne_eqb}
 use lib.Dec.{eqb}
 use lib.ListN.{length, get_or}
+use Rattle.std.specs.Prelude.{Option, Some, None}
 use Rattle.lists.proofs.Each.{length-each}
 use Rattle.packet.specs.Packet.{monitor_id, group_id}
 use Rattle.panels.specs.declared.Panel.{Panel}
-use Rattle.panels.specs.declared.Place.{Place}
 use Rattle.panels.specs.declared.Table.{Table}
 use Rattle.panels.specs.Wall.{Wall, table_of, panels_of, place_of, place_number, members_of}
 use Rattle.panels.proofs.Laws.{place_there, place_nowhere}
@@ -29,14 +29,14 @@ place_kept t c id h = go (place_of (monitor_id id) w) refl
     index : ℕ
     index = get_or t.places id 0
 
-    go : (q : Place) → place_of (monitor_id id) w ≡ q
+    go : (q : Option ℕ) → place_of (monitor_id id) w ≡ q
         → (HasId w id index × ((k : ℕ) → HasId w id k → k ≡ index)) ⊎ ((index ≡ 32) × ((k : ℕ) → HasId w id k → ⊥))
-    go (Place.At k) e =
+    go (Some k) e =
         let f = in_range_lem t c in
         let is : index ≡ k = place_found f (monitor_id id) h 0 ∙ ap place_number e in
         let has : HasId w id index = rw is (place_there (monitor_id id) w k e) in
         inl (has, λ j other. apart w j index f.good other.0 has.0 (other.1 ∙ sym has.1))
-    go Place.Nowhere e = inr (place_found (in_range_lem t c) (monitor_id id) h 0 ∙ ap place_number e, λ k has. place_nowhere (monitor_id id) w e k has.0 has.1)
+    go None e = inr (place_found (in_range_lem t c) (monitor_id id) h 0 ∙ ap place_number e, λ k has. place_nowhere (monitor_id id) w e k has.0 has.1)
 
 -- one after the other, or all at once
 counted : (group : ℕ) (w : Wall) → members_of (group_id group) w ≡ length (filter (λ (p : Panel). ℕ_discrete p.group.0 group) w)

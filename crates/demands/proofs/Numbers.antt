@@ -5,7 +5,7 @@ use mathlib.Core.Bool.{Bool, true, false, cond, ◌&&◌, ◌||◌}
 use mathlib.Core.List.{List, [], ◌∷◌, flatten}
 use lib.Dec.{leb, ltb, eqb}
 use lib.ListN.{length, length-replicate}
-use Rattle.std.specs.Prelude.{Some, None, Ok, Err}
+use Rattle.std.specs.Prelude.{Option, Some, None, Ok, Err, is_some}
 use Rattle.std.specs.Option.{option_map_or}
 use Rattle.settings.specs.declared.Profile.{Profile}
 use Rattle.tiling.specs.declared.Kind.{Kind}
@@ -18,10 +18,9 @@ use Rattle.packet.specs.Reading.{reading_of}
 use Rattle.packet.specs.Answered.{is_heard}
 use Rattle.packet.specs.Edition.{edition_with, open_refusal}
 use Rattle.packet.specs.Packet.{shortest, most_data as packet_data, written_of as packet_written, refusal_number as packet_number}
-use Rattle.panels.specs.declared.Place.{Place}
 use Rattle.table_calls.specs.declared.Refusal.{Refusal}
-use Rattle.panels.specs.Wall.{Wall, place_of, if_there}
-use Rattle.table_calls.specs.Calls.{refusal_number as table_number, add_refusal}
+use Rattle.panels.specs.Wall.{Wall, place_of}
+use Rattle.table_calls.specs.Calls.{number_of as table_number, add_refusal}
 use Rattle.answers.specs.declared.Sent.{Sent}
 use Rattle.answers.specs.Reply.{sent_bytes, sent_of, refusal_number as answer_number}
 use Rattle.requests.specs.declared.Request.{Request}
@@ -45,33 +44,33 @@ pub add_number : Add
 unfolding add_refusal profile_with kind_with
 add_number w i g n k = go (leb 32 (length w)) (eqb i.0 0) (place_of i w) (eqb g.0 0) (eqb n 0) (eqb n 1)
   where
-    kinds : (d e : Bool) → table_number (option_map_or (λ kind. Refusal.Nothing) (cond d (Some Kind.FiveByFive) (cond e (Some Kind.FifteenByTen) None)) Refusal.UnknownKind) ≡ cond (d || e) 0 7
+    kinds : (d e : Bool) → table_number (option_map_or (λ kind. None) (cond d (Some Kind.FiveByFive) (cond e (Some Kind.FifteenByTen) None)) (Some Refusal.UnknownKind)) ≡ cond (d || e) 0 7
     kinds true e = refl
     kinds false true = refl
     kinds false false = refl
 
-    go : (a b : Bool) (q : Place) (c d e : Bool)
+    go : (a b : Bool) (q : Option ℕ) (c d e : Bool)
         → table_number
-        (cond a Refusal.Full
-        (cond b Refusal.IdZero
-        (if_there q Refusal.IdTaken
-        (cond c Refusal.GroupZero
-        (option_map_or (λ profile. option_map_or (λ kind. Refusal.Nothing) (kind_with k) Refusal.UnknownKind) (cond d (Some Profile.General) (cond e (Some Profile.Phoenix) None)) Refusal.UnknownProfile)))))
-        ≡ cond a 1 (cond b 2 (if_there q 3 (cond c 4 (cond (d || e) (cond (eqb k 0 || eqb k 1) 0 7) 5))))
+        (cond a (Some Refusal.Full)
+        (cond b (Some Refusal.IdZero)
+        (cond (is_some q) (Some Refusal.IdTaken)
+        (cond c (Some Refusal.GroupZero)
+        (option_map_or (λ profile. option_map_or (λ kind. None) (kind_with k) (Some Refusal.UnknownKind)) (cond d (Some Profile.General) (cond e (Some Profile.Phoenix) None)) (Some Refusal.UnknownProfile))))))
+        ≡ cond a 1 (cond b 2 (cond (is_some q) 3 (cond c 4 (cond (d || e) (cond (eqb k 0 || eqb k 1) 0 7) 5))))
     go true b q c d e = refl
     go false true q c d e = refl
-    go false false (Place.At k) c d e = refl
-    go false false Place.Nowhere true d e = refl
-    go false false Place.Nowhere false true e = kinds (eqb k 0) (eqb k 1)
-    go false false Place.Nowhere false false true = kinds (eqb k 0) (eqb k 1)
-    go false false Place.Nowhere false false false = refl
+    go false false (Some k) c d e = refl
+    go false false None true d e = refl
+    go false false None false true e = kinds (eqb k 0) (eqb k 1)
+    go false false None false false true = kinds (eqb k 0) (eqb k 1)
+    go false false None false false false = refl
 
 pub remove_number : Remove
 remove_number w i = go (place_of i w)
   where
-    go : (q : Place) → table_number (if_there q Refusal.Nothing Refusal.NoPanel) ≡ if_there q 0 6
-    go (Place.At k) = refl
-    go Place.Nowhere = refl
+    go : (q : Option ℕ) → table_number (cond (is_some q) None (Some Refusal.NoPanel)) ≡ cond (is_some q) 0 6
+    go (Some k) = refl
+    go None = refl
 
 -- form 1 keeps exactly the walls of plain panels
 plain_kept : (w : Wall) → loses_nothing Form.One w ≡ all_plain w
@@ -147,13 +146,13 @@ module _ (s : State) where
   unfolding again
   again-taken = either (ltb (sendings s) most_sendings) _ _ refl refl
 
-  ending-taken : (d : List ℕ) (w : Said) → Taken (ending s d w)
+  ending-taken : (d : List ℕ) (w : Option Said) → Taken (ending s d w)
   unfolding ending
-  ending-taken d Said.Ack = refl
-  ending-taken d Said.Nack = again-taken
-  ending-taken d Said.Nav = refl
-  ending-taken d Said.Report = refl
-  ending-taken d Said.Nothing = refl
+  ending-taken d (Some Said.Ack) = refl
+  ending-taken d (Some Said.Nack) = again-taken
+  ending-taken d (Some Said.Nav) = refl
+  ending-taken d (Some Said.Report) = refl
+  ending-taken d None = refl
 
   unasked-taken : (resting : Bool) → number_in (unasked resting) ≡ 0
   unasked-taken true = refl

@@ -5,6 +5,7 @@ use mathlib.Core.Path.{◌≡◌, refl, ◌∙◌}
 use borrow.Author.Tests.{eq-eqb, ne_eqb}
 use lib.Dec.{eqb}
 use lib.ListN.{get_or}
+use Rattle.std.specs.Prelude.{Some}
 use Rattle.packet.specs.declared.MonitorId.{MonitorId}
 use Rattle.packet.specs.declared.Control.{Control}
 use Rattle.packet.specs.declared.Verdict.{Verdict}
@@ -13,7 +14,6 @@ use Rattle.packet.specs.Reading.{Reading}
 use Rattle.packet.specs.Answered.{is_heard}
 use Rattle.panels.specs.declared.Panel.{Panel}
 use Rattle.panels.specs.declared.Table.{Table}
-use Rattle.panels.specs.declared.Place.{Place}
 use Rattle.panels.specs.Wall.{blank, panels_of, place_of}
 use Rattle.panels.specs.Addressed.{reaches}
 use Rattle.panels.specs.WellFormed.{GoodPanel, WellFormed}
@@ -29,7 +29,7 @@ pub set-reply : (i : MonitorId) (t : Bool) (q : Panel) → reply_by i (cond t (t
 set-reply i true q = refl
 set-reply i false q = refl
 
-module _ (t : Table) (f : WellFormed t) (i : MonitorId) (k : ℕ) (there : place_of i (panels_of t) ≡ Place.At k) where
+module _ (t : Table) (f : WellFormed t) (i : MonitorId) (k : ℕ) (there : place_of i (panels_of t) ≡ Some k) where
   abbrev pub panel : Panel
   panel = get_or (panels_of t) k blank
 

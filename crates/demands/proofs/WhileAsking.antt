@@ -8,7 +8,7 @@ use native.Mathlib.Omega.{arith}
 use borrow.Author.Tests.{ltb-true, ltb-false, eq-eqb, ne_eqb, lt-ltb}
 use lib.Dec.{ltb, eqb}
 use lib.ListN.{length, take, drop, replicate, length-replicate, replicate-append-replicate}
-use Rattle.std.specs.Prelude.{Option}
+use Rattle.std.specs.Prelude.{Option, Some, None}
 use Rattle.lists.specs.Lists.{same}
 use Rattle.lists.proofs.Both.{both}
 use Rattle.settings.specs.Settings.{get_code}
@@ -52,22 +52,22 @@ given_up End.Report t = absurd (false≢true t)
 given_up End.GivenUp t = refl
 
 -- a burst that says NACK
-abbrev says_nack : Said → Bool
-says_nack Said.Ack = false
-says_nack Said.Nack = true
-says_nack Said.Nav = false
-says_nack Said.Report = false
-says_nack Said.Nothing = false
+abbrev says_nack : Option Said → Bool
+says_nack (Some Said.Ack) = false
+says_nack (Some Said.Nack) = true
+says_nack (Some Said.Nav) = false
+says_nack (Some Said.Report) = false
+says_nack None = false
 
 no_other : (r : Request) (f : Found) (d : List ℕ) → says_nack (ends_by r f d) ≡ false
 no_other r (Found.Set row) d = go (same d (0x00 ∷ 0x06 ∷ []))
   where
-    go : (t : Bool) → says_nack (cond t Said.Ack Said.Nothing) ≡ false
+    go : (t : Bool) → says_nack (cond t (Some Said.Ack) None) ≡ false
     go true = refl
     go false = refl
 no_other r (Found.Get row) d = go (same (take 1 d) (get_code row ∷ []) && allowed_for r.model row (drop 1 d))
   where
-    go : (t : Bool) → says_nack (cond t Said.Report Said.Nothing) ≡ false
+    go : (t : Bool) → says_nack (cond t (Some Said.Report) None) ≡ false
     go true = refl
     go false = refl
 no_other r Found.Nothing d = refl
@@ -77,7 +77,7 @@ nack_said edition r b =
     let d = data_in edition b in
     go (is_intact edition b) (heeds edition r b) (same d (0x00 ∷ 0x15 ∷ [])) (same d (0x00 ∷ 0x18 ∷ [])) (ends_by r (found_by r.code) d) (no_other r (found_by r.code) d)
   where
-    go : (a c n v : Bool) (w : Said) → says_nack w ≡ false → says_nack (cond (a && c) (cond n Said.Nack (cond v Said.Nav w)) Said.Nothing) ≡ (a && (c && n))
+    go : (a c n v : Bool) (w : Option Said) → says_nack w ≡ false → says_nack (cond (a && c) (cond n (Some Said.Nack) (cond v (Some Said.Nav) w)) None) ≡ (a && (c && n))
     go false c n v w e = refl
     go true false n v w e = refl
     go true true true v w e = refl
@@ -137,13 +137,13 @@ module _ (edition : Edition) (r : Request) where
       go true = refl
       go false = refl
 
-  told : (n : ℕ) (d : List ℕ) (w : Said) → One n (says_nack w) (ending (state_of (waiting_host n)) d w)
+  told : (n : ℕ) (d : List ℕ) (w : Option Said) → One n (says_nack w) (ending (state_of (waiting_host n)) d w)
   unfolding ending
-  told n d Said.Ack = ends n End.Ack [] refl
-  told n d Said.Nack = sent-again n
-  told n d Said.Nav = ends n _ [] (nav_other n)
-  told n d Said.Report = ends n End.Report _ refl
-  told n d Said.Nothing = stays n Outcome.Waiting refl
+  told n d (Some Said.Ack) = ends n End.Ack [] refl
+  told n d (Some Said.Nack) = sent-again n
+  told n d (Some Said.Nav) = ends n _ [] (nav_other n)
+  told n d (Some Said.Report) = ends n End.Report _ refl
+  told n d None = stays n Outcome.Waiting refl
 
   -- what is wrong with a burst changes nothing of that
   telling_on : (n : ℕ) (push : Bool) (d : Option Damage) (m : Move) → One n push m → One n push (telling d m)

@@ -1,6 +1,6 @@
 -- Demand 1. That every function comes back without a fault is what the prover shows of each. The rest: a refusal changes neither
 -- table nor host nor a lent buffer, a bad burst changes no panel, and writing changes no byte but those written.
-use Rattle.std.specs.Prelude.{ℕ, ◌<◌, false, cond, ◌⊎◌, ◌≡◌, List, [], eqb, length, get_or, drop}
+use Rattle.std.specs.Prelude.{ℕ, ◌<◌, false, cond, ◌⊎◌, ◌≡◌, List, [], eqb, length, get_or, drop, None}
 use Rattle.packet.specs.declared.Edition.{Edition}
 use Rattle.packet.specs.declared.MonitorId.{MonitorId}
 use Rattle.packet.specs.declared.GroupId.{GroupId}
@@ -9,10 +9,9 @@ use Rattle.packet.specs.Reading.{Reading}
 use Rattle.lists.specs.Lists.{laid_over}
 use Rattle.panels.specs.declared.Panel.{Panel}
 use Rattle.panels.specs.declared.Table.{Table}
-use Rattle.table_calls.specs.declared.Refusal.{Refusal}
 use Rattle.panels.specs.Wall.{Wall, blank, panels_of}
 use Rattle.panels.specs.Addressed.{reaches}
-use Rattle.table_calls.specs.Calls.{add_refusal, added, removed_from, removed}
+use Rattle.table_calls.specs.Calls.{add_refusal, added, remove_refusal, removed}
 use Rattle.panels.specs.WellFormed.{WellFormed}
 use Rattle.answers.specs.declared.Reply.{Reply}
 use Rattle.answers.specs.Reply.{sent_bytes, sent_of, refusal_number as answer_number, output_of as answer_output}
@@ -30,10 +29,10 @@ use Rattle.host.specs.Calls.{state_of, step_of, call, bytes_of}
 
 -- a refusal of add or remove leaves the wall as it was
 abbrev pub AddRefused : Type 0
-AddRefused = (w : Wall) (i : MonitorId) (g : GroupId) (n k : ℕ) → (add_refusal w i g n k ≡ Refusal.Nothing → ⊥) → added w i g n k ≡ w
+AddRefused = (w : Wall) (i : MonitorId) (g : GroupId) (n k : ℕ) → (add_refusal w i g n k ≡ None → ⊥) → added w i g n k ≡ w
 
 abbrev pub RemoveRefused : Type 0
-RemoveRefused = (w : Wall) (i : MonitorId) → ((removed_from w i).refusal ≡ Refusal.Nothing → ⊥) → removed w i ≡ w
+RemoveRefused = (w : Wall) (i : MonitorId) → (remove_refusal w i ≡ None → ⊥) → removed w i ≡ w
 
 -- a refused image gives no panel
 abbrev pub ReadRefused : Type 0

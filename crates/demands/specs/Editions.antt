@@ -1,6 +1,6 @@
 -- Lines that speak 1.85, and lines that speak 2.01. 02, A11; 001, 2.3. That a number opens a line, and 23 where it opens none, is in
 -- `Numbers`.
-use Rattle.std.specs.Prelude.{ℕ, Bool, cond, ◌&&◌, ◌≡◌, List, [], map, eqb, get_or, Some}
+use Rattle.std.specs.Prelude.{ℕ, Bool, cond, ◌&&◌, ◌≡◌, List, [], map, eqb, get_or, Some, None}
 use Rattle.packet.specs.declared.Edition.{Edition}
 use Rattle.packet.specs.Edition.{edition_number, edition_with}
 use Rattle.packet.specs.Packet.{is_intact, data_of}
@@ -12,7 +12,6 @@ use Rattle.answers.specs.Session.{by_burst}
 use Rattle.line.specs.declared.Receiver.{Receiver}
 use Rattle.line.specs.Receiver.{Event, bursts_after, receiver_of, with_byte, at_mark, streamed}
 use Rattle.requests.specs.declared.Request.{Request}
-use Rattle.requests.specs.declared.Said.{Said}
 use Rattle.requests.specs.Request.{is_request}
 use Rattle.requests.specs.Said.{word_in}
 use Rattle.host.specs.Heard.{said_to}
@@ -46,4 +45,4 @@ heeds Edition.Sicp201 r b = eqb (get_or b 2 0) 0 && eqb (get_or b 1 0) r.id.0
 abbrev pub Heeded : Type 0
 Heeded =
     (edition : Edition) (r : Request) (b : List ℕ)
-    → said_to r (reading_of edition b) ≡ cond (is_intact edition b && heeds edition r b) (word_in r.model r.code (data_of edition b)) Said.Nothing
+    → said_to r (reading_of edition b) ≡ cond (is_intact edition b && heeds edition r b) (word_in r.model r.code (data_of edition b)) None

@@ -1,5 +1,5 @@
 -- Host and box on one line, of either edition. 01, "Host side"; 02, A11.
-use Rattle.std.specs.Prelude.{ℕ, zero, suc, ◌<◌, Bool, true, cond, not, ◌&&◌, ◌≡◌, List, [], ◌∷◌, map, eqb, length, get_or, replicate}
+use Rattle.std.specs.Prelude.{ℕ, zero, suc, ◌<◌, Bool, true, cond, not, ◌&&◌, ◌≡◌, List, [], ◌∷◌, map, eqb, length, get_or, replicate, Option, Some, None}
 use Rattle.codes.specs.declared.Found.{Found}
 use Rattle.tiling.specs.Kinds.{in_wall}
 use Rattle.settings.specs.Settings.{values_of, tiling_row}
@@ -8,7 +8,6 @@ use Rattle.packet.specs.declared.Edition.{Edition}
 use Rattle.packet.specs.Answered.{is_heard}
 use Rattle.panels.specs.declared.Panel.{Panel}
 use Rattle.panels.specs.declared.Table.{Table}
-use Rattle.panels.specs.declared.Place.{Place}
 use Rattle.panels.specs.Wall.{Wall, model_of, blank, place_of, panels_of}
 use Rattle.panels.specs.WellFormed.{WellFormed}
 use Rattle.answers.specs.Reply.{sent_bytes}
@@ -50,15 +49,15 @@ EndsWith edition Found.Nothing r p n m = ⊥
 abbrev pub Lossless : Type 0
 Lossless =
     (edition : Edition) (t : Table) → WellFormed t → (r : Request) (k n : ℕ) → is_request edition r ≡ true → is_heard r.id r.group ≡ true
-    → place_of r.id (panels_of t) ≡ Place.At k → model_of (get_or (panels_of t) k blank) ≡ r.model → n < most_sendings
+    → place_of r.id (panels_of t) ≡ Some k → model_of (get_or (panels_of t) k blank) ≡ r.model → n < most_sendings
     → let answer = sent_bytes edition (played edition (panels_of t) (request_packet edition r)).reply in
     EndsWith edition (found_by r.code) r (get_or (panels_of t) k blank) (suc n) (step (asking edition r n) (burst answer))
 
 -- a request that the panel which it asks can answer: the panel is there, and of the profile and kind that the request says; or one to
 -- which no answer is due
-abbrev pub StandsAs : Request → Wall → Place → Type 0
-StandsAs r w (Place.At k) = model_of (get_or w k blank) ≡ r.model
-StandsAs r w Place.Nowhere = ⊥
+abbrev pub StandsAs : Request → Wall → Option ℕ → Type 0
+StandsAs r w (Some k) = model_of (get_or w k blank) ≡ r.model
+StandsAs r w None = ⊥
 
 abbrev pub AllAnswered : Edition → Wall → List Request → Type 0
 AllAnswered edition w [] = Unit {0}

@@ -1,5 +1,5 @@
 -- The host's move for a burst and for a mark, written out anew, by the bytes. 01, "Host side"; 02, A5, A11 and A12.
-use Rattle.std.specs.Prelude.{ℕ, ◌-◌, cond, ◌&&◌, ◌≡◌, List, [], ◌∷◌, leb, eqb, length, take, drop}
+use Rattle.std.specs.Prelude.{ℕ, ◌-◌, cond, ◌&&◌, ◌≡◌, List, [], ◌∷◌, leb, eqb, length, take, drop, Option, Some, None}
 use Rattle.lists.specs.Lists.{same}
 use Rattle.settings.specs.Settings.{get_code}
 use Rattle.codes.specs.declared.Found.{Found}
@@ -21,18 +21,18 @@ data_in Edition.Sicp185 b = take (length b - 3) (drop 2 b)
 data_in Edition.Sicp201 b = take (length b - 4) (drop 3 b)
 
 -- for a set ACK, 00 06; for a get its report, the get code and then values that the panel may hold
-abbrev pub ends_by : Request → Found → List ℕ → Said
-ends_by r (Found.Set row) d = cond (same d (0x00 ∷ 0x06 ∷ [])) Said.Ack Said.Nothing
-ends_by r (Found.Get row) d = cond (same (take 1 d) (get_code row ∷ []) && allowed_for r.model row (drop 1 d)) Said.Report Said.Nothing
-ends_by r Found.Nothing d = Said.Nothing
+abbrev pub ends_by : Request → Found → List ℕ → Option Said
+ends_by r (Found.Set row) d = cond (same d (0x00 ∷ 0x06 ∷ [])) (Some Said.Ack) None
+ends_by r (Found.Get row) d = cond (same (take 1 d) (get_code row ∷ []) && allowed_for r.model row (drop 1 d)) (Some Said.Report) None
+ends_by r Found.Nothing d = None
 
 -- for either NACK, 00 15, or NAV, 00 18; and nothing, where the burst is not intact, or is not heeded
-abbrev pub said : Edition → Request → List ℕ → Said
+abbrev pub said : Edition → Request → List ℕ → Option Said
 said edition r b =
     let d = data_in edition b in
     cond (is_intact edition b && heeds edition r b)
-    (cond (same d (0x00 ∷ 0x15 ∷ [])) Said.Nack (cond (same d (0x00 ∷ 0x18 ∷ [])) Said.Nav (ends_by r (found_by r.code) d)))
-    Said.Nothing
+    (cond (same d (0x00 ∷ 0x15 ∷ [])) (Some Said.Nack) (cond (same d (0x00 ∷ 0x18 ∷ [])) (Some Said.Nav) (ends_by r (found_by r.code) d)))
+    None
 
 -- a request is over: the answer tells how it ended and how often it was sent, and the host rests where that was more than once
 abbrev pub ended : State → End → List ℕ → Move
@@ -45,12 +45,12 @@ sent_again s =
     cond (leb 3 (length s.given)) (ended s End.GivenUp []) (move (waiting_for s.edition s.request (p ∷ s.given)) (p ∷ []) Outcome.Waiting [])
 
 -- ACK, report and NAV end it, NAV to a power off that was sent more than once as "off or refused"; everything else is ignored
-abbrev pub moved_by : State → List ℕ → Said → Move
-moved_by s d Said.Ack = ended s End.Ack []
-moved_by s d Said.Nack = sent_again s
-moved_by s d Said.Nav = ended s (cond (same (request_data s.request) (0x18 ∷ 1 ∷ []) && leb 2 (length s.given)) End.OffOrRefused End.Nav) []
-moved_by s d Said.Report = ended s End.Report (drop 1 d)
-moved_by s d Said.Nothing = quiet s Outcome.Waiting
+abbrev pub moved_by : State → List ℕ → Option Said → Move
+moved_by s d (Some Said.Ack) = ended s End.Ack []
+moved_by s d (Some Said.Nack) = sent_again s
+moved_by s d (Some Said.Nav) = ended s (cond (same (request_data s.request) (0x18 ∷ 1 ∷ []) && leb 2 (length s.given)) End.OffOrRefused End.Nav) []
+moved_by s d (Some Said.Report) = ended s End.Report (drop 1 d)
+moved_by s d None = quiet s Outcome.Waiting
 
 abbrev pub heard_by : State → List ℕ → Move
 heard_by s b =

@@ -1,7 +1,7 @@
 -- The numbers that calls refuse by, 0 where nothing is refused. 01, "Table calls and numbers": each is given exactly when its
 -- row says, lower numbers first, but 24 before 22 (02, A12). 11 to 18 go with the order of reading, in `image_read`; 32 and 33 with
 -- lists of bursts, in `Scenes`.
-use Rattle.std.specs.Prelude.{ℕ, ◌+◌, ◌*◌, Bool, true, cond, ◌&&◌, ◌||◌, ◌≡◌, List, [], ◌∷◌, leb, eqb, length, take, drop, Some, None}
+use Rattle.std.specs.Prelude.{ℕ, ◌+◌, ◌*◌, Bool, true, cond, ◌&&◌, ◌||◌, ◌≡◌, List, [], ◌∷◌, leb, eqb, length, take, drop, Some, None, is_some}
 use Rattle.lists.specs.Lists.{same}
 use Rattle.settings.specs.Profiles.{profile_number}
 use Rattle.packet.specs.declared.Edition.{Edition}
@@ -10,8 +10,8 @@ use Rattle.packet.specs.declared.GroupId.{GroupId}
 use Rattle.packet.specs.Edition.{edition_with, open_refusal}
 use Rattle.packet.specs.Packet.{written_of as packet_written, refusal_number as packet_number}
 use Rattle.panels.specs.declared.Panel.{Panel}
-use Rattle.panels.specs.Wall.{Wall, place_of, if_there}
-use Rattle.table_calls.specs.Calls.{refusal_number as table_number, add_refusal, removed_from}
+use Rattle.panels.specs.Wall.{Wall, place_of}
+use Rattle.table_calls.specs.Calls.{number_of as table_number, add_refusal, remove_refusal}
 use Rattle.answers.specs.declared.Reply.{Reply}
 use Rattle.answers.specs.Reply.{sent_of, refusal_number as answer_number}
 use Rattle.requests.specs.Request.{is_request}
@@ -30,11 +30,11 @@ Add =
     → table_number (add_refusal w i g n k)
     ≡ cond (leb 32 (length w)) 1
     (cond (eqb i.0 0) 2
-    (if_there (place_of i w) 3 (cond (eqb g.0 0) 4 (cond (eqb n 0 || eqb n 1) (cond (eqb k 0 || eqb k 1) 0 7) 5))))
+    (cond (is_some (place_of i w)) 3 (cond (eqb g.0 0) 4 (cond (eqb n 0 || eqb n 1) (cond (eqb k 0 || eqb k 1) 0 7) 5))))
 
 -- no panel has that ID
 abbrev pub Remove : Type 0
-Remove = (w : Wall) (i : MonitorId) → table_number (removed_from w i).refusal ≡ if_there (place_of i w) 0 6
+Remove = (w : Wall) (i : MonitorId) → table_number (remove_refusal w i) ≡ cond (is_some (place_of i w)) 0 6
 
 -- form 1: 31 where a panel is not general, its kind, the first of its values, not 0, or its tiling, the third to the sixth, not
 -- fresh; then, in either form, 19, lent output too short: image under 35n + 2 bytes in form 1 and 45n + 2 in form 2, answer or

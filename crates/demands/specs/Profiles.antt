@@ -1,5 +1,5 @@
 -- Walls of both profiles and both kinds, and the tint with its sign. 02, A1 and A6.
-use Rattle.std.specs.Prelude.{ℕ, ◌<◌, Bool, cond, ◌&&◌, ◌≡◌, List, leb, ℤ, pos, negsuc, length, get_or}
+use Rattle.std.specs.Prelude.{ℕ, ◌<◌, Bool, cond, ◌&&◌, ◌≡◌, List, leb, ℤ, pos, negsuc, length, get_or, Some}
 use Rattle.std.specs.Int.Signed.{mag, le_z}
 use Rattle.tiling.specs.declared.Kind.{Kind}
 use Rattle.settings.specs.declared.Profile.{Profile}
@@ -12,7 +12,6 @@ use Rattle.packet.specs.declared.GroupId.{GroupId}
 use Rattle.packet.specs.declared.Verdict.{Verdict}
 use Rattle.packet.specs.Reading.{Reading}
 use Rattle.panels.specs.declared.Panel.{Panel}
-use Rattle.panels.specs.declared.Seen.{Seen}
 use Rattle.panels.specs.Wall.{Wall, model_of, blank, video_of}
 use Rattle.panels.specs.Addressed.{reaches}
 use Rattle.panels.specs.WellFormed.{GoodPanel}
@@ -50,4 +49,4 @@ VideoAllowed =
 abbrev pub SeenAsSet : Type 0
 SeenAsSet =
     (p : Panel) (v : Video) → GoodPanel p → p.profile ≡ Profile.Phoenix → mag v.tint < 128
-    → video_of (stored video_row (bytes_of v) p) ≡ Seen.Phoenix v
+    → video_of (stored video_row (bytes_of v) p) ≡ Some v

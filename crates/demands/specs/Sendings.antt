@@ -1,13 +1,12 @@
 -- How long a request lasts and what is given out for it, said of the calls. 01, "Host side": a request is over at the latest with its
 -- third NACK or 500 ms mark, whatever else arrives; the result carries how many times the packet was sent, the number given out
 -- since start; everything else is ignored.
-use Rattle.std.specs.Prelude.{ℕ, suc, ◌+◌, ◌≤◌, Bool, true, false, cond, ◌&&◌, ◌≡◌, List, [], ◌∷◌, ◌++◌, eqb, length, replicate}
+use Rattle.std.specs.Prelude.{ℕ, suc, ◌+◌, ◌≤◌, Bool, true, false, cond, ◌&&◌, ◌≡◌, List, [], ◌∷◌, ◌++◌, eqb, length, replicate, None}
 use Rattle.lists.specs.Lists.{same}
 use Rattle.packet.specs.declared.Edition.{Edition}
 use Rattle.packet.specs.Answered.{is_heard}
 use Rattle.packet.specs.Packet.{is_intact}
 use Rattle.requests.specs.declared.Request.{Request}
-use Rattle.requests.specs.declared.Said.{Said}
 use Rattle.requests.specs.Request.{request_packet}
 use Rattle.host.specs.declared.Host.{Host}
 use Rattle.host.specs.declared.End.{End}
@@ -84,6 +83,6 @@ NotCounted = (host : Host) (cs : List Call) → (host_after host cs ≡ host_aft
 abbrev pub Ignored : Type 0
 Ignored =
     (host : Host) (b lent : List ℕ)
-    → (eqb host.sendings 0 ≡ false → said host.edition host.request b ≡ Said.Nothing)
+    → (eqb host.sendings 0 ≡ false → said host.edition host.request b ≡ None)
     → let c : Call = record { happens = burst b; lent = lent } in
     (host_after host (c ∷ []) ≡ host) × (output_after host c ≡ lent) × (given_out host c ≡ []) × (none_over host (c ∷ []) ≡ true)

@@ -1,6 +1,6 @@
 -- Where a panel sits in the wall, in the paper's numbers: set 0x22, get 0x23, walls up to 5 by 5 and up to 15 wide and 10 high.
 -- 002, 8.6; 02, A6. A panel's values begin with its kind, its power, and enable, frame compensation, position and wall.
-use Rattle.std.specs.Prelude.{ℕ, ◌+◌, ◌-◌, ◌*◌, ◌/◌, ◌%◌, ◌<◌, Bool, true, cond, ◌&&◌, ◌≡◌, [], ◌∷◌, leb, eqb, length, get_or, take, drop}
+use Rattle.std.specs.Prelude.{ℕ, ◌+◌, ◌-◌, ◌*◌, ◌/◌, ◌%◌, ◌<◌, Bool, true, cond, ◌&&◌, ◌≡◌, [], ◌∷◌, leb, eqb, length, get_or, take, drop, Some}
 use Rattle.tiling.specs.Walls.{byte_of, height_of, width_of, up_to}
 use Rattle.tiling.specs.Kinds.{kind_number}
 use Rattle.models.specs.declared.Model.{Model}
@@ -11,7 +11,6 @@ use Rattle.packet.specs.declared.Verdict.{Verdict}
 use Rattle.packet.specs.Packet.{group_id}
 use Rattle.packet.specs.Reading.{Reading}
 use Rattle.panels.specs.declared.Table.{Table}
-use Rattle.panels.specs.declared.Place.{Place}
 use Rattle.panels.specs.Wall.{blank, place_of, panels_of}
 use Rattle.panels.specs.WellFormed.{WellFormed}
 use Rattle.answers.specs.Reply.{word_from}
@@ -52,7 +51,7 @@ sits kind position byte =
 -- its tiling is as it was. Byte 0 leaves it the wall that it has.
 abbrev pub TilingSet : Type 0
 TilingSet =
-    (t : Table) → WellFormed t → (i : MonitorId) (k enable frame position byte n : ℕ) → place_of i (panels_of t) ≡ Place.At k
+    (t : Table) → WellFormed t → (i : MonitorId) (k enable frame position byte n : ℕ) → place_of i (panels_of t) ≡ Some k
     → (r : Reading) → r.verdict ≡ Verdict.Intact i (group_id 0) n → r.part ≡ 0x22 ∷ enable ∷ frame ∷ position ∷ byte ∷ []
     → let values = (get_or (panels_of t) k blank).values in
     let wall = cond (eqb byte 0) (get_or values 5 0) byte in

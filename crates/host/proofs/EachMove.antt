@@ -4,7 +4,7 @@ use mathlib.Core.Bool.{Bool, true, false, cond, ◌&&◌}
 use mathlib.Core.Path.{◌≡◌, refl}
 use mathlib.Core.List.{List, [], ◌∷◌}
 use lib.Dec.{ltb}
-use Rattle.std.specs.Prelude.{Option}
+use Rattle.std.specs.Prelude.{Option, Some, None}
 use Rattle.packet.specs.Answered.{is_heard}
 use Rattle.packet.specs.Reading.{reading_of}
 use Rattle.packet.specs.declared.Damage.{Damage}
@@ -64,13 +64,13 @@ module _ (s : State) (P : Move → Type 0) (each : EachMove s P) where
       go true false e = tt
       go false t e = tt
 
-  ending-holds : (d : List ℕ) (w : Said) → P (ending s d w)
+  ending-holds : (d : List ℕ) (w : Option Said) → P (ending s d w)
   unfolding ending
-  ending-holds d Said.Ack = each.ends _ _ tt
-  ending-holds d Said.Nack = again-holds
-  ending-holds d Said.Nav = each.ends _ _ nav_may
-  ending-holds d Said.Report = each.ends _ _ tt
-  ending-holds d Said.Nothing = each.stays _ refl
+  ending-holds d (Some Said.Ack) = each.ends _ _ tt
+  ending-holds d (Some Said.Nack) = again-holds
+  ending-holds d (Some Said.Nav) = each.ends _ _ nav_may
+  ending-holds d (Some Said.Report) = each.ends _ _ tt
+  ending-holds d None = each.stays _ refl
 
   pub step-holds : (h : Happening) → P (step s h)
   unfolding step heard begun

@@ -6,6 +6,7 @@ use Prim.Native.Nat.{ℕ, ◌≤◌, ◌<◌}
 use native.Mathlib.Omega.{arith}
 use borrow.Author.Tests.{le-leb, lt-leb, lt-ltb, eq-eqb, ne_eqb}
 use lib.ListN.{length, length-replicate}
+use Rattle.std.specs.Prelude.{None}
 use Rattle.packet.specs.Packet.{damage_in, longest}
 use Rattle.packet.specs.Reading.{reading_of}
 use Rattle.packet.specs.declared.MonitorId.{MonitorId}
@@ -15,7 +16,6 @@ use Rattle.host.specs.declared.Host.{Host}
 use Rattle.host.specs.declared.Refusal.{Refusal}
 use Rattle.host.specs.declared.Outcome.{Outcome}
 use Rattle.requests.specs.declared.Request.{Request}
-use Rattle.requests.specs.declared.Said.{Said}
 use Rattle.requests.specs.Request.{is_request}
 use Rattle.requests.specs.Said.{word_in}
 use Rattle.host.specs.Heard.{said_by, said_to}
@@ -77,7 +77,7 @@ heard_is s b d v e f = rw (f, e)
 module _ (s : State) (d : List ℕ) where
   -- what says nothing to the request is ignored
   module _ (v : Verdict) where
-    ignored : said_by s.request v d ≡ Said.Nothing → ending s d (said_by s.request v d) ≡ quiet s Outcome.Waiting
+    ignored : said_by s.request v d ≡ None → ending s d (said_by s.request v d) ≡ quiet s Outcome.Waiting
     unfolding ending
     ignored e = rw e
 
@@ -85,7 +85,7 @@ module _ (s : State) (d : List ℕ) where
     unfolding said_by
     not_intact h = ignored (go v h)
       where
-        go : (v : Verdict) → ((id : MonitorId) (group : GroupId) (n : ℕ) → v ≡ Verdict.Intact id group n → ⊥) → said_by s.request v d ≡ Said.Nothing
+        go : (v : Verdict) → ((id : MonitorId) (group : GroupId) (n : ℕ) → v ≡ Verdict.Intact id group n → ⊥) → said_by s.request v d ≡ None
         go Verdict.Empty h = refl
         go (Verdict.Damaged damage) h = refl
         go (Verdict.Intact i g n) h = absurd (h i g n refl)

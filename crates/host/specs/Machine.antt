@@ -1,6 +1,6 @@
 -- The host as a machine over happenings. 000, 2.2; 01, "Host side"; 02, A5: a power off that gets NAV; A11: its line has one edition;
 -- A12: it rests.
-use Rattle.std.specs.Prelude.{ℕ, Bool, true, false, cond, ◌&&◌, List, [], ◌∷◌, length, drop, replicate, ltb, None, Option}
+use Rattle.std.specs.Prelude.{ℕ, Bool, true, false, cond, ◌&&◌, List, [], ◌∷◌, length, drop, replicate, ltb, Option, Some, None}
 use Rattle.tiling.specs.declared.Kind.{Kind}
 use Rattle.settings.specs.declared.Profile.{Profile}
 use Rattle.settings.specs.Settings.{most_values}
@@ -114,12 +114,12 @@ unfoldable pub nav_ends : State → End
 nav_ends s = cond (is_power_off s.request && repeated s) End.OffOrRefused End.Nav
 
 -- ACK, report and NAV end the request
-unfoldable pub ending : State → List ℕ → Said → Move
-ending s d Said.Ack = over s [] End.Ack []
-ending s d Said.Nack = again s
-ending s d Said.Nav = over s [] (nav_ends s) []
-ending s d Said.Report = over s [] End.Report (drop 1 d)
-ending s d Said.Nothing = quiet s Outcome.Waiting
+unfoldable pub ending : State → List ℕ → Option Said → Move
+ending s d (Some Said.Ack) = over s [] End.Ack []
+ending s d (Some Said.Nack) = again s
+ending s d (Some Said.Nav) = over s [] (nav_ends s) []
+ending s d (Some Said.Report) = over s [] End.Report (drop 1 d)
+ending s d None = quiet s Outcome.Waiting
 
 unfoldable pub heard : State → Reading → Move
 heard s reading = ending s reading.part (said_to s.request reading)

@@ -28,13 +28,14 @@ fn told(host: Host, d: &[u8], out: &mut [u8]) -> Step
 {
     let request = host.request;
     let model = request.model;
-    let word = requests::word_in(model, request.code, d);
+    let Some(word) = requests::word_in(model, request.code, d) else {
+        return crate::plain(host, 0, Outcome::Waiting);
+    };
     match word {
         Said::Ack => crate::over(host, 0, End::Ack, &[]),
         Said::Nack => sending::send_again(host, out),
         Said::Nav => crate::over(host, 0, nav_ends(host), &[]),
         Said::Report => crate::over(host, 0, End::Report, &d[1..]),
-        Said::Nothing => crate::plain(host, 0, Outcome::Waiting),
     }
 }
 

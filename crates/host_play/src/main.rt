@@ -7,15 +7,8 @@ use packet::{Damage, Edition, LONGEST};
 use requests::Request;
 use settings::Profile;
 use std::io;
-use text::{LONGEST_STEP, Read};
+use text::Hex;
 use tiling::Kind;
-
-// Prints the bytes of a packet in hex.
-fn print_hex(rt: &impl Print, bytes: &[u8]) -> io::Result<()> {
-    let mut digits = [0u8; 2 * LONGEST];
-    let n = text::hex(bytes, &mut digits);
-    rt.write_all(&digits[..n])
-}
 
 // Prints how a request ended, how often its packet was sent, and a report's values.
 fn print_end(rt: &impl Print, end: End, n: u64, values: &[u8]) -> io::Result<()> {
@@ -24,10 +17,7 @@ fn print_end(rt: &impl Print, end: End, n: u64, values: &[u8]) -> io::Result<()>
         End::Ack => print!(rt; "ack {n}"),
         End::Nav => print!(rt; "nav {n}"),
         End::OffOrRefused => print!(rt; "off-or-refused {n}"),
-        End::Report => {
-            print!(rt; "report {n} ")?;
-            print_hex(rt, values)
-        }
+        End::Report => print!(rt; "report {n} {}", Hex(values)),
         End::GivenUp => print!(rt; "given-up {n}"),
     }
 }
@@ -58,7 +48,7 @@ fn show(rt: &impl Print, step: Step, out: &[u8]) -> io::Result<Host> {
     if step.length == 0 {
         print!(rt; "-")?;
     } else {
-        print_hex(rt, text::front(out, step.length))?;
+        print!(rt; "{}", Hex(text::front(out, step.length)))?;
     }
     print!(rt; " ")?;
     let values = step.values;
@@ -138,22 +128,12 @@ fn play(rt: &impl Print, host: Host, step: &[u8]) -> io::Result<Host> {
     }
 }
 
-// Every step of standard input, in order. The loop counts its turns, since a proved loop has to end and nothing says that the
-// input does.
+// Every step of standard input, in order.
 fn run(rt: &(impl Print + Input)) -> io::Result<()> {
-    let mut host = Host::open(Edition::Sicp201);
-    let mut reader = rt.reader();
-    for number in 0..u64::MAX {
-        let mut buffer = [0u8; LONGEST_STEP];
-        match text::read_step(&mut reader, &mut buffer)? {
-            Read::Step(n) => {
-                print!(rt; "{} ", number + 1)?;
-                host = play(rt, host, text::front(&buffer, n))?;
-            }
-            Read::Cut => return println!(rt; "cut {number}"),
-            Read::End => return println!(rt; "end {number}"),
-        }
-    }
+    text::each_step(rt, Host::open(Edition::Sicp201), |host, number, step| {
+        print!(rt; "{number} ")?;
+        play(rt, host, step)
+    })?;
     Ok(())
 }
 

@@ -7,7 +7,7 @@ use Prim.Native.Nat.{ℕ, zero, suc, ◌+◌, ◌≤◌, ◌<◌}
 use native.Mathlib.Nat.{add-zero, eq-or-lt_of_le}
 use native.Mathlib.Omega.{arith}
 use borrow.Author.Tests.{eq-eqb, ne_eqb}
-use Rattle.std.specs.Prelude.{Ok}
+use Rattle.std.specs.Prelude.{Ok, None}
 use lib.ListN.{length, get_or, take, length-map}
 use lib.Seq.{append_snoc, take_at}
 use Rattle.models.specs.declared.Model.{Model}
@@ -15,7 +15,6 @@ use Rattle.settings.specs.Settings.{set_code, fresh_values, values_of, row_count
 use Rattle.lists.specs.Lists.{each, laid_over}
 use Rattle.packet.specs.declared.MonitorId.{MonitorId}
 use Rattle.panels.specs.declared.Panel.{Panel}
-use Rattle.panels.specs.declared.Place.{Place}
 use Rattle.panels.specs.Wall.{Wall, model_of, blank, place_from, most_panels}
 use Rattle.panels.specs.WellFormed.{GoodPanel, Absent, GoodWall}
 use Rattle.panels.proofs.Formed.{absent_snoc, good_at}
@@ -100,7 +99,7 @@ module _ (form : Form) (values : List ℕ) where
       later false less ih = ih
 
 -- where an ID is absent nothing is found
-absent_nowhere : (i : MonitorId) (k : ℕ) (w : Wall) → Absent i w → place_from i k w ≡ Place.Nowhere
+absent_nowhere : (i : MonitorId) (k : ℕ) (w : Wall) → Absent i w → place_from i k w ≡ None
 unfolding place_from
 absent_nowhere i k [] a = refl
 absent_nowhere i k (p ∷ w) (n, a) = rw (ne_eqb p.id.0 i.0 n) (absent_nowhere i (suc k) w a)

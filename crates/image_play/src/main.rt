@@ -6,52 +6,28 @@ ghost use Rattle.std.specs.Prelude.{◌≤◌, ◌<◌, length};
 ghost use Rattle.panels.specs.WellFormed.{WellFormed};
 
 use image_forms::Form;
-use image_write::LARGEST;
 use panels::Table;
 use std::io;
+use text::{Hex, Stop};
 
 // The longest image of the input, whose length is two bytes, fits in it.
 const ROOM: usize = 65536;
 
-// The hex digits of the largest image.
-const MOST_DIGITS: usize = 2 * LARGEST;
-
-// An image of the input, which stands at the front of the buffer; or the input stopped inside one; or it was at its end.
-#[derive(Clone, Copy)]
-enum Item {
-    Image(usize),
-    Cut,
-    End,
-}
-
-fn size_of(high: u8, low: u8) -> usize
-    ensures { result < 65536 }
-{
-    256 * (high as usize) + low as usize
-}
-
-fn read_item<R: io::Read>(reader: &mut R, buf: &mut [u8]) -> io::Result<Item>
+// Reads an image's length and the image into the front of buf, and answers the length, or where the input stopped.
+fn read_image<R: io::Read>(reader: &mut R, buf: &mut [u8]) -> io::Result<Result<usize, Stop>>
     requires { 65536 ≤ length buf.old }
 {
     let mut two = [0u8; 2];
-    let got = text::read_full(reader, &mut two)?;
-    if got == 0 {
-        return Ok(Item::End);
+    match text::read_full(reader, &mut two)? {
+        0 => return Ok(Err(Stop::End)),
+        1 => return Ok(Err(Stop::Cut)),
+        _ => (),
     }
-    if got < 2 {
-        return Ok(Item::Cut);
-    }
-    let size = size_of(two[0], two[1]);
+    let size = usize::from(u16::from_be_bytes(two));
     if text::read_full(reader, &mut buf[..size])? < size {
-        return Ok(Item::Cut);
+        return Ok(Err(Stop::Cut));
     }
-    Ok(Item::Image(size))
-}
-
-fn print_hex(rt: &impl Print, bytes: &[u8]) -> io::Result<()> {
-    let mut digits = [0u8; MOST_DIGITS];
-    let count = text::hex(bytes, &mut digits);
-    rt.write_all(text::front(&digits, count))
+    Ok(Ok(size))
 }
 
 fn print_refusal(rt: &impl Print, number: u8) -> io::Result<()> {
@@ -64,7 +40,7 @@ fn print_image(rt: &impl Print, form: Form, t: Table) -> io::Result<()>
 {
     let mut out = image_write::room();
     match image_write::write_image(form, t, &mut out) {
-        Ok(n) => print_hex(rt, text::front(&out, n)),
+        Ok(n) => print!(rt; "{}", Hex(text::front(&out, n))),
         Err(refusal) => print_refusal(rt, refusal.into()),
     }
 }
@@ -89,14 +65,13 @@ fn run(rt: &(impl Print + Input)) -> io::Result<()> {
     let mut buffer = [0u8; ROOM];
     let mut reader = rt.reader();
     for number in 0..u64::MAX {
-        match read_item(&mut reader, &mut buffer)? {
-            Item::Image(n) => {
+        match read_image(&mut reader, &mut buffer)? {
+            Ok(n) => {
                 print!(rt; "{} ", number + 1)?;
                 print_reading(rt, text::front(&buffer, n))?;
                 println!(rt)?;
             }
-            Item::Cut => return println!(rt; "cut {number}"),
-            Item::End => return println!(rt; "end {number}"),
+            Err(stop) => return println!(rt; "{stop} {number}"),
         }
     }
     Ok(())

@@ -8,13 +8,12 @@ use native.Mathlib.Omega.{arith}
 use lib.Dec.{leb, eqb}
 use lib.ListN.{length, get_or, set, replicate}
 use lib.Seq.{get_or-set_same, get_or-set_other}
-use Rattle.std.specs.Prelude.{Some, None}
+use Rattle.std.specs.Prelude.{Some, None, Option, is_some}
 use Rattle.settings.specs.declared.Profile.{Profile}
 use Rattle.lists.proofs.Both.{both}
 use Rattle.packet.specs.Packet.{monitor_id}
 use Rattle.panels.specs.declared.Panel.{Panel}
-use Rattle.panels.specs.declared.Place.{Place}
-use Rattle.panels.specs.Wall.{Wall, place_from, place_of, if_there}
+use Rattle.panels.specs.Wall.{Wall, place_from, place_of}
 use Rattle.panels.specs.WellFormed.{GoodWall}
 use Rattle.panels.proofs.Formed.{nowhere_absent, good_snoc}
 use Rattle.panels.proofs.Values.{InRange}
@@ -27,7 +26,7 @@ use Rattle.image_record.proofs.Steps.{none_seen}
 pub record HeadFits (w : Wall) (bytes : List ℕ) : Type 0 where
   pub named : get_or bytes 0 0 ≡ 0 → ⊥
   pub grouped : get_or bytes 1 0 ≡ 0 → ⊥
-  pub new : place_of (monitor_id (get_or bytes 0 0)) w ≡ Place.Nowhere
+  pub new : place_of (monitor_id (get_or bytes 0 0)) w ≡ None
 
 pub head_fits_lem : (form : Form) (w : Wall) (bytes : List ℕ) → head_fits form (id_in w) bytes ≡ true → HeadFits w bytes
 unfolding head_fits
@@ -37,9 +36,9 @@ head_fits_lem form w bytes e =
     let b = (both (leb (head_size form) (length bytes)) _ ab).1 in
     record { named = eqb-false _ _ (not-true _ b); grouped = eqb-false _ _ (not-true _ c); new = nowhere _ (not-true _ d) }
   where
-    nowhere : (q : Place) → if_there q true false ≡ false → q ≡ Place.Nowhere
-    nowhere (Place.At k) e = absurd (false≢true (sym e))
-    nowhere Place.Nowhere e = refl
+    nowhere : (q : Option ℕ) → cond (is_some q) true false ≡ false → q ≡ None
+    nowhere (Some k) e = absurd (false≢true (sym e))
+    nowhere None e = refl
 
 -- where a profile comes of it, the head fits and says that profile
 pub head-known : (form : Form) (seen : ℕ → Bool) (bytes : List ℕ) (profile : Profile) → head_in form seen bytes ≡ Some profile
@@ -72,18 +71,18 @@ unfolding place_from
 none-marked n = record { alike = none_seen n }
 
 there_snoc : (i k : ℕ) (w : Wall) (p : Panel)
-    → if_there (place_from (monitor_id i) k (w ++ p ∷ [])) true false
-    ≡ cond (eqb p.id.0 i) true (if_there (place_from (monitor_id i) k w) true false)
+    → cond (is_some (place_from (monitor_id i) k (w ++ p ∷ []))) true false
+    ≡ cond (eqb p.id.0 i) true (cond (is_some (place_from (monitor_id i) k w)) true false)
 unfolding place_from
 there_snoc i k [] p = go (eqb p.id.0 i)
   where
-    go : (t : Bool) → if_there (cond t (Place.At k) Place.Nowhere) true false ≡ cond t true false
+    go : (t : Bool) → cond (is_some (cond t (Some k) None)) true false ≡ cond t true false
     go true = refl
     go false = refl
 there_snoc i k (q ∷ w) p = go (eqb q.id.0 i) (eqb p.id.0 i) _ _ (there_snoc i (suc k) w p)
   where
-    go : (s t : Bool) (a b : Place) → if_there a true false ≡ cond t true (if_there b true false)
-        → if_there (cond s (Place.At k) a) true false ≡ cond t true (if_there (cond s (Place.At k) b) true false)
+    go : (s t : Bool) (a b : Option ℕ) → cond (is_some a) true false ≡ cond t true (cond (is_some b) true false)
+        → cond (is_some (cond s (Some k) a)) true false ≡ cond t true (cond (is_some (cond s (Some k) b)) true false)
     go true true a b e = refl
     go true false a b e = refl
     go false t a b e = e
@@ -94,7 +93,7 @@ pub one_more : {seen : List Bool} {w : Wall} (p : Panel) → Marks seen w → p.
 one_more {seen} {w} p m h = record { alike = λ i. rw (there_snoc i 0 w p) (go i (eqb p.id.0 i) refl) }
   where
     go : (i : ℕ) (t : Bool) → eqb p.id.0 i ≡ t
-        → get_or (set seen p.id.0 true) i false ≡ cond t true (if_there (place_from (monitor_id i) 0 w) true false)
+        → get_or (set seen p.id.0 true) i false ≡ cond t true (cond (is_some (place_from (monitor_id i) 0 w)) true false)
     go i true e = subst (λ (j : ℕ). get_or (set seen p.id.0 true) j false ≡ true) (eqb-true _ _ e) (get_or-set_same seen p.id.0 true false h)
     go i false e = get_or-set_other seen p.id.0 i true false (λ s. eqb-false _ _ e (sym s)) ∙ m.alike i
 

@@ -1,15 +1,15 @@
 -- The head of a record. 01, "Table calls and numbers", refusal 16; 02, A2: it goes by the form's head.
-use Rattle.std.specs.Prelude.{ℕ, Bool, true, false, cond, not, ◌&&◌, List, leb, eqb, length, get_or, Option, None}
+use Rattle.std.specs.Prelude.{ℕ, Bool, true, false, cond, not, ◌&&◌, List, leb, eqb, length, get_or, Option, None, is_some}
 use Rattle.settings.specs.declared.Profile.{Profile}
 use Rattle.packet.specs.Packet.{monitor_id, group_id}
 use Rattle.panels.specs.declared.Panel.{Panel}
-use Rattle.panels.specs.Wall.{Wall, place_of, if_there}
+use Rattle.panels.specs.Wall.{Wall, place_of}
 use Rattle.image_forms.specs.declared.Form.{Form}
 use Rattle.image_forms.specs.Forms.{head_size, profile_in}
 
 -- the IDs seen before: those of a wall, or those that are marked
 abbrev pub id_in : Wall → ℕ → Bool
-id_in w i = if_there (place_of (monitor_id i) w) true false
+id_in w i = cond (is_some (place_of (monitor_id i) w)) true false
 
 abbrev pub marked : List Bool → ℕ → Bool
 marked seen i = get_or seen i false

@@ -10,7 +10,7 @@ ghost use Rattle.line.specs.Any.{heard_of, AnswersAll};
 ghost use Rattle.line.specs.Receiver.{receiver_of, reading_in};
 
 use answers::{Played, Reply};
-use packet::{Damage, Edition, LONGEST, Verdict};
+use packet::{Damage, Edition, LONGEST, Reading, Verdict};
 use panels::Table;
 
 // Counted where more bytes came than a packet may have.
@@ -94,9 +94,12 @@ impl Receiver {
         let bytes = self.bytes;
         let n = self.count;
         if LONGEST < n {
-            let verdict = Verdict::Damaged(Damage::TooLong);
-            let seems = packet::seems_for(edition, &bytes);
-            return answers::answered_on(t, verdict, &bytes[..0], seems);
+            let reading = Reading {
+                verdict: Verdict::Damaged(Damage::TooLong),
+                data: &[],
+                seems: packet::seems_for(edition, &bytes),
+            };
+            return answers::answered_on(t, reading);
         }
         answers::play(edition, t, &bytes[..n])
     }

@@ -7,6 +7,7 @@ use native.Mathlib.Nat.{not-suc-le-zero}
 use borrow.Author.Tests.{eqb-true, eq-eqb}
 use lib.Dec.{eqb}
 use lib.ListN.{length, get_or, take}
+use lib.Pointwise.{pointwise}
 use Rattle.lists.specs.Lists.{same}
 use Rattle.lists.proofs.Both.{both}
 
@@ -21,6 +22,14 @@ pub same_self : (a : List ℕ) → same a a ≡ true
 unfolding same
 same_self [] = refl
 same_self (x ∷ a) = rw (eq-eqb x x refl) (same_self a)
+
+-- what `==` says of two slices of bytes
+pub eq_same : (a b : List ℕ) → pointwise eqb a b ≡ same a b
+unfolding same
+eq_same [] [] = refl
+eq_same [] (y ∷ b) = refl
+eq_same (x ∷ a) [] = refl
+eq_same (x ∷ a) (y ∷ b) = rw (eq_same a b)
 
 pub not_same : (a b : List ℕ) → (a ≡ b → ⊥) → same a b ≡ false
 not_same a b ne = go (same a b) refl

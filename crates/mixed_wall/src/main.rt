@@ -11,12 +11,13 @@ ghost use Rattle.answers.specs.Played.{played};
 
 use models::Model;
 use packet::{Edition, GroupId, LONGEST, MonitorId};
-use panels::{Panel, Place, Seen, Table};
+use panels::{Panel, Table};
 use profiles::Video;
 use requests::Request;
+use sample::{Answer, Shown};
 use settings::{Profile, TILING_ROW};
 use std::io;
-use tiling::{Coded, Kind, Size};
+use tiling::Kind;
 
 // Plays a packet, and prints it and its answer.
 fn send(rt: &impl Print, t: Table, burst: &[u8]) -> io::Result<Table>
@@ -25,14 +26,8 @@ fn send(rt: &impl Print, t: Table, burst: &[u8]) -> io::Result<Table>
         (λ after. (after ≡ table_of (played Edition.Sicp201 (panels_of t) burst.now).wall) × WellFormed after) }
 {
     let played = answers::play(Edition::Sicp201, t, burst);
-    let mut digits = [0u8; 2 * LONGEST];
-    let sent = sample::shown(burst, &mut digits);
-    rt.write_all(text::front(&digits, sent))?;
-    print!(rt; " ")?;
-    let reply = played.reply;
-    let answered = sample::shown_answer(Edition::Sicp201, reply, &mut digits);
-    rt.write_all(text::front(&digits, answered))?;
-    println!(rt)?;
+    let answer = Answer(Edition::Sicp201, played.reply);
+    println!(rt; "{} {answer}", Shown(burst))?;
     Ok(played.table)
 }
 
@@ -75,8 +70,7 @@ fn set_place(rt: &impl Print, t: Table, position: u8, height: u8, width: u8) -> 
     requires { WellFormed t }
     ensures { IfOk result WellFormed }
 {
-    let coded = tiling::coded_as(Kind::FifteenByTen, height, width);
-    let Coded::Byte(byte) = coded else {
+    let Some(byte) = tiling::coded_as(Kind::FifteenByTen, height, width) else {
         return Ok(t);
     };
     let model = Model {
@@ -99,8 +93,7 @@ fn print_tint(rt: &impl Print, tint: i8) -> io::Result<()> {
 }
 
 fn show_tint(rt: &impl Print, p: Panel) -> io::Result<()> {
-    let seen = panels::video_of(p);
-    if let Seen::Phoenix(video) = seen {
+    if let Some(video) = panels::video_of(p) {
         print_tint(rt, video.tint)?;
     }
     Ok(())
@@ -132,9 +125,8 @@ fn print_place(rt: &impl Print, position: u8, width: u8) -> io::Result<()> {
 fn show_place(rt: &impl Print, p: Panel) -> io::Result<()> {
     let values = p.values;
     let first = settings::place_of(TILING_ROW);
-    let size = tiling::size_in(Kind::FifteenByTen, values[first + 3]);
-    if let Size::HighWide(_, width) = size {
-        print_place(rt, values[first + 2], width)?;
+    if let Some(wall) = tiling::size_in(Kind::FifteenByTen, values[first + 3]) {
+        print_place(rt, values[first + 2], wall.width)?;
     }
     Ok(())
 }
@@ -143,8 +135,7 @@ fn show_place(rt: &impl Print, p: Panel) -> io::Result<()> {
 fn show(rt: &impl Print, t: Table) -> io::Result<()>
     requires { WellFormed t }
 {
-    let place = panels::place_of(t, MonitorId(2));
-    let Place::At(k) = place else {
+    let Some(k) = panels::place_of(t, MonitorId(2)) else {
         return Ok(());
     };
     let p = panels::panel_at(t, k);
@@ -153,11 +144,9 @@ fn show(rt: &impl Print, t: Table) -> io::Result<()>
 }
 
 fn run(rt: &impl Print) -> io::Result<()> {
-    let empty = panels::empty_table();
-    let one = table_calls::add(empty, MonitorId(1), GroupId(9), 0, 0);
-    let general = one.table;
-    let two = table_calls::add(general, MonitorId(2), GroupId(9), 1, 1);
-    let mut wall = two.table;
+    let mut wall = panels::empty_table();
+    table_calls::add(&mut wall, MonitorId(1), GroupId(9), 0, 0).unwrap();
+    table_calls::add(&mut wall, MonitorId(2), GroupId(9), 1, 1).unwrap();
     // group 9: video with sharpness 60; then both panels: video?
     wall = send(
         rt,

@@ -1,6 +1,6 @@
 -- A burst's front of three bytes or more, the count of its bytes up to one past the longest packet, and the XOR of all read as the
 -- burst itself, but for the data, of which the front has the first. Assumes nothing.
-use mathlib.Core.Path.{◌≡◌, refl, sym, ap, ◌∙◌}
+use mathlib.Core.Path.{◌≡◌, refl, sym, ap, subst, ◌∙◌}
 use mathlib.Core.Bool.{Bool, true, false}
 use mathlib.Core.List.{List, [], ◌∷◌}
 use Prim.Native.Nat.{ℕ, zero, suc, ◌+◌, ◌-◌, ◌≤◌, ◌<◌, min}
@@ -9,6 +9,7 @@ use borrow.Author.Tests.{eqb-true}
 use lib.Dec.{eqb}
 use lib.ListN.{length, take, drop, length-take, take-append-drop}
 use lib.Seq.{take_all, take-nil, get_or-take}
+use Rattle.std.proofs.lemmas.List.{drop-take}
 use Rattle.lists.proofs.Sizes.{by_size}
 use Rattle.xor.specs.Xor.{xor_all}
 use Rattle.packet.specs.Edition.{head_size}
@@ -17,6 +18,7 @@ use Rattle.packet.specs.Reading.{seems_for, reading_of}
 use Rattle.packet.specs.Front.{data_by, reading_by}
 use Rattle.packet.specs.declared.Edition.{Edition}
 use Rattle.packet.specs.declared.Verdict.{Verdict}
+use Rattle.packet.proofs.EachEdition.{head_few}
 use Rattle.packet.proofs.Packets.{sound}
 use Rattle.packet.proofs.Readings.{same_reading, seems_alike}
 use Rattle.packet.proofs.ByFront.{long_verdict}
@@ -41,13 +43,6 @@ module _ (edition : Edition) (b : List ℕ) where
   pub whole_reading : reading_by edition b (length b) (xor_all b) ≡ reading_of edition b
   whole_reading = same_reading whole_verdict (own_data whole_verdict) refl
 
--- what is left of a front without its head is a front of the rest
-drop-take : (h n : ℕ) (l : List ℕ) → drop h (take n l) ≡ take (n - h) (drop h l)
-drop-take zero n l = let all : n - 0 ≡ n = omega arith in rw all
-drop-take (suc h) zero l = let none : 0 - suc h ≡ 0 = omega arith in rw none
-drop-take (suc h) (suc n) [] = sym (take-nil (suc n - suc h))
-drop-take (suc h) (suc n) (x ∷ l) = let less : suc n - suc h ≡ n - h = omega arith in rw less (drop-take h n l)
-
 take_either : (m n : ℕ) (l : List ℕ) → take m (take n l) ≡ take n (take m l)
 take_either zero zero l = refl
 take_either zero (suc n) l = sym (take-nil (suc n))
@@ -70,7 +65,11 @@ module _ (edition : Edition) (n : ℕ) (three : 3 ≤ n) (b : List ℕ) where
   pub front_data : (v : Verdict) → data_by edition (take n b) v ≡ take (n - head_size edition) (data_by edition b v)
   front_data Verdict.Empty = sym (take-nil (n - head_size edition))
   front_data (Verdict.Damaged damage) = sym (take-nil (n - head_size edition))
-  front_data (Verdict.Intact i g m) = ap (take m) (drop-take (head_size edition) n b) ∙ take_either m (n - head_size edition) (drop (head_size edition) b)
+  front_data (Verdict.Intact i g m) =
+      let h = head_size edition in
+      let all : h + (n - h) ≡ n = omega (arith, head_few edition) in
+      let behind : drop h (take n b) ≡ take (n - h) (drop h b) = subst (λ (k : ℕ). drop h (take k b) ≡ take (n - h) (drop h b)) all (drop-take h (n - h) b) in
+      ap (take m) behind ∙ take_either m (n - h) (drop h b)
 
   pub front_seems : seems_for edition (take n b) ≡ seems_for edition b
   front_seems = by_size _ (length b) 3

@@ -1,6 +1,7 @@
 -- What a burst says on a line of an edition: a box answers by this alone. 01, "Packet and burst", "Answering a burst"; 02, A11.
 use Rattle.std.specs.Prelude.{ℕ, cond, ◌&&◌, List, leb, eqb, length, get_or, Option, Some, None}
 use Rattle.packet.specs.declared.Edition.{Edition}
+use Rattle.packet.specs.declared.Reading.{Reading as ReadReading}
 use Rattle.packet.specs.declared.MonitorId.{MonitorId}
 use Rattle.packet.specs.declared.Verdict.{Verdict}
 use Rattle.packet.specs.Edition.{group_on, head_size}
@@ -15,6 +16,10 @@ pub record Reading : Type 0 where
   pub verdict : Verdict
   pub part : List ℕ
   pub seems : Option MonitorId
+
+-- what the box has read
+abbrev pub reading_in : ReadReading → Reading
+reading_in r = record { verdict = r.verdict; part = r.data.now; seems = r.seems }
 
 abbrev pub reading_of : Edition → List ℕ → Reading
 reading_of edition burst = record { verdict = verdict_of edition burst; part = data_of edition burst; seems = seems_for edition burst }

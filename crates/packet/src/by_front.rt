@@ -3,10 +3,10 @@
 ghost use Rattle.std.specs.Prelude.{◌≡◌, ℕ, ◌<◌, ◌≤◌, get_or, IsNone};
 ghost use Rattle.packet.specs.Edition.{group_on};
 ghost use Rattle.packet.specs.Packet.{shortest, damage_by, verdict_by, verdict_of, data_of};
-ghost use Rattle.packet.specs.Front.{data_by};
-ghost use Rattle.packet.specs.Reading.{seems_for};
+ghost use Rattle.packet.specs.Front.{data_by, reading_by};
+ghost use Rattle.packet.specs.Reading.{seems_for, reading_in, reading_of};
 
-use crate::{Damage, Edition, GroupId, LONGEST, MonitorId, Verdict, editions};
+use crate::{Damage, Edition, GroupId, LONGEST, MonitorId, Reading, Verdict, editions};
 
 // The byte at a place, 0 where there is none.
 fn byte_at(bytes: &[u8], k: usize) -> u8
@@ -104,4 +104,32 @@ pub fn seems_for(edition: Edition, burst: &[u8]) -> Option<MonitorId>
 {
     let named = editions::head_size(edition) <= burst.len() && group_in(edition, burst) == 0;
     named.then_some(MonitorId(byte_at(burst, 1)))
+}
+
+// What a burst says by its front, the count of its bytes and the XOR of all.
+pub fn read_by(edition: Edition, front: &[u8], count: usize, sum: u8) -> Reading<'_>
+    ensures { reading_in result ≡ reading_by edition front.now count sum }
+{
+    let verdict = verdict_by(edition, front, count, sum);
+    let data = data_by(edition, front, verdict);
+    let seems = seems_for(edition, front);
+    Reading {
+        verdict,
+        data,
+        seems,
+    }
+}
+
+// What a whole burst says.
+pub fn read(edition: Edition, burst: &[u8]) -> Reading<'_>
+    ensures { reading_in result ≡ reading_of edition burst.now }
+{
+    let verdict = verdict_of(edition, burst);
+    let data = data_of(edition, burst, verdict);
+    let seems = seems_for(edition, burst);
+    Reading {
+        verdict,
+        data,
+        seems,
+    }
 }

@@ -9,7 +9,7 @@ ghost use Rattle.packet.specs.Control.{control_byte};
 ghost use Rattle.packet.specs.Answered.{is_heard};
 ghost use Rattle.packet.specs.Packet.{damage_number, damage_in, written_of, output_of};
 
-pub use by_front::{data_by, data_of, seems_for, verdict_by, verdict_of};
+pub use by_front::{data_by, data_of, read, read_by, seems_for, verdict_by, verdict_of};
 pub use editions::{HEAD_201, SICP_201, UnknownEdition, carries};
 
 // The bytes of the longest packet.
@@ -47,6 +47,14 @@ pub enum Verdict {
         group: GroupId,
         count: usize,
     },
+}
+
+// What a burst says: the verdict; the data, which is a part of the burst; and whom the burst seems to be for, if it is damaged.
+#[derive(Clone, Copy)]
+pub struct Reading<'a> {
+    pub verdict: Verdict,
+    pub data: &'a [u8],
+    pub seems: Option<MonitorId>,
 }
 
 // Why no packet is written: the data fits none, or the output has no room for any.

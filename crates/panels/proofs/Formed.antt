@@ -8,6 +8,7 @@ use native.Mathlib.Omega.{arith}
 use borrow.Author.Tests.{eqb-false}
 use lib.Dec.{eqb}
 use lib.ListN.{length, get_or}
+use Rattle.std.specs.Prelude.{Some, None}
 use Rattle.settings.specs.declared.Profile.{Profile}
 use Rattle.tiling.specs.declared.Kind.{Kind}
 use Rattle.tiling.specs.Kinds.{kind_number}
@@ -17,7 +18,6 @@ use Rattle.models.proofs.Laws.{kind_allowed}
 use Rattle.packet.specs.declared.MonitorId.{MonitorId}
 use Rattle.packet.specs.declared.GroupId.{GroupId}
 use Rattle.panels.specs.declared.Panel.{Panel}
-use Rattle.panels.specs.declared.Place.{Place}
 use Rattle.panels.specs.Wall.{Wall, blank, fresh_panel, table_of, place_from, most_panels}
 use Rattle.panels.specs.WellFormed.{GoodPanel, Absent, GoodWall, WellFormed}
 use Rattle.panels.proofs.Laws.{panels_of_table}
@@ -29,13 +29,13 @@ formed w few good =
     record { held = ap table_of e; few = subst (λ (v : Wall). length v ≤ most_panels) e few; good = subst GoodWall e good }
 
 -- nothing is found exactly where the ID is absent
-pub nowhere_absent : (i : MonitorId) (k : ℕ) (w : Wall) → place_from i k w ≡ Place.Nowhere → Absent i w
+pub nowhere_absent : (i : MonitorId) (k : ℕ) (w : Wall) → place_from i k w ≡ None → Absent i w
 unfolding place_from
 nowhere_absent i k [] e = tt
 nowhere_absent i k (p ∷ w) e = go (eqb p.id.0 i.0) refl e (nowhere_absent i (suc k) w)
   where
-    go : (t : Bool) → eqb p.id.0 i.0 ≡ t → cond t (Place.At k) (place_from i (suc k) w) ≡ Place.Nowhere
-        → (place_from i (suc k) w ≡ Place.Nowhere → Absent i w) → Absent i (p ∷ w)
+    go : (t : Bool) → eqb p.id.0 i.0 ≡ t → cond t (Some k) (place_from i (suc k) w) ≡ None
+        → (place_from i (suc k) w ≡ None → Absent i w) → Absent i (p ∷ w)
     go true s n ih = let z : ◌≡◌ {A = ℕ} 0 1 = cc in absurd (omega arith)
     go false s n ih = (eqb-false _ _ s, ih n)
 

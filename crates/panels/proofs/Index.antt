@@ -10,6 +10,7 @@ use borrow.Author.Tests.{eq-eqb, ne_eqb}
 use lib.Dec.{eqb}
 use lib.ListN.{length, get_or, drop, set, replicate, length-map, length-drop}
 use lib.Seq.{drop-cons, drop-length}
+use Rattle.std.specs.Prelude.{Option, Some, None}
 use Rattle.lists.specs.Lists.{each}
 use Rattle.lists.proofs.Each.{in_each, each_alike, each_same, set-each}
 use Rattle.packet.specs.declared.MonitorId.{MonitorId}
@@ -17,7 +18,6 @@ use Rattle.packet.specs.declared.GroupId.{GroupId}
 use Rattle.packet.specs.Packet.{monitor_id, group_id}
 use Rattle.panels.specs.declared.Panel.{Panel}
 use Rattle.panels.specs.declared.Table.{Table}
-use Rattle.panels.specs.declared.Place.{Place}
 use Rattle.panels.specs.Wall.{Wall, blank, in_places, table_of, panels_of, place_from, place_of, place_number, members_of, most_panels, id_count, group_count}
 use Rattle.panels.specs.WellFormed.{WellFormed}
 use Rattle.panels.proofs.Laws.{count_is, place_there}
@@ -40,7 +40,7 @@ module _ (w : Wall) (k : ℕ) (h : k < length w) where
   abbrev p : Panel
   p = get_or w k blank
 
-  place-step : (i : ℕ) → place_after k w i ≡ place_number (cond (eqb p.id.0 i) (Place.At k) (place_from (monitor_id i) (k + 1) (drop (k + 1) w)))
+  place-step : (i : ℕ) → place_after k w i ≡ place_number (cond (eqb p.id.0 i) (Some k) (place_from (monitor_id i) (k + 1) (drop (k + 1) w)))
   unfolding place_after place_from
   place-step i = rw (drop-cons w k blank, add-one)
 
@@ -130,12 +130,12 @@ module _ {t : Table} (f : WellFormed t) where
 
 -- a place is known by its number
 pub place_by : (i : MonitorId) (w : Wall) → length w ≤ most_panels → (n : ℕ) → n ≡ place_number (place_of i w)
-    → (n < most_panels → place_of i w ≡ Place.At n) × (most_panels ≤ n → place_of i w ≡ Place.Nowhere)
+    → (n < most_panels → place_of i w ≡ Some n) × (most_panels ≤ n → place_of i w ≡ None)
 place_by i w few n e = go (place_of i w) refl e
   where
-    go : (q : Place) → place_of i w ≡ q → n ≡ place_number q → (n < most_panels → place_of i w ≡ Place.At n) × (most_panels ≤ n → place_of i w ≡ Place.Nowhere)
-    go (Place.At k) s m = ((λ h. s ∙ ap (λ (k : ℕ). Place.At k) (sym m)), (λ h. absurd (omega (arith, (place_there i w k s).0))))
-    go Place.Nowhere s m = ((λ h. absurd (omega arith)), (λ h. s))
+    go : (q : Option ℕ) → place_of i w ≡ q → n ≡ place_number q → (n < most_panels → place_of i w ≡ Some n) × (most_panels ≤ n → place_of i w ≡ None)
+    go (Some k) s m = ((λ h. s ∙ ap (λ (k : ℕ). Some k) (sym m)), (λ h. absurd (omega (arith, (place_there i w k s).0))))
+    go None s m = ((λ h. absurd (omega arith)), (λ h. s))
 
 -- the table with other panels in its places
 abbrev pub with_panels : Table → List Panel → Table

@@ -9,10 +9,10 @@ use borrow.Author.Tests.{eqb-true, eqb-false}
 use lib.Dec.{eqb}
 use lib.ListN.{length, get_or, take, drop, set, replicate, length-append, length-take, length-replicate, length-map, get_or-replicate}
 use lib.Seq.{length-take-le, take-append_seam, drop-append_seam, get_or-take, set-append_seam, append_snoc}
+use Rattle.std.specs.Prelude.{Option, Some, None}
 use Rattle.packet.specs.declared.MonitorId.{MonitorId}
 use Rattle.panels.specs.declared.Panel.{Panel}
 use Rattle.panels.specs.declared.Table.{Table}
-use Rattle.panels.specs.declared.Place.{Place}
 use Rattle.panels.specs.Wall.{Wall, blank, in_places, table_of, panels_of, place_from, most_panels}
 use Rattle.panels.specs.WellFormed.{WellFormed}
 use Rattle.lists.proofs.Places.{get_d_inside}
@@ -101,9 +101,9 @@ unfolding table_of
 held_places f = ap (λ (t : Table). t.panels) f.held
 
 -- What is found is a place of the wall with that ID; where nothing is found no place has it.
-abbrev pub IsPlace : MonitorId → ℕ → Wall → Place → Type 0
-IsPlace i k w (Place.At m) = (j : ℕ) × (m ≡ k + j) × (j < length w) × ((get_or w j blank).id.0 ≡ i.0)
-IsPlace i k w Place.Nowhere = (j : ℕ) → j < length w → (get_or w j blank).id.0 ≡ i.0 → ⊥
+abbrev pub IsPlace : MonitorId → ℕ → Wall → Option ℕ → Type 0
+IsPlace i k w (Some m) = (j : ℕ) × (m ≡ k + j) × (j < length w) × ((get_or w j blank).id.0 ≡ i.0)
+IsPlace i k w None = (j : ℕ) → j < length w → (get_or w j blank).id.0 ≡ i.0 → ⊥
 
 place-from : (i : MonitorId) (k : ℕ) (w : Wall) → IsPlace i k w (place_from i k w)
 unfolding place_from
@@ -115,17 +115,17 @@ place-from i k (p ∷ w) = go (eqb p.id.0 i.0) refl (place_from i (suc k) w) (pl
     skip none e zero h = eqb-false _ _ e
     skip none e (suc j) h = none j (le_of_suc-le-suc h)
 
-    go : (t : Bool) → eqb p.id.0 i.0 ≡ t → (q : Place) → IsPlace i (suc k) w q → IsPlace i k (p ∷ w) (cond t (Place.At k) q)
+    go : (t : Bool) → eqb p.id.0 i.0 ≡ t → (q : Option ℕ) → IsPlace i (suc k) w q → IsPlace i k (p ∷ w) (cond t (Some k) q)
     go true e q ih = (0, sym (add-zero k), omega arith, eqb-true _ _ e)
-    go false e (Place.At m) (j, n, h, same) = (suc j, omega arith, omega arith, same)
-    go false e Place.Nowhere none = skip none e
+    go false e (Some m) (j, n, h, same) = (suc j, omega arith, omega arith, same)
+    go false e None none = skip none e
 
 -- of the whole wall
-pub place_there : (i : MonitorId) (w : Wall) (k : ℕ) → place_from i 0 w ≡ Place.At k → (k < length w) × ((get_or w k blank).id.0 ≡ i.0)
+pub place_there : (i : MonitorId) (w : Wall) (k : ℕ) → place_from i 0 w ≡ Some k → (k < length w) × ((get_or w k blank).id.0 ≡ i.0)
 place_there i w k e =
     let (j, n, h, same) = subst (IsPlace i 0 w) e (place-from i 0 w) in
     let n' : j ≡ k = omega arith in
     (omega arith, rw (← n') same)
 
-pub place_nowhere : (i : MonitorId) (w : Wall) → place_from i 0 w ≡ Place.Nowhere → (j : ℕ) → j < length w → (get_or w j blank).id.0 ≡ i.0 → ⊥
+pub place_nowhere : (i : MonitorId) (w : Wall) → place_from i 0 w ≡ None → (j : ℕ) → j < length w → (get_or w j blank).id.0 ≡ i.0 → ⊥
 place_nowhere i w e = subst (IsPlace i 0 w) e (place-from i 0 w)

@@ -1,5 +1,5 @@
 -- A wall is a list of panels; a table holds it in its places. 01, "The settings", "Table calls and numbers".
-use Rattle.std.specs.Prelude.{ℕ, suc, ◌-◌, cond, List, [], ◌∷◌, ◌++◌, eqb, length, take, replicate}
+use Rattle.std.specs.Prelude.{ℕ, suc, ◌-◌, cond, List, [], ◌∷◌, ◌++◌, eqb, length, take, replicate, Option, Some, None, unwrap_or}
 use Rattle.lists.specs.Lists.{each}
 use Rattle.settings.specs.declared.Profile.{Profile}
 use Rattle.tiling.specs.declared.Kind.{Kind}
@@ -11,10 +11,9 @@ use Rattle.profiles.specs.Video.{video_in}
 use Rattle.packet.specs.declared.MonitorId.{MonitorId}
 use Rattle.packet.specs.declared.GroupId.{GroupId}
 use Rattle.packet.specs.Packet.{monitor_id, group_id}
+use Rattle.profiles.specs.declared.Video.{Video}
 use Rattle.panels.specs.declared.Panel.{Panel}
 use Rattle.panels.specs.declared.Table.{Table}
-use Rattle.panels.specs.declared.Place.{Place}
-use Rattle.panels.specs.declared.Seen.{Seen}
 
 abbrev pub Wall : Type 0
 Wall = List Panel
@@ -40,11 +39,11 @@ abbrev pub model_of : Panel → Model
 model_of p = model_in p.profile p.values
 
 -- a Phoenix panel's video, with its tint's sign; of another panel nothing is said
-abbrev pub video_by : Profile → List ℕ → Seen
-video_by Profile.General values = Seen.General
-video_by Profile.Phoenix values = Seen.Phoenix (video_in (values_of video_row values))
+abbrev pub video_by : Profile → List ℕ → Option Video
+video_by Profile.General values = None
+video_by Profile.Phoenix values = Some (video_in (values_of video_row values))
 
-unfoldable pub video_of : Panel → Seen
+unfoldable pub video_of : Panel → Option Video
 video_of p = video_by p.profile p.values
 
 -- what stands in a place that no panel has
@@ -56,11 +55,11 @@ unfoldable pub in_places : Wall → List Panel
 in_places w = w ++ replicate (most_panels - length w) blank
 
 -- the place of the first panel, counted from k, that has the ID
-unfoldable pub place_from : MonitorId → ℕ → Wall → Place
-place_from i k [] = Place.Nowhere
-place_from i k (p ∷ w) = cond (eqb p.id.0 i.0) (Place.At k) (place_from i (suc k) w)
+unfoldable pub place_from : MonitorId → ℕ → Wall → Option ℕ
+place_from i k [] = None
+place_from i k (p ∷ w) = cond (eqb p.id.0 i.0) (Some k) (place_from i (suc k) w)
 
-abbrev pub place_of : MonitorId → Wall → Place
+abbrev pub place_of : MonitorId → Wall → Option ℕ
 place_of i w = place_from i 0 w
 
 -- 02, A8: how many panels are in a group
@@ -69,9 +68,8 @@ members_of g [] = 0
 members_of g (p ∷ w) = cond (eqb p.group.0 g.0) (suc (members_of g w)) (members_of g w)
 
 -- a place as the index has it: past the last where there is none
-abbrev pub place_number : Place → ℕ
-place_number (Place.At k) = k
-place_number Place.Nowhere = most_panels
+abbrev pub place_number : Option ℕ → ℕ
+place_number place = unwrap_or place most_panels
 
 -- the table that holds a wall, with the index: the place of each ID, and the members of each group
 unfoldable pub table_of : Wall → Table
@@ -84,7 +82,3 @@ table_of w = record {
 
 abbrev pub panels_of : Table → Wall
 panels_of t = take t.count t.panels
-
-abbrev pub if_there : {A : Type 0} → Place → A → A → A
-if_there (Place.At k) a b = a
-if_there Place.Nowhere a b = b

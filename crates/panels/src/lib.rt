@@ -40,20 +40,6 @@ pub struct Table {
     count: usize,
 }
 
-// The place of an ID in the table.
-#[derive(Clone, Copy)]
-pub enum Place {
-    At(usize),
-    Nowhere,
-}
-
-// A panel's video as a caller sees it: with the tint's sign, if it is a Phoenix panel's.
-#[derive(Clone, Copy)]
-pub enum Seen {
-    Phoenix(Video),
-    General,
-}
-
 // What stands in a place that no panel has.
 pub fn blank_panel() -> Panel
     ensures { result ≡ blank }
@@ -128,16 +114,13 @@ pub fn table_of(panels: [Panel; MOST_PANELS], count: usize) -> Table
     }
 }
 
-// The place of the panel with an ID.
-pub fn place_of(t: Table, id: MonitorId) -> Place
+// The place of the panel with an ID, if one has it.
+pub fn place_of(t: Table, id: MonitorId) -> Option<usize>
     requires { WellFormed t }
     ensures { result ≡ place_of id (panels_of t) }
 {
     let k = t.places[id.0 as usize] as usize;
-    if k < MOST_PANELS {
-        return Place::At(k);
-    }
-    Place::Nowhere
+    if k < MOST_PANELS { Some(k) } else { None }
 }
 
 // Whether a packet with this ID and group addresses a panel.
@@ -150,15 +133,13 @@ pub fn reaches(id: MonitorId, group: GroupId, p: Panel) -> bool
     group.0 != 255 && p.group.0 == group.0
 }
 
-// A Phoenix panel's video.
-pub fn video_of(p: Panel) -> Seen
+// A Phoenix panel's video as a caller sees it, with the tint's sign.
+pub fn video_of(p: Panel) -> Option<Video>
     ensures { result ≡ video_of p }
 {
-    let profile = p.profile;
-    let Profile::Phoenix = profile else {
-        return Seen::General;
+    let Profile::Phoenix = p.profile else {
+        return None;
     };
     let v = p.values;
-    let video = profiles::video_in([v[6], v[7], v[8], v[9], v[10], v[11], v[12]]);
-    Seen::Phoenix(video)
+    Some(profiles::video_in([v[6], v[7], v[8], v[9], v[10], v[11], v[12]]))
 }

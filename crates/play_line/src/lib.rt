@@ -9,11 +9,12 @@ ghost use Rattle.play_line.specs.Private.Lines.{line_of, heard_on};
 
 use answers::Reply;
 use line::Receiver;
-use packet::{Edition, LONGEST};
+use packet::Edition;
 use panels::Table;
+use sample::Answer;
 use small_receiver::SmallReceiver;
 use std::io;
-use text::{LONGEST_STEP, Read};
+use text::LONGEST_STEP;
 
 // The receiver that keeps a whole packet, or the one that keeps its front.
 #[derive(Clone, Copy)]
@@ -88,16 +89,8 @@ fn hear(line: Line, t: Table, burst: &[u8]) -> Heard
 
 // A burst's number, a space, and the answer.
 fn print_answer(rt: &impl Print, number: u64, reply: Reply) -> io::Result<()> {
-    print!(rt; "{number} ")?;
-    let mut digits = [0u8; 2 * LONGEST];
-    let n = sample::shown_answer(Edition::Sicp201, reply, &mut digits);
-    rt.write_all(text::front(&digits, n))?;
-    println!(rt)
-}
-
-// The last line: `end` or `cut`, and how many bursts were played.
-fn print_last(rt: &impl Print, word: &str, number: u64) -> io::Result<()> {
-    println!(rt; "{word} {number}")
+    let answer = Answer(Edition::Sicp201, reply);
+    println!(rt; "{number} {answer}")
 }
 
 // Plays to the end of the input, and hands out the table.
@@ -110,19 +103,15 @@ pub fn run(rt: &(impl Print + Input), through: Through) -> io::Result<Table>
     for number in 0..u64::MAX {
         let mut buffer = [0u8; LONGEST_STEP];
         match text::read_step(&mut reader, &mut buffer)? {
-            Read::Step(n) => {
+            Ok(n) => {
                 let heard = hear(line, table, text::front(&buffer, n));
                 line = heard.line;
                 table = heard.table;
                 let reply = heard.reply;
                 print_answer(rt, number + 1, reply)?;
             }
-            Read::Cut => {
-                print_last(rt, "cut", number)?;
-                return Ok(table);
-            }
-            Read::End => {
-                print_last(rt, "end", number)?;
+            Err(stop) => {
+                println!(rt; "{stop} {number}")?;
                 return Ok(table);
             }
         }

@@ -5,14 +5,7 @@ use packet::LONGEST;
 use qx::{Packets, Reply};
 use requests::Request;
 use std::io;
-use text::{LONGEST_STEP, Read};
-
-// Prints the bytes of a packet in hex.
-fn print_hex(rt: &impl Print, bytes: &[u8]) -> io::Result<()> {
-    let mut digits = [0u8; 2 * LONGEST];
-    let n = text::hex(bytes, &mut digits);
-    rt.write_all(&digits[..n])
-}
+use text::Hex;
 
 // The bytes behind the first n.
 fn behind(bytes: &[u8], n: usize) -> &[u8] {
@@ -26,8 +19,7 @@ fn behind(bytes: &[u8], n: usize) -> &[u8] {
 // Prints a space and the packet of this size, where there is one.
 fn print_next(rt: &impl Print, out: &[u8], size: usize) -> io::Result<()> {
     if size != 0 {
-        print!(rt; " ")?;
-        print_hex(rt, text::front(out, size))?;
+        print!(rt; " {}", Hex(text::front(out, size)))?;
     }
     Ok(())
 }
@@ -35,7 +27,7 @@ fn print_next(rt: &impl Print, out: &[u8], size: usize) -> io::Result<()> {
 // Prints the packets that stand one behind the other, a space between two.
 fn print_packets(rt: &impl Print, packets: Packets, out: &[u8]) -> io::Result<()> {
     let sizes = packets.sizes;
-    print_hex(rt, text::front(out, sizes[0]))?;
+    print!(rt; "{}", Hex(text::front(out, sizes[0])))?;
     let out = behind(out, sizes[0]);
     print_next(rt, out, sizes[1])?;
     print_next(rt, behind(out, sizes[1]), sizes[2])?;
@@ -48,7 +40,11 @@ fn unknown(rt: &impl Print) -> io::Result<()> {
 }
 
 // Translates the request that a step tells; it is then the last.
-fn play_request(rt: &impl Print, last: Option<Request>, told: Option<Request>) -> io::Result<Option<Request>> {
+fn play_request(
+    rt: &impl Print,
+    last: Option<Request>,
+    told: Option<Request>,
+) -> io::Result<Option<Request>> {
     let Some(request) = told else {
         unknown(rt)?;
         return Ok(last);
@@ -107,22 +103,12 @@ fn play(rt: &impl Print, last: Option<Request>, step: &[u8]) -> io::Result<Optio
     }
 }
 
-// Every step of standard input, in order. The loop counts its turns, since a proved loop has to end and nothing says that the
-// input does.
+// Every step of standard input, in order.
 fn run(rt: &(impl Print + Input)) -> io::Result<()> {
-    let mut last = None;
-    let mut reader = rt.reader();
-    for number in 0..u64::MAX {
-        let mut buffer = [0u8; LONGEST_STEP];
-        match text::read_step(&mut reader, &mut buffer)? {
-            Read::Step(n) => {
-                print!(rt; "{} ", number + 1)?;
-                last = play(rt, last, text::front(&buffer, n))?;
-            }
-            Read::Cut => return println!(rt; "cut {number}"),
-            Read::End => return println!(rt; "end {number}"),
-        }
-    }
+    text::each_step(rt, None, |last, number, step| {
+        print!(rt; "{number} ")?;
+        play(rt, last, step)
+    })?;
     Ok(())
 }
 

@@ -1,11 +1,12 @@
 -- What data says: control words and reports by their bytes. Assumes nothing.
 use mathlib.Core.Path.{◌≡◌, refl}
-use mathlib.Core.Bool.{Bool, true, false, false≢true, cond, and-true, and-false, ◌&&◌}
+use mathlib.Core.Bool.{Bool, true, false, false≢true, cond, ◌&&◌}
 use mathlib.Core.List.{List, [], ◌∷◌}
 use Prim.Native.Nat.{ℕ, ◌+◌, ◌≤◌, ◌<◌}
 use native.Mathlib.Omega.{arith}
 use lib.Dec.{eqb}
 use lib.ListN.{length, get_or, drop}
+use Rattle.std.specs.Prelude.{Option, Some, None}
 use Rattle.models.specs.declared.Model.{Model}
 use Rattle.settings.specs.Settings.{get_code, row_count, most_values}
 use Rattle.codes.specs.Found.{found_by}
@@ -15,25 +16,9 @@ use Rattle.lists.proofs.Both.{both}
 use Rattle.settings.proofs.Laws.{byte-count-few}
 use Rattle.codes.proofs.Laws.{IsFound, found_right}
 use Rattle.models.proofs.Laws.{allowed_many}
-use Rattle.packet.specs.Control.{control_byte}
 use Rattle.packet.specs.declared.Control.{Control}
 use Rattle.requests.specs.declared.Said.{Said}
-use Rattle.lists.specs.Lists.{same}
 use Rattle.requests.specs.Said.{is_control, is_report, ended_by, word_in}
-
-pub control_other : (w : Control) (d : List ℕ) → (length d ≡ 2 → ⊥) → is_control w d ≡ false
-unfolding is_control same
-control_other w [] h = refl
-control_other w (x ∷ []) h = and-false (eqb x 0)
-control_other w (x ∷ y ∷ []) h = absurd (h refl)
-control_other w (x ∷ y ∷ z ∷ d) h = rw (and-false (eqb y (control_byte w))) (and-false (eqb x 0))
-
-pub control_two : (w : Control) (d : List ℕ) → length d ≡ 2 → is_control w d ≡ eqb (get_or d 0 0) 0 && eqb (get_or d 1 0) (control_byte w)
-unfolding is_control same
-control_two w [] h = absurd (omega arith)
-control_two w (x ∷ []) h = absurd (omega arith)
-control_two w (x ∷ y ∷ []) h = rw (and-true (eqb y (control_byte w)))
-control_two w (x ∷ y ∷ z ∷ d) h = absurd (omega arith)
 
 pub report_some : (model : Model) (k : ℕ) (d : List ℕ) → 0 < length d
     → is_report model k d ≡ eqb (get_or d 0 0) (get_code k) && allowed_for model k (drop 1 d)
@@ -57,26 +42,26 @@ report_fits model row (c ∷ values) h e =
     let most = byte-count-few h in
     (omega arith, omega arith)
 
-only_report : (t : Bool) {x : Said} → (x ≡ Said.Report → ⊥) → cond t Said.Report x ≡ Said.Report → t ≡ true
-only_report true h e = refl
-only_report false h e = absurd (h e)
+only_report : (t : Bool) → cond t (Some Said.Report) None ≡ Some Said.Report → t ≡ true
+only_report true e = refl
+only_report false e = let z : ◌≡◌ {A = ℕ} 0 1 = cc in absurd (omega arith)
 
 -- Data that is taken for a report has the code and at most seven values.
-pub report_length : (model : Model) (code : ℕ) (d : List ℕ) → word_in model code d ≡ Said.Report → Fits d
+pub report_length : (model : Model) (code : ℕ) (d : List ℕ) → word_in model code d ≡ Some Said.Report → Fits d
 unfolding word_in ended_by
 report_length model code d e =
     by_found (found_by code) (found_right code) (by_word (is_control Control.Nack d) (is_control Control.Nav d) (ended_by model (found_by code) d) e)
   where
-    by_word : (a b : Bool) (s : Said) → cond a Said.Nack (cond b Said.Nav s) ≡ Said.Report → s ≡ Said.Report
+    by_word : (a b : Bool) (s : Option Said) → cond a (Some Said.Nack) (cond b (Some Said.Nav) s) ≡ Some Said.Report → s ≡ Some Said.Report
     by_word true b s e = let z : ◌≡◌ {A = ℕ} 0 1 = cc in absurd (omega arith)
     by_word false true s e = let z : ◌≡◌ {A = ℕ} 0 1 = cc in absurd (omega arith)
     by_word false false s e = e
 
-    no_ack : (t : Bool) → cond t Said.Ack Said.Nothing ≡ Said.Report → ⊥
+    no_ack : (t : Bool) → cond t (Some Said.Ack) None ≡ Some Said.Report → ⊥
     no_ack true e = let z : ◌≡◌ {A = ℕ} 0 1 = cc in omega arith
     no_ack false e = let z : ◌≡◌ {A = ℕ} 0 1 = cc in omega arith
 
-    by_found : (f : Found) → IsFound code f → ended_by model f d ≡ Said.Report → Fits d
+    by_found : (f : Found) → IsFound code f → ended_by model f d ≡ Some Said.Report → Fits d
     by_found (Found.Set row) h e = absurd (no_ack (is_control Control.Ack d) e)
-    by_found (Found.Get row) h e = report_fits model row d h.0 (only_report (is_report model row d) (λ z. let y : ◌≡◌ {A = ℕ} 0 1 = cc in omega arith) e)
+    by_found (Found.Get row) h e = report_fits model row d h.0 (only_report (is_report model row d) e)
     by_found Found.Nothing h e = let z : ◌≡◌ {A = ℕ} 0 1 = cc in absurd (omega arith)

@@ -1,6 +1,6 @@
 -- What data says to the host that waits for a request. 01, "Host side": for a set ACK, for a get its report with the right
 -- length and allowed values, for either NAV or NACK.
-use Rattle.std.specs.Prelude.{ℕ, Bool, false, cond, ◌&&◌, List, [], ◌∷◌, eqb}
+use Rattle.std.specs.Prelude.{ℕ, Bool, false, cond, ◌&&◌, List, [], ◌∷◌, eqb, Option, Some, None}
 use Rattle.lists.specs.Lists.{same}
 use Rattle.models.specs.declared.Model.{Model}
 use Rattle.settings.specs.Settings.{get_code}
@@ -21,11 +21,11 @@ is_report model k [] = false
 is_report model k (c ∷ values) = eqb c (get_code k) && allowed_for model k values
 
 -- an ACK ends a set, a report a get
-unfoldable pub ended_by : Model → Found → List ℕ → Said
-ended_by model (Found.Set row) d = cond (is_control Control.Ack d) Said.Ack Said.Nothing
-ended_by model (Found.Get row) d = cond (is_report model row d) Said.Report Said.Nothing
-ended_by model Found.Nothing d = Said.Nothing
+unfoldable pub ended_by : Model → Found → List ℕ → Option Said
+ended_by model (Found.Set row) d = cond (is_control Control.Ack d) (Some Said.Ack) None
+ended_by model (Found.Get row) d = cond (is_report model row d) (Some Said.Report) None
+ended_by model Found.Nothing d = None
 
 -- what data says to a host that asked a panel of this model with this code
-unfoldable pub word_in : Model → ℕ → List ℕ → Said
-word_in model code d = cond (is_control Control.Nack d) Said.Nack (cond (is_control Control.Nav d) Said.Nav (ended_by model (found_by code) d))
+unfoldable pub word_in : Model → ℕ → List ℕ → Option Said
+word_in model code d = cond (is_control Control.Nack d) (Some Said.Nack) (cond (is_control Control.Nav d) (Some Said.Nav) (ended_by model (found_by code) d))

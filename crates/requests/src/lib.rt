@@ -27,13 +27,12 @@ pub struct Request {
 }
 
 // What data says to the host that waits.
-#[derive(Clone, Copy)]
+#[derive(Clone, Copy, Debug, PartialEq, Eq)]
 pub enum Said {
     Ack,
     Nack,
     Nav,
     Report,
-    Nothing,
 }
 
 // Whether the first count of these values may be set in a row; where a tiling leaves the wall open, in the kind's largest.
@@ -110,21 +109,12 @@ pub fn video_request(id: MonitorId, group: GroupId, video: Video) -> Request
 }
 
 // The code, and behind it the values.
-fn data_bytes(code: u8, v: [u8; MOST_VALUES]) -> [u8; MOST_VALUES + 1]
-    ensures { result ≡ code ∷ v }
+fn data_bytes(code: u8, values: [u8; MOST_VALUES]) -> [u8; MOST_VALUES + 1]
+    ensures { result ≡ code ∷ values }
 {
-    [code, v[0], v[1], v[2], v[3], v[4], v[5], v[6]]
-}
-
-// How many of a request's values count.
-fn in_use(count: usize) -> usize
-    ensures { result ≡ min count most_values }
-{
-    if count < MOST_VALUES {
-        count
-    } else {
-        MOST_VALUES
-    }
+    let mut data = [code; MOST_VALUES + 1];
+    data[1..].copy_from_slice(&values);
+    data
 }
 
 // The request's packet, on a line of an edition, at the front of out, of which the rest stays as it was.
@@ -138,7 +128,7 @@ pub fn write_request(
 {
     let values = request.values;
     let data = data_bytes(request.code, values);
-    let n = in_use(request.count) + 1;
+    let n = request.count.min(MOST_VALUES) + 1;
     packet::write_packet(edition, out, request.id, request.group, &data[..n])
 }
 
@@ -146,13 +136,8 @@ pub fn write_request(
 fn is_control(d: &[u8], word: Control) -> bool
     ensures { result ≡ is_control word d.now }
 {
-    if d.len() != 2 {
-        return false;
-    }
-    if d[0] != 0 {
-        return false;
-    }
-    d[1] == u8::from(word)
+    let data = [0, u8::from(word)];
+    d == data.as_slice()
 }
 
 // Whether the data is a report of this row: its get code, and behind it values that it allows.
@@ -160,37 +145,26 @@ fn is_report(model: Model, row: usize, d: &[u8]) -> bool
     requires { row < row_count }
     ensures { result ≡ is_report model row d.now }
 {
-    if d.len() == 0 {
+    let [code, values @ ..] = d else {
         return false;
-    }
-    if d[0] != settings::get_code(row) {
-        return false;
-    }
-    models::allowed(model, row, &d[1..])
+    };
+    *code == settings::get_code(row) && models::allowed(model, row, values)
 }
 
 // What the data of a burst from the panel that was asked says: an ACK to a set, a report to a get, NACK or NAV to either.
-pub fn word_in(model: Model, code: u8, d: &[u8]) -> Said
+pub fn word_in(model: Model, code: u8, d: &[u8]) -> Option<Said>
     ensures { result ≡ word_in model code d.now }
 {
     if is_control(d, Control::Nack) {
-        return Said::Nack;
+        return Some(Said::Nack);
     }
     if is_control(d, Control::Nav) {
-        return Said::Nav;
+        return Some(Said::Nav);
     }
     let found = codes::found_by(code);
     match found {
-        Found::Set(_) => if is_control(d, Control::Ack) {
-            Said::Ack
-        } else {
-            Said::Nothing
-        },
-        Found::Get(row) => if is_report(model, row, d) {
-            Said::Report
-        } else {
-            Said::Nothing
-        },
-        Found::Nothing => Said::Nothing,
+        Found::Set(_) if is_control(d, Control::Ack) => Some(Said::Ack),
+        Found::Get(row) if is_report(model, row, d) => Some(Said::Report),
+        _ => None,
     }
 }

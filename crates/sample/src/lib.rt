@@ -1,26 +1,27 @@
 // What the programs over the box share: the sample wall of panels 1 and 2, both in group 9, and bytes as they print them.
 #![tactic(auto)]
 
-ghost use Rattle.std.specs.Prelude.{◌≡◌};
+ghost use Rattle.std.specs.Prelude.{◌≡◌, Some};
 ghost use Rattle.panels.specs.Wall.{table_of};
 ghost use Rattle.panels.specs.WellFormed.{WellFormed};
 ghost use Rattle.answers.specs.Sample.{two_panels};
 ghost use Rattle.answers.specs.Reply.{sent_bytes};
 ghost use Rattle.answers.specs.Played.{played};
-ghost use Rattle.sample.specs.Shown.{shown_count, shown_over};
+ghost use Rattle.sample.specs.Shown.{shown_of};
 
 use answers::{Reply, Sent};
 use packet::{Edition, GroupId, LONGEST, MonitorId};
 use panels::Table;
+use std::fmt;
+use text::Hex;
 
 pub fn two_panels() -> Table
     ensures { (result ≡ table_of two_panels) × WellFormed result }
 {
-    let empty = panels::empty_table();
-    let one = table_calls::add(empty, MonitorId(1), GroupId(9), 0, 0);
-    let first = one.table;
-    let two = table_calls::add(first, MonitorId(2), GroupId(9), 0, 0);
-    two.table
+    let mut wall = panels::empty_table();
+    table_calls::add(&mut wall, MonitorId(1), GroupId(9), 0, 0).unwrap();
+    table_calls::add(&mut wall, MonitorId(2), GroupId(9), 0, 0).unwrap();
+    wall
 }
 
 // The reply of the sample wall, fresh, to a burst on a line of an edition.
@@ -40,30 +41,34 @@ pub fn reply_again(edition: Edition, burst: &[u8]) -> Reply
     second.reply
 }
 
-// Bytes in upper-case hex, or a dash where there are none, at the front of out; answers how many characters.
-pub fn shown(bytes: &[u8], out: &mut [u8]) -> usize
-    ensures value { result ≡ shown_count bytes.now out.old }
-    ensures out_after { out.new ≡ shown_over bytes.now out.old }
-{
-    if bytes.len() != 0 {
-        return text::hex(bytes, out);
+// Bytes that print in upper-case hex, or as a dash where there are none.
+#[derive(Clone, Copy)]
+pub struct Shown<'a>(pub &'a [u8]);
+
+impl fmt::Display for Shown<'_> {
+    ghost output = { λ shown. Some (shown_of shown.0.now) };
+
+    fn fmt<W: fmt::Write>(&self, f: &mut fmt::Formatter<W>) -> fmt::Result {
+        if self.0.is_empty() {
+            return f.write_str("-");
+        }
+        f.write(Hex(self.0))
     }
-    if out.len() == 0 {
-        return 0;
-    }
-    out[0] = b'-';
-    1
 }
 
-// The bytes that go out for a reply on a line of an edition, shown.
-pub fn shown_answer(edition: Edition, reply: Reply, out: &mut [u8]) -> usize
-    ensures value { result ≡ shown_count (sent_bytes edition reply) out.old }
-    ensures out_after { out.new ≡ shown_over (sent_bytes edition reply) out.old }
-{
-    let mut packet = [0u8; LONGEST];
-    let sent = answers::write_answer(edition, reply, &mut packet);
-    let Sent::Bytes(n) = sent else {
-        return 0;
-    };
-    shown(text::front(&packet, n), out)
+// A reply on a line of an edition, which prints as the bytes that go out for it.
+#[derive(Clone, Copy)]
+pub struct Answer(pub Edition, pub Reply);
+
+impl fmt::Display for Answer {
+    ghost output = { λ answer. Some (shown_of (sent_bytes answer.0 answer.1)) };
+
+    fn fmt<W: fmt::Write>(&self, f: &mut fmt::Formatter<W>) -> fmt::Result {
+        let mut packet = [0u8; LONGEST];
+        let sent = answers::write_answer(self.0, self.1, &mut packet);
+        let Sent::Bytes(n) = sent else {
+            unreachable!();
+        };
+        f.write(Shown(text::front(&packet, n)))
+    }
 }

@@ -47,10 +47,7 @@ fn answered_by(t: Table, front: &[u8], count: usize, sum: u8) -> Played
     requires { WellFormed t }
     ensures { result ≡ answered_on t (reading_by Edition.Sicp201 front.now count sum) }
 {
-    let verdict = packet::verdict_by(Edition::Sicp201, front, count, sum);
-    let d = packet::data_by(Edition::Sicp201, front, verdict);
-    let seems = packet::seems_for(Edition::Sicp201, front);
-    answers::answered_on(t, verdict, d, seems)
+    answers::answered_on(t, packet::read_by(Edition::Sicp201, front, count, sum))
 }
 
 impl SmallReceiver {

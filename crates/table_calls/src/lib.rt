@@ -1,20 +1,20 @@
 // The table calls: a panel added, a panel removed.
 #![tactic(auto)]
 
-ghost use Rattle.std.specs.Prelude.{◌≡◌, ◌<◌, length};
+ghost use Rattle.std.specs.Prelude.{◌≡◌, ◌<◌, length, Some};
 ghost use Rattle.panels.specs.Wall.{fresh_panel, table_of, panels_of};
 ghost use Rattle.panels.specs.WellFormed.{WellFormed};
-ghost use Rattle.table_calls.specs.Calls.{refusal_number, added_to, without, removed_from};
+ghost use Rattle.table_calls.specs.Calls.{refusal_number, unless, add_refusal, added, without, remove_refusal, removed};
+ghost use Rattle.table_calls.specs.declared.Refusal.{Refusal};
 
 use packet::{GroupId, MonitorId};
-use panels::{MOST_PANELS, Panel, Place, Table};
-use settings::{KIND_ROW, Profile};
-use tiling::Kind;
+use panels::{MOST_PANELS, Panel, Table};
+use settings::{KIND_ROW, Profile, UnknownProfile};
+use tiling::{Kind, UnknownKind};
 
-// What a table call refused, if anything.
-#[derive(Clone, Copy)]
+// Why a table call is refused.
+#[derive(Clone, Copy, Debug, PartialEq, Eq)]
 pub enum Refusal {
-    Nothing,
     Full,
     IdZero,
     IdTaken,
@@ -24,17 +24,37 @@ pub enum Refusal {
     UnknownKind,
 }
 
-#[derive(Clone, Copy)]
-pub struct Changed {
-    pub refusal: Refusal,
-    pub table: Table,
+// 01's number for a refusal.
+impl From<Refusal> for u8 {
+    ghost from_gives = { λ refusal n. n ≡ refusal_number refusal };
+
+    fn from(refusal: Refusal) -> u8 {
+        match refusal {
+            Refusal::Full => 1,
+            Refusal::IdZero => 2,
+            Refusal::IdTaken => 3,
+            Refusal::GroupZero => 4,
+            Refusal::UnknownProfile => 5,
+            Refusal::NoPanel => 6,
+            Refusal::UnknownKind => 7,
+        }
+    }
 }
 
-// A refusal, which leaves the table as it is.
-fn refused(t: Table, refusal: Refusal) -> Changed
-    ensures { result ≡ record { refusal = refusal; table = t } }
-{
-    Changed { refusal, table: t }
+impl From<UnknownProfile> for Refusal {
+    ghost from_gives = { λ _ refusal. refusal ≡ Refusal.UnknownProfile };
+
+    fn from(_: UnknownProfile) -> Refusal {
+        Refusal::UnknownProfile
+    }
+}
+
+impl From<UnknownKind> for Refusal {
+    ghost from_gives = { λ _ refusal. refusal ≡ Refusal.UnknownKind };
+
+    fn from(_: UnknownKind) -> Refusal {
+        Refusal::UnknownKind
+    }
 }
 
 fn fresh_panel(id: MonitorId, group: GroupId, profile: Profile, kind: Kind) -> Panel
@@ -51,87 +71,66 @@ fn fresh_panel(id: MonitorId, group: GroupId, profile: Profile, kind: Kind) -> P
     }
 }
 
-// A fresh panel at the end, with the profile that has the first of two numbers and the kind that has the second.
-pub fn add(t: Table, id: MonitorId, group: GroupId, number: u8, kind: u8) -> Changed
-    requires { WellFormed t }
-    ensures { result ≡ added_to (panels_of t) id group number kind }
+// A fresh panel at the end, with the profile that has the first of two numbers and the kind that has the second. A refusal leaves
+// the table as it is.
+pub fn add(
+    t: &mut Table,
+    id: MonitorId,
+    group: GroupId,
+    number: u8,
+    kind: u8,
+) -> Result<(), Refusal>
+    requires { WellFormed t.old }
+    ensures answer { result ≡ unless (add_refusal (panels_of t.old) id group number kind) tt }
+    ensures table { t.new ≡ table_of (added (panels_of t.old) id group number kind) }
 {
-    let n = panels::count_of(t);
+    let was = *t;
+    let n = panels::count_of(was);
     if MOST_PANELS <= n {
-        return refused(t, Refusal::Full);
+        return Err(Refusal::Full);
     }
     if id.0 == 0 {
-        return refused(t, Refusal::IdZero);
+        return Err(Refusal::IdZero);
     }
-    let place = panels::place_of(t, id);
-    if let Place::At(_) = place {
-        return refused(t, Refusal::IdTaken);
+    let place = panels::place_of(was, id);
+    if let Some(_) = place {
+        return Err(Refusal::IdTaken);
     }
     if group.0 == 0 {
-        return refused(t, Refusal::GroupZero);
+        return Err(Refusal::GroupZero);
     }
-    let numbered = Profile::try_from(number);
-    let Ok(profile) = numbered else {
-        return refused(t, Refusal::UnknownProfile);
-    };
-    let kinded = Kind::try_from(kind);
-    let Ok(kind) = kinded else {
-        return refused(t, Refusal::UnknownKind);
-    };
+    let profile = Profile::try_from(number)?;
+    let kind = Kind::try_from(kind)?;
     let p = fresh_panel(id, group, profile, kind);
-    let mut places = panels::panels_of(t);
+    let mut places = panels::panels_of(was);
     places[n] = p;
-    let table = panels::table_of(places, n + 1);
-    Changed {
-        refusal: Refusal::Nothing,
-        table,
-    }
-}
-
-// 01's number for a refusal, 0 where there was none.
-pub fn refusal_number(r: Refusal) -> u8
-    ensures { result ≡ refusal_number r }
-{
-    match r {
-        Refusal::Nothing => 0,
-        Refusal::Full => 1,
-        Refusal::IdZero => 2,
-        Refusal::IdTaken => 3,
-        Refusal::GroupZero => 4,
-        Refusal::UnknownProfile => 5,
-        Refusal::NoPanel => 6,
-        Refusal::UnknownKind => 7,
-    }
+    *t = panels::table_of(places, n + 1);
+    Ok(())
 }
 
 // The table without the panel at place k: later panels move up.
 fn closed_up(t: Table, k: usize) -> Table
     requires { WellFormed t × (k < length (panels_of t)) }
-    ensures { result ≡ table_of (without (Place.At k) (panels_of t)) }
+    ensures { result ≡ table_of (without (Some k) (panels_of t)) }
 {
     let mut places = panels::panels_of(t);
-    let last = panels::count_of(t) - 1;
-    let mut j = k;
-    while j < last {
-        let p = places[j + 1];
-        places[j] = p;
-        j += 1;
-    }
-    places[last] = panels::blank_panel();
-    panels::table_of(places, last)
+    let n = panels::count_of(t);
+    places.copy_within(k + 1..n, k);
+    places[n - 1] = panels::blank_panel();
+    panels::table_of(places, n - 1)
 }
 
-pub fn remove(t: Table, id: MonitorId) -> Changed
-    requires { WellFormed t }
-    ensures { result ≡ removed_from (panels_of t) id }
+// The panel with an ID goes. A refusal leaves the table as it is.
+pub fn remove(t: &mut Table, id: MonitorId) -> Result<(), Refusal>
+    requires { WellFormed t.old }
+    ensures answer { result ≡ unless (remove_refusal (panels_of t.old) id) tt }
+    ensures table { t.new ≡ table_of (removed (panels_of t.old) id) }
 {
-    let place = panels::place_of(t, id);
-    let Place::At(k) = place else {
-        return refused(t, Refusal::NoPanel);
+    let was = *t;
+    let place = panels::place_of(was, id);
+    let Some(k) = place else {
+        return Err(Refusal::NoPanel);
     };
-    let table = closed_up(t, k);
-    Changed {
-        refusal: Refusal::Nothing,
-        table,
-    }
+    *t = closed_up(was, k);
+    Ok(())
 }

@@ -1,58 +1,57 @@
 // What the programs read and print: steps of standard input, and bytes in upper-case hex.
 #![tactic(auto)]
 
-ghost use Rattle.std.specs.Prelude.{◌≡◌, ◌+◌, ◌≤◌, ◌<◌, IfOk, OnErr, length, take, drop};
+ghost use Rattle.std.specs.Prelude.{◌≡◌, ◌+◌, ◌≤◌, ◌<◌, ℕ, List, Some, IfOk, OnErr, length, take, drop};
 ghost use Rattle.std.specs.Io.KnownBytes.{Consumes, IsAtEnd};
+ghost use denote.Ref.{Bor};
 ghost use Rattle.text.specs.Counts.{IsPrefixLen};
-ghost use Rattle.text.specs.Hex.{hex_count, hex_over};
-ghost use Rattle.text.specs.Steps.{TakesFewer, StepIn, TakesStep, longest_step};
+ghost use Rattle.text.specs.Hex.{hex_of};
+ghost use Rattle.text.specs.Runs.{RunsTo};
+ghost use Rattle.text.specs.Steps.{TakesFewer, StepIn, TakesStep, longest_step, stop_word};
 
-use std::io;
+use std::{fmt, io};
 
 // A step's count is one byte.
 pub const LONGEST_STEP: usize = 255;
 
-// A step of the input, which stands at the front of the buffer; or the input stopped inside one; or it was at its end.
-#[derive(Clone, Copy)]
-pub enum Read {
-    Step(usize),
+// Where the input stopped: inside a step, or behind the last one.
+#[derive(Clone, Copy, Debug, PartialEq, Eq)]
+pub enum Stop {
     Cut,
     End,
 }
 
-// Puts two hex digits for each byte at the front of out and answers how many; where they do not all fit, none.
-pub fn hex(bytes: &[u8], out: &mut [u8]) -> usize
-    ensures prefix_len { IsPrefixLen result out.new }
-    ensures value { result ≡ hex_count bytes.now out.old }
-    ensures out_after { out.new ≡ hex_over bytes.now out.old }
-{
-    let n = bytes.len();
-    if out.len() / 2 < n {
-        return 0;
+impl fmt::Display for Stop {
+    ghost output = { λ stop. Some (stop_word stop) };
+
+    fn fmt<W: fmt::Write>(&self, f: &mut fmt::Formatter<W>) -> fmt::Result {
+        match self {
+            Stop::Cut => f.write_str("cut"),
+            Stop::End => f.write_str("end"),
+        }
     }
-    let mut i = 0;
-    while i < n {
-        let b = bytes[i];
-        out[2 * i] = hex_digits::high(b);
-        out[2 * i + 1] = hex_digits::low(b);
-        i += 1;
+}
+
+// Bytes that print as two hex digits each.
+#[derive(Clone, Copy)]
+pub struct Hex<'a>(pub &'a [u8]);
+
+impl fmt::Display for Hex<'_> {
+    ghost output = { λ hex. Some (hex_of hex.0.now) };
+
+    fn fmt<W: fmt::Write>(&self, f: &mut fmt::Formatter<W>) -> fmt::Result {
+        for &b in self.0 {
+            write!(f, "{b:02X}")?;
+        }
+        Ok(())
     }
-    2 * n
 }
 
 // The first n of some bytes, or all where there are fewer.
 pub fn front(bytes: &[u8], n: usize) -> &[u8]
     ensures { result.now ≡ take n bytes.now }
 {
-    if n < bytes.len() { &bytes[..n] } else { bytes }
-}
-
-// The number that a count byte stands for.
-fn count_of(b: u8) -> usize
-    ensures bound { result ≤ longest_step }
-    ensures value { result ≡ b }
-{
-    b as usize
+    bytes.get(..n).unwrap_or(bytes)
 }
 
 // Reads until the buffer is full or the input ends, and answers how many bytes were put at its front. What else a failed read
@@ -74,8 +73,9 @@ pub fn read_full<R: io::Read>(reader: &mut R, buf: &mut [u8]) -> io::Result<usiz
     Ok(done)
 }
 
-// Reads a count byte, and that many bytes into the front of buf. Where a read failed, bytes past the longest step are untouched.
-pub fn read_step<R: io::Read>(reader: &mut R, buf: &mut [u8]) -> io::Result<Read>
+// Reads a count byte, and that many bytes into the front of buf, and answers how many, or where the input stopped. Where a read
+// failed, bytes past the longest step are untouched.
+pub fn read_step<R: io::Read>(reader: &mut R, buf: &mut [u8]) -> io::Result<Result<usize, Stop>>
     requires { longest_step ≤ length buf.old }
     ensures ok { IfOk result (λ read. StepIn buf.old read buf.new) }
     ensures bytes { IfOk result (λ read. TakesStep (R.remaining reader.old) (R.remaining reader.new) read buf.new) }
@@ -84,11 +84,37 @@ pub fn read_step<R: io::Read>(reader: &mut R, buf: &mut [u8]) -> io::Result<Read
 {
     let mut one = [0u8; 1];
     if read_full(reader, &mut one)? == 0 {
-        return Ok(Read::End);
+        return Ok(Err(Stop::End));
     }
-    let size = count_of(one[0]);
+    let size = usize::from(one[0]);
     if read_full(reader, &mut buf[..size])? < size {
-        return Ok(Read::Cut);
+        return Ok(Err(Stop::Cut));
     }
-    Ok(Read::Step(size))
+    Ok(Ok(size))
+}
+
+// Calls step for each step of standard input, with what the one before it left, its number, from 1 on, and its bytes. Prints at the
+// end where the input stopped and how many steps came, and hands out what the last left. The loop counts its turns, since a proved
+// loop has to end and nothing says that the input does.
+pub fn each_step<S: Drop, F: Fn(S, u64, &[u8]) -> io::Result<S>>(
+    rt: &(impl Print + Input),
+    first: S,
+    step: F,
+) -> io::Result<S>
+    requires { (n : ℕ) (s : S) → RunsTo F.Fn step first n s → (bytes : Bor (List ℕ)) → length bytes.now ≤ longest_step → F.pre step s (n + 1) bytes }
+    ensures { IfOk result (λ last. (n : ℕ) × RunsTo F.Fn step first n last) }
+{
+    let mut state = first;
+    let mut reader = rt.reader();
+    for number in 0..u64::MAX {
+        let mut buffer = [0u8; LONGEST_STEP];
+        match read_step(&mut reader, &mut buffer)? {
+            Ok(n) => state = step(state, number + 1, front(&buffer, n))?,
+            Err(stop) => {
+                println!(rt; "{stop} {number}")?;
+                return Ok(state);
+            }
+        }
+    }
+    Ok(state)
 }

@@ -1,8 +1,7 @@
 -- The kinds of panel, by the walls that they can stand in. 02, A6: 5 by 5, or 15 wide by 10 high; numbers 0 and 1.
 use Rattle.std.specs.Prelude.{ℕ, ◌*◌, Bool, cond, ◌&&◌, eqb, Option, Some, None}
 use Rattle.tiling.specs.declared.Kind.{Kind}
-use Rattle.tiling.specs.declared.Coded.{Coded}
-use Rattle.tiling.specs.declared.Size.{Size}
+use Rattle.tiling.specs.declared.WallSize.{WallSize}
 use Rattle.tiling.specs.Walls.{byte_of, height_of, width_of, up_to}
 
 abbrev pub kind_number : Kind → ℕ
@@ -25,12 +24,12 @@ abbrev pub largest : Kind → ℕ
 largest kind = widest kind * highest kind
 
 -- the byte of a height and a width that the kind has
-unfoldable pub coded_as : Kind → ℕ → ℕ → Coded
-coded_as kind v h = cond (up_to (highest kind) v && up_to (widest kind) h) (Coded.Byte (byte_of (widest kind) v h)) Coded.NoWall
+unfoldable pub coded_as : Kind → ℕ → ℕ → Option ℕ
+coded_as kind v h = cond (up_to (highest kind) v && up_to (widest kind) h) (Some (byte_of (widest kind) v h)) None
 
 -- the height and the width that a byte says: exactly the bytes from 1 to the largest are walls
-unfoldable pub size_in : Kind → ℕ → Size
-size_in kind byte = cond (up_to (largest kind) byte) (Size.HighWide (height_of (widest kind) byte) (width_of (widest kind) byte)) Size.Nothing
+unfoldable pub size_in : Kind → ℕ → Option WallSize
+size_in kind byte = cond (up_to (largest kind) byte) (Some (record { height = height_of (widest kind) byte; width = width_of (widest kind) byte })) None
 
 -- a wall's positions run from 1 to H times V, from left to right and then down (002, 8.6.2, note 1)
 unfoldable pub in_wall : Kind → ℕ → ℕ → Bool

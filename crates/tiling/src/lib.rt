@@ -16,18 +16,11 @@ pub enum Kind {
 #[derive(Clone, Copy, Debug, PartialEq, Eq)]
 pub struct UnknownKind;
 
-// The byte of a height and a width, if the kind has such a wall.
-#[derive(Clone, Copy)]
-pub enum Coded {
-    Byte(u8),
-    NoWall,
-}
-
-// The height and the width that a byte says, if it is a wall's.
-#[derive(Clone, Copy)]
-pub enum Size {
-    HighWide(u8, u8),
-    Nothing,
+// A wall's height and width, in panels.
+#[derive(Clone, Copy, Debug, PartialEq, Eq)]
+pub struct WallSize {
+    pub height: u8,
+    pub width: u8,
 }
 
 // A kind's number.
@@ -95,30 +88,33 @@ fn up_to(last: u8, n: u8) -> bool
     1 <= n && n <= last
 }
 
-// The byte of a wall of this height and width.
-pub fn coded_as(kind: Kind, height: u8, width: u8) -> Coded
+// The byte of a wall of this height and width, if the kind has such a wall.
+pub fn coded_as(kind: Kind, height: u8, width: u8) -> Option<u8>
     ensures { result ≡ coded_as kind height width }
 {
     let w = widest(kind);
     if !up_to(highest(kind), height) {
-        return Coded::NoWall;
+        return None;
     }
     if !up_to(w, width) {
-        return Coded::NoWall;
+        return None;
     }
-    Coded::Byte((height - 1) * w + width)
+    Some((height - 1) * w + width)
 }
 
-// The height and the width that a byte says.
-pub fn size_in(kind: Kind, byte: u8) -> Size
+// The height and the width that a byte says, if it is a wall's.
+pub fn size_in(kind: Kind, byte: u8) -> Option<WallSize>
     ensures { result ≡ size_in kind byte }
 {
     let w = widest(kind);
     if !up_to(largest(kind), byte) {
-        return Size::Nothing;
+        return None;
     }
     let before = byte - 1;
-    Size::HighWide(before / w + 1, before % w + 1)
+    Some(WallSize {
+        height: before / w + 1,
+        width: before % w + 1,
+    })
 }
 
 // Whether a position is one of the wall that a byte says.
@@ -126,8 +122,8 @@ pub fn in_wall(kind: Kind, position: u8, byte: u8) -> bool
     ensures { result ≡ in_wall kind position byte }
 {
     let size = size_in(kind, byte);
-    let Size::HighWide(height, width) = size else {
+    let Some(wall) = size else {
         return false;
     };
-    up_to(height * width, position)
+    up_to(wall.height * wall.width, position)
 }

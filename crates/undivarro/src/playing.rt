@@ -39,13 +39,11 @@ pub(crate) fn played(
     ensures answer_after { answer.new ≡ (after_burst edition (panels_of t) burst.now answer.old out.old).answer }
     ensures out_after { out.new ≡ (after_burst edition (panels_of t) burst.now answer.old out.old).out }
 {
-    let verdict = packet::verdict_of(edition, burst);
-    let d = packet::data_of(edition, burst, verdict);
-    let seems = packet::seems_for(edition, burst);
-    let heard = answers::hear(edition, &t, verdict, d, seems, answer);
+    let reading = packet::read(edition, burst);
+    let heard = answers::hear(edition, &t, reading, answer);
     if let Some(change) = heard.change {
-        answers::store(&mut t, change, d);
+        answers::store(&mut t, change, reading.data);
     }
     let written = parts::put_setup(Form::Two, t, out);
-    given(heard.sent, written, verdict)
+    given(heard.sent, written, reading.verdict)
 }

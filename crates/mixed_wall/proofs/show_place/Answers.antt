@@ -17,8 +17,8 @@ overflow_add-first g c = omega (arith, at c.place_of-first.result c.place_of-fir
 pub bounds-values-first : goal.bounds-values-first
 bounds-values-first g c = omega (arith, at c.place_of-first.result c.place_of-first.ensures)
 
-pub overflow_add-first-in-HighWide : goal.overflow_add-first-in-HighWide
-overflow_add-first-in-HighWide g c = omega (arith, at c.place_of-first.result c.place_of-first.ensures)
+pub overflow_add-first-in-Some : goal.overflow_add-first-in-Some
+overflow_add-first-in-Some g c = omega (arith, at c.place_of-first.result c.place_of-first.ensures)
 
-pub bounds-values-first-in-HighWide : goal.bounds-values-first-in-HighWide
-bounds-values-first-in-HighWide g c = omega (arith, at c.place_of-first.result c.place_of-first.ensures)
+pub bounds-values-first-in-Some : goal.bounds-values-first-in-Some
+bounds-values-first-in-Some g c = omega (arith, at c.place_of-first.result c.place_of-first.ensures)

@@ -28,4 +28,4 @@ returns-in_default c = rw c.in_default.is
 pub returns : goal.returns
 unfolding video_of seven
 returns c =
-    rw (c.video_in-video.ensures, c.in-Phoenix.is, same-video c.args.p.values)
+    rw (c.video_in.ensures, c.in-Phoenix.is, same-video c.args.p.values)

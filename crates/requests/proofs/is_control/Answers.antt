@@ -1,15 +1,13 @@
-use mathlib.Core.Path.{sym, ◌∙◌}
-use borrow.Author.Tests.{eq-eqb, ne_eqb}
-use Rattle.requests.proofs.Words.{control_other, control_two}
+use mathlib.Core.Path.{ap, ◌∙◌}
+use mathlib.Core.List.{[], ◌∷◌}
+use Prim.Native.Nat.{ℕ}
+use Rattle.lists.specs.Lists.{same}
+use Rattle.lists.proofs.Same.{eq_same}
+use Rattle.requests.specs.Said.{is_control}
 use Rattle.requests.proofs.is_control.Goals as goal
 
-pub returns-then-d-ne2 : goal.returns-then-d-ne2
-returns-then-d-ne2 c = sym (control_other _ _ c.if-d-ne2.true)
-
-pub returns-then-d-ne0 : goal.returns-then-d-ne0
-returns-then-d-ne0 c = sym (control_two _ _ c.if-d-ne2.false ∙ simp (ne_eqb _ _ c.if-d-ne0.true))
-
 pub returns : goal.returns
+unfolding is_control
 returns c =
-    let a = c.args in
-    sym (control_two a.word a.d.now c.if-d-ne2.false ∙ rw (eq-eqb _ _ c.if-d-ne0.false, c.from.ensures))
+    let d = c.args.d.now in
+    c.eq.ensures ∙ eq_same d _ ∙ ap (same d) (c.as_slice.ensures ∙ ap (λ (b : ℕ). 0 ∷ b ∷ []) c.from.ensures)

@@ -1,7 +1,7 @@
 use mathlib.Core.Path.{◌≡◌, refl, sym, ap, ◌∙◌}
 use mathlib.Core.Bool.{false}
 use mathlib.Core.List.{List, [], ◌∷◌}
-use Prim.Native.Nat.{ℕ}
+use Prim.Native.Nat.{ℕ, ◌<◌}
 use native.Mathlib.Omega.{arith}
 use borrow.Author.Tests.{eq-eqb, ne_eqb}
 use lib.ListN.{length}
@@ -13,21 +13,22 @@ use Rattle.lists.proofs.Places.{rest}
 use Rattle.requests.proofs.is_report.Goals as goal
 
 -- A report has its row's get code, and behind it values that the row allows. Assumes nothing.
-none : (model : Model) (k : ℕ) (d : List ℕ) → length d ≡ 0 → false ≡ is_report model k d
+none : (model : Model) (k : ℕ) (d : List ℕ) → length d < 1 → false ≡ is_report model k d
 unfolding is_report
 none model k [] e = refl
 none model k (x ∷ d) e = absurd (omega arith)
 
-pub returns-then-d-eq0 : goal.returns-then-d-eq0
-returns-then-d-eq0 c = none _ _ _ c.if-d-eq0.true
+pub returns-in_default : goal.returns-in_default
+returns-in_default c = none _ _ _ c.in_default.len_below
 
-pub returns-then-d-get_code : goal.returns-then-d-get_code
-returns-then-d-get_code c =
+pub returns-then-code-get_code : goal.returns-then-code-get_code
+returns-then-code-get_code c =
     let a = c.args in
-    sym (report_some a.model a.row a.d.now (omega arith) ∙ simp (ne_eqb _ _ (λ e. c.if-d-get_code.true (e ∙ sym c.get_code.ensures))))
-
-pub returns : goal.returns
-returns c =
-    let a = c.args in
-    let code = eq-eqb _ _ (c.if-d-get_code.false ∙ c.get_code.ensures) in
+    let code = eq-eqb _ _ (c.if-code-get_code.true ∙ c.get_code.ensures) in
     c.allowed.ensures ∙ ap (allowed_for a.model a.row) (rest a.d.now) ∙ sym (report_some a.model a.row a.d.now (omega arith) ∙ rw code)
+
+pub returns-else-code-get_code : goal.returns-else-code-get_code
+returns-else-code-get_code c =
+    let a = c.args in
+    ne_eqb _ _ c.if-code-get_code.false
+    ∙ sym (report_some a.model a.row a.d.now (omega arith) ∙ simp (ne_eqb _ _ (λ e. c.if-code-get_code.false (e ∙ sym c.get_code.ensures))))

@@ -1,47 +1,63 @@
 use mathlib.Core.Path.{◌≡◌, sym, subst, ◌∙◌}
+use mathlib.Core.Bool.{Bool, false}
+use mathlib.Core.List.{List}
+use Prim.Native.Nat.{ℕ}
+use Rattle.models.specs.declared.Model.{Model}
 use Rattle.codes.specs.declared.Found.{Found}
+use Rattle.codes.specs.Found.{found_by}
 use Rattle.codes.proofs.Laws.{IsFound, found_right}
-use Rattle.requests.specs.Said.{ended_by, word_in}
+use Rattle.packet.specs.declared.Control.{Control}
+use Rattle.requests.specs.Said.{is_control, ended_by, word_in}
 use Rattle.requests.proofs.Words.{word_found}
 use Rattle.requests.proofs.word_in.Goals as goal
 
+-- Neither NACK nor NAV, so that the code tells. Assumes nothing.
+by_code : (model : Model) (code : ℕ) (d : List ℕ) {nack nav : Bool} {found f : Found} → nack ≡ is_control Control.Nack d → nack ≡ false → nav ≡ is_control Control.Nav d → nav ≡ false
+    → found ≡ found_by code → found ≡ f → ended_by model f d ≡ word_in model code d
+by_code model code d en n ev v ef is = sym (word_found model code d _ (sym en ∙ n) (sym ev ∙ v) (sym ef ∙ is))
+
 pub returns-then-is_control : goal.returns-then-is_control
 unfolding word_in
-returns-then-is_control c = simp (sym c.is_control.ensures ∙ c.if-is_control.true)
+returns-then-is_control c = simp (sym c.if-is_control.ensures)
 
 pub returns-then-is_control-2 : goal.returns-then-is_control-2
 unfolding word_in
-returns-then-is_control-2 c = simp (sym c.is_control.ensures ∙ c.if-is_control.false, sym c.is_control-2.ensures ∙ c.if-is_control-2.true)
+returns-then-is_control-2 c = simp (sym c.if-is_control.ensures, sym c.if-is_control-2.ensures)
 
 pub is_report-requires : goal.is_report-requires
 is_report-requires c = (subst (IsFound _) (sym c.found_by-found.ensures ∙ c.in-Get.is) (found_right _)).0
 
-pub returns-then-is_control-3 : goal.returns-then-is_control-3
+pub returns-in-Set : goal.returns-in-Set
 unfolding ended_by
-returns-then-is_control-3 c =
-    let past : (f : Found) → c.found_by-found.result ≡ f → let a = c.args in word_in a.model a.code a.d.now ≡ ended_by a.model f a.d.now = λ f e. word_found _ _ _ f (sym c.is_control.ensures ∙ c.if-is_control.false) (sym c.is_control-2.ensures ∙ c.if-is_control-2.false) (sym c.found_by-found.ensures ∙ e) in
-    sym (past _ c.in-Set.is ∙ simp (sym c.is_control-in-Set.ensures ∙ c.if-is_control-3.true))
+returns-in-Set c =
+    let a = c.args in
+    let code = by_code a.model a.code a.d.now c.is_control.ensures c.if-is_control.false c.is_control-2.ensures c.if-is_control-2.false c.found_by-found.ensures c.in-Set.is in
+    rw (← code, sym c.if-is_control-3.ensures)
 
-pub returns-else-is_control-3 : goal.returns-else-is_control-3
+pub returns-in_default : goal.returns-in_default
 unfolding ended_by
-returns-else-is_control-3 c =
-    let past : (f : Found) → c.found_by-found.result ≡ f → let a = c.args in word_in a.model a.code a.d.now ≡ ended_by a.model f a.d.now = λ f e. word_found _ _ _ f (sym c.is_control.ensures ∙ c.if-is_control.false) (sym c.is_control-2.ensures ∙ c.if-is_control-2.false) (sym c.found_by-found.ensures ∙ e) in
-    sym (past _ c.in-Set.is ∙ simp (sym c.is_control-in-Set.ensures ∙ c.if-is_control-3.false))
+returns-in_default c =
+    let a = c.args in
+    let code = by_code a.model a.code a.d.now c.is_control.ensures c.if-is_control.false c.is_control-2.ensures c.if-is_control-2.false c.found_by-found.ensures c.in-Set.is in
+    rw (← code, sym c.if-is_control-3.ensures)
 
-pub returns-then-is_report : goal.returns-then-is_report
+pub returns-in-Get : goal.returns-in-Get
 unfolding ended_by
-returns-then-is_report c =
-    let past : (f : Found) → c.found_by-found.result ≡ f → let a = c.args in word_in a.model a.code a.d.now ≡ ended_by a.model f a.d.now = λ f e. word_found _ _ _ f (sym c.is_control.ensures ∙ c.if-is_control.false) (sym c.is_control-2.ensures ∙ c.if-is_control-2.false) (sym c.found_by-found.ensures ∙ e) in
-    sym (past _ c.in-Get.is ∙ simp (sym c.is_report.ensures ∙ c.if-is_report.true))
+returns-in-Get c =
+    let a = c.args in
+    let code = by_code a.model a.code a.d.now c.is_control.ensures c.if-is_control.false c.is_control-2.ensures c.if-is_control-2.false c.found_by-found.ensures c.in-Get.is in
+    rw (← code, sym c.if-is_report.ensures)
 
-pub returns-else-is_report : goal.returns-else-is_report
+pub returns-in_default-2 : goal.returns-in_default-2
 unfolding ended_by
-returns-else-is_report c =
-    let past : (f : Found) → c.found_by-found.result ≡ f → let a = c.args in word_in a.model a.code a.d.now ≡ ended_by a.model f a.d.now = λ f e. word_found _ _ _ f (sym c.is_control.ensures ∙ c.if-is_control.false) (sym c.is_control-2.ensures ∙ c.if-is_control-2.false) (sym c.found_by-found.ensures ∙ e) in
-    sym (past _ c.in-Get.is ∙ simp (sym c.is_report.ensures ∙ c.if-is_report.false))
+returns-in_default-2 c =
+    let a = c.args in
+    let code = by_code a.model a.code a.d.now c.is_control.ensures c.if-is_control.false c.is_control-2.ensures c.if-is_control-2.false c.found_by-found.ensures c.in-Get.is in
+    rw (← code, sym c.if-is_report.ensures)
 
-pub returns-in-Nothing : goal.returns-in-Nothing
+pub returns-in_default-3 : goal.returns-in_default-3
 unfolding ended_by
-returns-in-Nothing c =
-    let past : (f : Found) → c.found_by-found.result ≡ f → let a = c.args in word_in a.model a.code a.d.now ≡ ended_by a.model f a.d.now = λ f e. word_found _ _ _ f (sym c.is_control.ensures ∙ c.if-is_control.false) (sym c.is_control-2.ensures ∙ c.if-is_control-2.false) (sym c.found_by-found.ensures ∙ e) in
-    sym (past _ c.in-Nothing.is)
+returns-in_default-3 c =
+    let a = c.args in
+    let code = by_code a.model a.code a.d.now c.is_control.ensures c.if-is_control.false c.is_control-2.ensures c.if-is_control-2.false c.found_by-found.ensures c.in_default.is in
+    rw (← code)

@@ -1,10 +1,10 @@
 -- What was read stands at the front of the buffer, behind which it is as it was.
-use Rattle.std.proofs.Common.{◌≡◌, ℕ, ◌+◌, ◌-◌, ◌≤◌, ◌<◌, Option, get_or, List, [], ◌∷◌, ◌++◌, arith, refl, length, take, drop, sym, ap, ◌∙◌, subst, length-append, length-take, length-take-le}
+use Rattle.std.proofs.Common.{◌≡◌, ℕ, ◌+◌, ◌-◌, ◌≤◌, ◌<◌, Option, get_or, Ok, Err, List, [], ◌∷◌, ◌++◌, arith, refl, length, take, drop, sym, ap, ◌∙◌, subst, length-append, length-take, length-take-le}
 use lib.Seq.{take-append-le, take-append_seam, drop-append_seam, drop-drop}
 use Rattle.std.specs.Io.KnownBytes.{Consumes}
 use Rattle.std.proofs.KnownBytes.{Consumes-trans}
 use Rattle.bursts.proofs.Bursts.{one-burst, cut-burst}
-use Rattle.text.specs.declared.Read.{Read}
+use Rattle.text.specs.declared.Stop.{Stop}
 use Rattle.text.specs.Steps.{StepIn, longest_step}
 use Rattle.text.proofs.Failed.{on_err, behind_one}
 use Rattle.text.proofs.read_step.Goals as goal
@@ -14,13 +14,13 @@ module _ (n : ℕ) (a before : List ℕ) (e : length a ≡ n) where
   left : drop n (a ++ drop n before) ≡ drop n before
   left = rw (← e) (drop-append_seam a _)
 
-  stepped : n ≤ length before → StepIn before (Read.Step n) (a ++ drop n before)
+  stepped : n ≤ length before → StepIn before (Ok n) (a ++ drop n before)
   stepped h =
       let front : take n (a ++ drop n before) ≡ a = rw (← e) (take-append_seam a _) in
       let fits : n ≤ length (a ++ drop n before) = simp length-append (omega arith) in
       ((fits, sym (length-take-le n _ fits)), left, rw (front, ← e) (one-burst a))
 
-  cut : (r : ℕ) → r < n → n ≤ longest_step → StepIn before Read.Cut (a ++ drop n before)
+  cut : (r : ℕ) → r < n → n ≤ longest_step → StepIn before (Err Stop.Cut) (a ++ drop n before)
   cut r fewer most = (n, r, fewer, most, left, cut-burst n _ (rw length-take (omega arith)))
 
   past : (m : ℕ) → n ≤ m → drop m (a ++ drop n before) ≡ drop m before
@@ -42,14 +42,14 @@ taken old mid new b r n one a rest e p q h same =
 
 pub returns-in_err-read_full-2-clause-err : goal.returns-in_err-read_full-2-clause-err
 returns-in_err-read_full-2-clause-err g c =
-    let n = c.count_of-size.result in
+    let n = c.from-size.result in
     let buf = c.args.buf.now in
     let fits : n ≤ length buf = omega arith in
     on_err _ _ (past n c.read_full-2.new.buf buf (omega (arith, length-take-le n buf fits)) longest_step (omega arith))
 
 pub returns-in_err-read_full-2-clause-taken : goal.returns-in_err-read_full-2-clause-taken
 returns-in_err-read_full-2-clause-taken g c =
-    let n = c.count_of-size.result in
+    let n = c.from-size.result in
     let buf = c.args.buf.now in
     let fits : n ≤ length buf = omega arith in
     let len : length c.read_full-2.new.buf ≡ n = omega (arith, length-take-le n buf fits) in
@@ -59,20 +59,20 @@ returns-in_err-read_full-2-clause-taken g c =
 
 pub returns-then-branch-size-clause-ok : goal.returns-then-branch-size-clause-ok
 returns-then-branch-size-clause-ok g c =
-    let n = c.count_of-size.result in
+    let n = c.from-size.result in
     let buf = c.args.buf.now in
     let fits : n ≤ length buf = omega arith in
     cut n c.read_full-2.new.buf buf (omega (arith, length-take-le n buf fits)) c.in_ok-read_full-2.field-0 (omega arith) (omega arith)
 
 pub returns-then-branch-size-clause-bytes : goal.returns-then-branch-size-clause-bytes
 returns-then-branch-size-clause-bytes g c =
-    let n = c.count_of-size.result in
+    let n = c.from-size.result in
     let r = c.in_ok-read_full-2.field-0 in
     let buf = c.args.buf.now in
     let a = c.read_full-2.new.buf in
     let fits : n ≤ length buf = omega arith in
     let len : length a ≡ n = omega (arith, length-take-le n buf fits) in
-    let first = one_taken c.read_full.new.buf c.in_ok-read_full.field-0 n (omega arith) (omega (arith, c.in_ok-read_full.ensures.prefix_len.0)) c.count_of-size.ensures.value in (
+    let first = one_taken c.read_full.new.buf c.in_ok-read_full.field-0 n (omega arith) (omega (arith, c.in_ok-read_full.ensures.prefix_len.0)) c.from-size.ensures in (
       n,
       r,
       omega arith,
@@ -82,19 +82,19 @@ returns-then-branch-size-clause-bytes g c =
 
 pub returns-clause-ok : goal.returns-clause-ok
 returns-clause-ok g c =
-    let n = c.count_of-size.result in
+    let n = c.from-size.result in
     let buf = c.args.buf.now in
     let fits : n ≤ length buf = omega arith in
     stepped n c.read_full-2.new.buf buf (omega (arith, length-take-le n buf fits)) fits
 
 pub returns-clause-bytes : goal.returns-clause-bytes
 returns-clause-bytes g c =
-    let n = c.count_of-size.result in
+    let n = c.from-size.result in
     let r = c.in_ok-read_full-2.field-0 in
     let buf = c.args.buf.now in
     let a = c.read_full-2.new.buf in
     let fits : n ≤ length buf = omega arith in
     let len : length a ≡ n = omega (arith, length-take-le n buf fits) in
     let all : r ≡ n = omega (arith, c.in_ok-read_full-2.ensures.prefix_len.0) in
-    let first = one_taken c.read_full.new.buf c.in_ok-read_full.field-0 n (omega arith) (omega (arith, c.in_ok-read_full.ensures.prefix_len.0)) c.count_of-size.ensures.value in
+    let first = one_taken c.read_full.new.buf c.in_ok-read_full.field-0 n (omega arith) (omega (arith, c.in_ok-read_full.ensures.prefix_len.0)) c.from-size.ensures in
     taken _ _ _ n r n _ a _ first c.in_ok-read_full.ensures.bytes c.in_ok-read_full-2.ensures.bytes c.in_ok-read_full-2.ensures.prefix_len.0 all

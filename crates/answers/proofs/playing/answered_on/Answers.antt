@@ -1,4 +1,5 @@
-use Rattle.std.proofs.Common.{◌≡◌, Option, sym, ap, ap₂, ◌∙◌}
+use Rattle.std.specs.Prelude.{Option}
+use Rattle.std.proofs.Common.{◌≡◌, sym, ap, ap₂, ◌∙◌}
 use Rattle.packet.specs.declared.Damage.{Damage}
 use Rattle.panels.specs.declared.Table.{Table}
 use Rattle.panels.specs.Wall.{panels_of, table_of}
@@ -18,19 +19,19 @@ pub store-requires : goal.store-requires
 store-requires c =
     let a = c.args in
     let f = c.requires in
-    let turn = turn_is f a.verdict a.d.now a.seems c.names_in.ensures c.entry_of-entry.ensures c.turn_of-turn.ensures in
-    (f, change_fits f a.d.now _ (sym (ap (λ (t : Turn). t.change) turn) ∙ c.in-Some.is) (leaves f a.verdict a.d.now a.seems))
+    let turn = turn_is f a.reading.verdict a.reading.data.now a.reading.seems c.names_in.ensures c.entry_of-entry.ensures c.turn_of-turn.ensures in
+    (f, change_fits f a.reading.data.now _ (sym (ap (λ (t : Turn). t.change) turn) ∙ c.in-Some.is) (leaves f a.reading.verdict a.reading.data.now a.reading.seems))
 
 pub returns : goal.returns
 returns c =
     let a = c.args in
     let f = c.requires in
-    let turn = turn_is f a.verdict a.d.now a.seems c.names_in.ensures c.entry_of-entry.ensures c.turn_of-turn.ensures in
+    let turn = turn_is f a.reading.verdict a.reading.data.now a.reading.seems c.names_in.ensures c.entry_of-entry.ensures c.turn_of-turn.ensures in
     let change = sym (ap (λ (t : Turn). t.change) turn) in
-    let all = leaves f a.verdict a.d.now a.seems in
-    let table : c.match-turn.t ≡ table_of (answered_by a.verdict (panels_of a.t) a.d.now a.seems).wall =
+    let all = leaves f a.reading.verdict a.reading.data.now a.reading.seems in
+    let table : c.match-turn.t ≡ table_of (answered_by a.reading.verdict (panels_of a.t) a.reading.data.now a.reading.seems).wall =
     elim c.match-turn.branch [
-      | in-Some w ↦ w.t-is ∙ table_changed f a.d.now _ (change ∙ w.in-Some.is) all w.store.ensures
-      | in_default w ↦ w.t-is ∙ table_stays f a.d.now _ (change ∙ w.in_default.is) all
+      | in-Some w ↦ w.t-is ∙ table_changed f a.reading.data.now _ (change ∙ w.in-Some.is) all w.store.ensures
+      | in_default w ↦ w.t-is ∙ table_stays f a.reading.data.now _ (change ∙ w.in_default.is) all
     ] in
-    ap₂ (damaged c.match-turn.t) (ap (λ (t : Turn). t.reply) turn) c.damage_in.ensures ∙ left_is f a.verdict a.d.now a.seems table
+    ap₂ (damaged c.match-turn.t) (ap (λ (t : Turn). t.reply) turn) c.damage_in.ensures ∙ left_is f a.reading.verdict a.reading.data.now a.reading.seems table

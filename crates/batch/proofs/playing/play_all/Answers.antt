@@ -1,4 +1,6 @@
 -- A burst that is left is played on the table as it is, and its answer put behind what was written. Assumes nothing.
+use Rattle.std.specs.Prelude.{Option}
+use Rattle.packet.specs.declared.MonitorId.{MonitorId}
 use Rattle.std.proofs.Common.{◌≡◌, ◌∷◌, ◌+◌, ◌-◌, ◌*◌, ◌≤◌, List, ℕ, length, set, Option, refl, sym, ap, ap₂, subst, ◌∙◌, arith}
 use mathlib.Core.List.{[]}
 use borrow.Rule.Slice.PartMut.{put_mid}
@@ -6,15 +8,14 @@ use Rattle.lists.specs.Lists.{laid_at, laid_over}
 use Rattle.lists.proofs.Laid.{length_laid}
 use Rattle.bursts.specs.Left.{bursts_left}
 use Rattle.bursts.specs.declared.BurstList.{BurstList}
-use Rattle.packet.specs.declared.MonitorId.{MonitorId}
 use Rattle.packet.specs.declared.Edition.{Edition}
 use Rattle.packet.specs.declared.Verdict.{Verdict}
 use Rattle.packet.specs.Packet.{longest, damage_in}
 use Rattle.packet.specs.Reading.{reading_of}
-use Rattle.packet.proofs.Readings.{same_reading}
 use Rattle.panels.specs.declared.Table.{Table}
 use Rattle.panels.specs.Wall.{Wall, panels_of, table_of}
 use Rattle.panels.specs.WellFormed.{WellFormed}
+use Rattle.answers.specs.declared.Change.{Change}
 use Rattle.answers.specs.declared.Heard.{Heard}
 use Rattle.answers.specs.declared.Played.{Played}
 use Rattle.answers.specs.Reply.{sent_bytes}
@@ -75,10 +76,10 @@ loop-burst-init c =
     }
 
 -- the burst that comes next, and the table that it leaves
-heard_so : (c : After-hear-heard) → Leaves c.hear-heard.result.change c.data_of-d.result.now (panels_of c.loop-burst.t) (after c.loop-burst.invariant.formed c.args.edition c.verdict_of-verdict.result c.data_of-d.result.now c.seems_for-seems.result c.hear-heard.ensures.value.0)
-heard_so c = heard_leaves c.loop-burst.invariant.formed c.args.edition c.verdict_of-verdict.result c.data_of-d.result.now c.seems_for-seems.result c.hear-heard.ensures.value.0
+heard_so : (c : After-hear-heard) → Leaves c.hear-heard.result.change c.read-reading.result.data.now (panels_of c.loop-burst.t) (after c.loop-burst.invariant.formed c.args.edition c.read-reading.result.verdict c.read-reading.result.data.now c.read-reading.result.seems c.hear-heard.ensures.value.0)
+heard_so c = heard_leaves c.loop-burst.invariant.formed c.args.edition c.read-reading.result.verdict c.read-reading.result.data.now c.read-reading.result.seems c.hear-heard.ensures.value.0
 
-goes_on : (c : After-hear-heard) {u : Table} → u ≡ table_of (after c.loop-burst.invariant.formed c.args.edition c.verdict_of-verdict.result c.data_of-d.result.now c.seems_for-seems.result c.hear-heard.ensures.value.0)
+goes_on : (c : After-hear-heard) {u : Table} → u ≡ table_of (after c.loop-burst.invariant.formed c.args.edition c.read-reading.result.verdict c.read-reading.result.data.now c.read-reading.result.seems c.hear-heard.ensures.value.0)
     → let l = set (put_mid (c.loop-burst.written + 1) (length c.loop-burst.out - (c.loop-burst.written + 1)) c.loop-burst.out c.hear-heard.new.out) c.loop-burst.written c.hear-heard.result.sent in
     let w = c.loop-burst.written + 1 + c.hear-heard.result.sent in
     let rest = bursts_left c.next.new.self in
@@ -93,7 +94,7 @@ goes_on c is =
     let steps = c.in-Some.ensures.steps in
     let burst = c.in-Some.burst.now in
     let rest = bursts_left c.next.new.self in
-    let is_read = same_reading c.verdict_of-verdict.ensures c.data_of-d.ensures c.seems_for-seems.ensures in
+    let is_read = c.read-reading.ensures in
     let playing = subst (λ (rest : List (List ℕ)). Playing c.args.edition (panels_of c.args.t.now) (bursts_left c.args.list) c.args.out.now (panels_of c.loop-burst.t) rest c.loop-burst.written c.loop-burst.out) steps i.playing in
     let many = ap {B = ℕ} length steps in
     let room : c.loop-burst.written + room_for_one * length (burst ∷ rest) ≤ length c.args.out.now = omega (arith, i.room) in
@@ -110,17 +111,17 @@ goes_on c is =
 pub store-requires : goal.store-requires
 store-requires c =
     let f = c.loop-burst.invariant.formed in
-    (f, change_fits f c.data_of-d.result.now _ c.in-Some-change.is (heard_so (goal.at.store-requires c).After-hear-heard))
+    (f, change_fits f c.read-reading.result.data.now _ c.in-Some-change.is (heard_so (goal.at.store-requires c).After-hear-heard))
 
 pub loop-burst-preserved-in-Some-change : goal.loop-burst-preserved-in-Some-change
 loop-burst-preserved-in-Some-change c =
     let h = (goal.at.loop-burst-preserved-in-Some-change c).After-hear-heard in
-    goes_on h (table_changed c.loop-burst.invariant.formed c.data_of-d.result.now _ c.in-Some-change.is (heard_so h) c.store.ensures)
+    goes_on h (table_changed c.loop-burst.invariant.formed c.read-reading.result.data.now _ c.in-Some-change.is (heard_so h) c.store.ensures)
 
 pub loop-burst-preserved : goal.loop-burst-preserved
 loop-burst-preserved c =
     let h = (goal.at.loop-burst-preserved c).After-hear-heard in
-    goes_on h (table_stays c.loop-burst.invariant.formed c.data_of-d.result.now _ c.in_default.is (heard_so h))
+    goes_on h (table_stays c.loop-burst.invariant.formed c.read-reading.result.data.now _ c.in_default.is (heard_so h))
 
 -- no burst is left
 module _ {edition : Edition} {before : Wall} {all rest : List (List ℕ)} {lent out : List ℕ} {t : Table} {w : ℕ} (f : WellFormed t) (none : rest ≡ []) (playing : Playing edition before all lent (panels_of t) rest w out) where

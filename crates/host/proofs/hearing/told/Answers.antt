@@ -1,8 +1,10 @@
-use mathlib.Core.Path.{◌≡◌, refl, sym, ◌∙◌}
+use mathlib.Core.Path.{◌≡◌, refl, sym, ap, ◌∙◌}
+use mathlib.Core.List.{List}
 use native.Mathlib.Omega.{arith}
-use Prim.Native.Nat.{◌+◌, ◌≤◌}
-use lib.ListN.{length, length-drop}
-use Rattle.settings.specs.Settings.{most_values}
+use Prim.Native.Nat.{ℕ}
+use lib.ListN.{length-drop}
+use Rattle.std.specs.Prelude.{Option, Some}
+use Rattle.models.specs.declared.Model.{Model}
 use Rattle.requests.specs.declared.Said.{Said}
 use Rattle.requests.specs.Said.{word_in}
 use Rattle.host.specs.Machine.{ending}
@@ -11,52 +13,37 @@ use Rattle.lists.proofs.Places.{rest}
 use Rattle.host.proofs.Answers.{stays, ends}
 use Rattle.host.proofs.hearing.told.Goals as goal
 
+-- What the data says, and that a report has its code and few values. Assumes nothing.
+says : (model : Model) (code : ℕ) (d : List ℕ) {told : Option Said} {word w : Said} → told ≡ word_in model code d → told ≡ Some word → word ≡ w → word_in model code d ≡ Some w
+says model code d e is w = sym e ∙ is ∙ ap Some w
+
 pub slice_bounds-over-count : goal.slice_bounds-over-count
-slice_bounds-over-count c =
-    let word : (w : Said) → c.word_in-word.result ≡ w → let a = c.args in word_in a.host.request.model a.host.request.code a.d.now ≡ w = λ w e. sym c.word_in-word.ensures ∙ e in
-    let report : (e : c.word_in-word.result ≡ Said.Report) → let d = c.args.d.now in (1 ≤ length d) × (length d ≤ most_values + 1) = λ e. report_length _ _ _ (word _ e) in
-    (report c.in-Report.is).0
+slice_bounds-over-count c = (report_length _ _ _ (says _ _ _ c.word_in.ensures c.in-Some.is c.in-Report.is)).0
 
 pub slice_bounds-over-start : goal.slice_bounds-over-start
-slice_bounds-over-start c =
-    let word : (w : Said) → c.word_in-word.result ≡ w → let a = c.args in word_in a.host.request.model a.host.request.code a.d.now ≡ w = λ w e. sym c.word_in-word.ensures ∙ e in
-    let report : (e : c.word_in-word.result ≡ Said.Report) → let d = c.args.d.now in (1 ≤ length d) × (length d ≤ most_values + 1) = λ e. report_length _ _ _ (word _ e) in
-    (report c.in-Report.is).0
+slice_bounds-over-start c = (report_length _ _ _ (says _ _ _ c.word_in.ensures c.in-Some.is c.in-Report.is)).0
 
 pub over-requires-in-Report : goal.over-requires-in-Report
 over-requires-in-Report c =
-    let word : (w : Said) → c.word_in-word.result ≡ w → let a = c.args in word_in a.host.request.model a.host.request.code a.d.now ≡ w = λ w e. sym c.word_in-word.ensures ∙ e in
-    let report : (e : c.word_in-word.result ≡ Said.Report) → let d = c.args.d.now in (1 ≤ length d) × (length d ≤ most_values + 1) = λ e. report_length _ _ _ (word _ e) in
-    let d = c.args.d.now in
-    rw (rest d) (simp length-drop (omega (arith, report c.in-Report.is)))
+    let fits = report_length _ _ _ (says _ _ _ c.word_in.ensures c.in-Some.is c.in-Report.is) in
+    rw (rest c.args.d.now) (simp length-drop (omega (arith, fits)))
+
+pub returns-in_default : goal.returns-in_default
+unfolding ending
+returns-in_default c = stays _ _ _ (rw (sym c.word_in.ensures ∙ c.in_default.is)) c.plain.ensures
 
 pub returns-in-Ack : goal.returns-in-Ack
 unfolding ending
-returns-in-Ack c =
-    let word : (w : Said) → c.word_in-word.result ≡ w → let a = c.args in word_in a.host.request.model a.host.request.code a.d.now ≡ w = λ w e. sym c.word_in-word.ensures ∙ e in
-    ends c.args.host c.over.ensures _ refl (rw (word _ c.in-Ack.is))
+returns-in-Ack c = ends c.args.host c.over.ensures _ refl (rw (says _ _ _ c.word_in.ensures c.in-Some.is c.in-Ack.is))
 
 pub returns-in-Nack : goal.returns-in-Nack
 unfolding ending
-returns-in-Nack c =
-    let word : (w : Said) → c.word_in-word.result ≡ w → let a = c.args in word_in a.host.request.model a.host.request.code a.d.now ≡ w = λ w e. sym c.word_in-word.ensures ∙ e in
-    rw (word _ c.in-Nack.is) c.send_again.ensures
+returns-in-Nack c = rw (says _ _ _ c.word_in.ensures c.in-Some.is c.in-Nack.is) c.send_again.ensures
 
 pub returns-in-Nav : goal.returns-in-Nav
 unfolding ending
-returns-in-Nav c =
-    let word : (w : Said) → c.word_in-word.result ≡ w → let a = c.args in word_in a.host.request.model a.host.request.code a.d.now ≡ w = λ w e. sym c.word_in-word.ensures ∙ e in
-    ends c.args.host c.over-in-Nav.ensures _ refl (rw (word _ c.in-Nav.is, c.nav_ends.ensures))
+returns-in-Nav c = ends c.args.host c.over-in-Nav.ensures _ refl (rw (says _ _ _ c.word_in.ensures c.in-Some.is c.in-Nav.is, c.nav_ends.ensures))
 
 pub returns-in-Report : goal.returns-in-Report
 unfolding ending
-returns-in-Report c =
-    let word : (w : Said) → c.word_in-word.result ≡ w → let a = c.args in word_in a.host.request.model a.host.request.code a.d.now ≡ w = λ w e. sym c.word_in-word.ensures ∙ e in
-    let a = c.args in
-    ends a.host c.over-in-Report.ensures _ refl (rw (word _ c.in-Report.is, rest a.d.now))
-
-pub returns-in-Nothing : goal.returns-in-Nothing
-unfolding ending
-returns-in-Nothing c =
-    let word : (w : Said) → c.word_in-word.result ≡ w → let a = c.args in word_in a.host.request.model a.host.request.code a.d.now ≡ w = λ w e. sym c.word_in-word.ensures ∙ e in
-    stays _ _ _ (rw (word _ c.in-Nothing.is)) c.plain.ensures
+returns-in-Report c = ends c.args.host c.over-in-Report.ensures _ refl (rw (says _ _ _ c.word_in.ensures c.in-Some.is c.in-Report.is, rest c.args.d.now))

@@ -20,7 +20,7 @@ returns-then-n-gt-LONGEST c =
     let all = a.self.bytes ++ 0 ∷ [] in
     let burst = take_all a.self.count all (simp length-append (omega arith)) in
     let long : longest < length all = simp length-append (omega arith) in
-    let head = c.seems_for-seems.ensures ∙ sym (seems_alike a.self.edition a.self.bytes (0 ∷ []) (omega arith)) in
+    let head = c.seems_for.ensures ∙ sym (seems_alike a.self.edition a.self.bytes (0 ∷ []) (omega arith)) in
     c.answered_on.ensures ∙ ap (answered_on a.t) (same_reading refl refl head ∙ sym (ap (reading_of a.self.edition) burst ∙ long_reading a.self.edition all long))
 
 pub returns : goal.returns

@@ -6,7 +6,7 @@ use lib.Dec.{eqb}
 use lib.ListN.{length, get_or}
 use lib.Pointwise.{pointwise}
 use Rattle.lists.specs.Lists.{same}
-use Rattle.lists.proofs.Same.{not_same}
+use Rattle.lists.proofs.Same.{eq_same, not_same}
 use Rattle.packet.specs.declared.MonitorId.{MonitorId}
 use Rattle.qx.specs.Message.{message, qx_answer}
 use Rattle.qx.specs.Replies.{value_says, said_to, wrong}
@@ -27,19 +27,12 @@ pub returns-then-answer-ne-ANSWER : goal.returns-then-answer-ne-ANSWER
 returns-then-answer-ne-ANSWER c = let a = c.args in judged a.id a.code a.answer.now false (other_length a.id a.code a.answer.now c.if-answer-ne-ANSWER.true)
 
 -- `!=` of two lists of bytes
-pointwise_same : (a b : List ℕ) → pointwise eqb a b ≡ same a b
-unfolding same
-pointwise_same [] [] = refl
-pointwise_same [] (y ∷ b) = refl
-pointwise_same (x ∷ a) [] = refl
-pointwise_same (x ∷ a) (y ∷ b) = rw (pointwise_same a b)
-
 not_twice : (t : Bool) → t ≡ not (not t)
 not_twice true = refl
 not_twice false = refl
 
 compared : (a b c : List ℕ) {r : Bool} → r ≡ not (pointwise eqb a b) → b ≡ c → same a c ≡ not r
-compared a b c e f = rw (e, ← f, pointwise_same a b) (not_twice (same a b))
+compared a b c e f = rw (e, ← f, eq_same a b) (not_twice (same a b))
 
 pub returns-then-ne : goal.returns-then-ne
 returns-then-ne c =

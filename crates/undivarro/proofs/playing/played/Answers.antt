@@ -1,6 +1,5 @@
 -- The table is what the burst leaves of it, with a change or without. Assumes nothing.
 use mathlib.Core.Path.{◌≡◌, ◌∙◌}
-use Rattle.packet.proofs.Readings.{same_reading}
 use Rattle.panels.specs.Wall.{panels_of, table_of}
 use Rattle.answers.specs.Played.{answered_by}
 use Rattle.answers.proofs.Entries.{heard_leaves, change_fits, table_changed, table_stays}
@@ -12,22 +11,22 @@ use Rattle.undivarro.proofs.playing.played.Goals.{Joined-heard, in-Some, in_defa
 pub store-requires : goal.store-requires
 store-requires c =
     let f = c.requires.0 in
-    (f, change_fits f c.data_of-d.result.now _ c.in-Some.is (heard_leaves f c.args.edition c.verdict_of-verdict.result c.data_of-d.result.now c.seems_for-seems.result c.hear-heard.ensures.value.0))
+    (f, change_fits f c.read-reading.result.data.now _ c.in-Some.is (heard_leaves f c.args.edition c.read-reading.result.verdict c.read-reading.result.data.now c.read-reading.result.seems c.hear-heard.ensures.value.0))
 
-left : (c : Joined-heard) → c.match-heard.t ≡ table_of (answered_by c.verdict_of-verdict.result (panels_of c.args.t) c.data_of-d.result.now c.seems_for-seems.result).wall
+left : (c : Joined-heard) → c.match-heard.t ≡ table_of (answered_by c.read-reading.result.verdict (panels_of c.args.t) c.read-reading.result.data.now c.read-reading.result.seems).wall
 left c =
     let f = c.requires.0 in
-    let all = heard_leaves f c.args.edition c.verdict_of-verdict.result c.data_of-d.result.now c.seems_for-seems.result c.hear-heard.ensures.value.0 in
+    let all = heard_leaves f c.args.edition c.read-reading.result.verdict c.read-reading.result.data.now c.read-reading.result.seems c.hear-heard.ensures.value.0 in
     elim c.match-heard.branch [
-      | in-Some w ↦ w.t-is ∙ table_changed f c.data_of-d.result.now _ w.in-Some.is all w.store.ensures
-      | in_default w ↦ w.t-is ∙ table_stays f c.data_of-d.result.now _ w.in_default.is all
+      | in-Some w ↦ w.t-is ∙ table_changed f c.read-reading.result.data.now _ w.in-Some.is all w.store.ensures
+      | in_default w ↦ w.t-is ∙ table_stays f c.read-reading.result.data.now _ w.in_default.is all
     ]
 
 pub put_setup-written-requires : goal.put_setup-written-requires
 put_setup-written-requires c =
     let a = c.args in
     let f = c.requires.0 in
-    let is_read = same_reading c.verdict_of-verdict.ensures c.data_of-d.ensures c.seems_for-seems.ensures in
+    let is_read = c.read-reading.ensures in
     let is = left (goal.at.put_setup-written-requires c).Joined-heard in
     (formed_left f a.edition a.burst.now a.answer.now a.out.now _ _ _ is_read is, two_holds _, rw (size_left f a.edition a.burst.now a.answer.now a.out.now _ _ _ is_read is) c.requires.2)
 
@@ -35,7 +34,7 @@ pub returns : goal.returns
 returns c =
     let a = c.args in
     let f = c.requires.0 in
-    let is_read = same_reading c.verdict_of-verdict.ensures c.data_of-d.ensures c.seems_for-seems.ensures in
+    let is_read = c.read-reading.ensures in
     let is = left (goal.at.returns c).Joined-heard in
     record {
       value = outcome_left f a.edition a.burst.now a.answer.now a.out.now _ _ _ is_read is _ c.hear-heard.ensures.value.0 _ _ c.given.ensures c.put_setup-written.ensures.value;
