@@ -14,7 +14,7 @@ use Rattle.tiling.specs.declared.Kind.{Kind}
 use Rattle.tiling.specs.Walls.{up_to}
 use Rattle.tiling.specs.Kinds.{kind_number, kind_with, largest, in_wall}
 use Rattle.tiling.proofs.Walls.{in_bounds, height_back, width_back, byte_fits, byte_back, height_fits, width_fits}
-use Rattle.tiling.proofs.Sizes.{largest-few, panels_few}
+use Rattle.tiling.proofs.Sizes.{largest_few, panels_few}
 use Rattle.tiling.proofs.Numbers.{number_back}
 use Rattle.models.specs.declared.Model.{Model}
 use Rattle.settings.specs.Settings.{settings, allowed_by_row, within, ◌to◌, all_allowed, in_ranges, values_of, kind_row, tiling_row}
@@ -68,7 +68,7 @@ wall-few kind position byte e =
     let (is, there) = both (up_to (largest kind) byte) _ e in
     let (_, most) = in_bounds _ position there in
     let (_, last) = in_bounds (largest kind) byte is in
-    (le-leb position 255 (omega (arith, panels_few kind byte is)), le-leb byte 255 (omega (arith, largest-few kind)))
+    (le-leb position 255 (omega (arith, panels_few kind byte is)), le-leb byte 255 (omega (arith, largest_few kind)))
 
 -- so that of a tiling only the flags' ranges and the wall count
 four : (a b c x y : Bool) → (c ≡ true → (x ≡ true) × (y ≡ true)) → ((a && (b && (x && (y && true)))) && c) ≡ (a && (b && c))

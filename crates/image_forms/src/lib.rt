@@ -81,15 +81,9 @@ fn is_fresh(row: usize, values: &[u8]) -> bool
     ensures { result ≡ is_fresh row values.now }
 {
     let fresh = settings::fresh(Profile::General);
-    let mut at = settings::place_of(row);
-    let end = at + settings::byte_count(row);
-    while at < end {
-        if values[at] != fresh[at] {
-            return false;
-        }
-        at += 1;
-    }
-    true
+    let first = settings::place_of(row);
+    let end = first + settings::byte_count(row);
+    values[first..end] == fresh[first..end]
 }
 
 // Whether a form loses nothing of a panel with this profile and these values.

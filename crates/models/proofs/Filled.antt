@@ -12,7 +12,7 @@ use Rattle.lists.proofs.Both.{both}
 use Rattle.tiling.specs.declared.Kind.{Kind}
 use Rattle.tiling.specs.Kinds.{largest, in_wall}
 use Rattle.tiling.proofs.Walls.{in_bounds}
-use Rattle.tiling.proofs.Sizes.{largest-few}
+use Rattle.tiling.proofs.Sizes.{largest_few}
 use Rattle.settings.specs.declared.Profile.{Profile}
 use Rattle.settings.specs.Settings.{settings, within, all_allowed, in_ranges, tiling_row}
 use Rattle.models.specs.Models.{filled}
@@ -52,7 +52,7 @@ filled-again row wall vs = go (eqb row tiling_row && eqb (get_or vs 3 0) 0)
 
 wall-few : (kind : Kind) (position wall : ℕ) → in_wall kind position wall ≡ true → wall ≤ 255
 unfolding in_wall
-wall-few kind position wall e = omega (arith, in_bounds (largest kind) wall (both _ _ e).0, largest-few kind)
+wall-few kind position wall e = omega (arith, in_bounds (largest kind) wall (both _ _ e).0, largest_few kind)
 
 -- Every byte is in the range of a wall, so a tiling that stands in a wall is in its ranges as it was sent, or not at all.
 pub ranges_filled : (profile : Profile) (kind : Kind) (wall : ℕ) (vs : List ℕ)

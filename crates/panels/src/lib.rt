@@ -41,6 +41,7 @@ pub struct Table {
 }
 
 // What stands in a place that no panel has.
+#[tactic(auto, unfolding(crate::specs::Wall::blank))]
 pub fn blank_panel() -> Panel
     ensures { result ≡ blank }
 {
@@ -65,6 +66,7 @@ pub fn empty_table() -> Table
 }
 
 // How many panels a table has.
+#[tactic(auto, using(crate::proofs::Laws::count_is))]
 pub fn count_of(t: Table) -> usize
     requires { WellFormed t }
     ensures { result ≡ length (panels_of t) }
@@ -84,6 +86,7 @@ pub fn panel_at(t: Table, k: usize) -> Panel
 }
 
 // All panels of a table, and the blanks behind them.
+#[tactic(auto, using(crate::proofs::Laws::held_places))]
 pub fn panels_of(t: Table) -> [Panel; MOST_PANELS]
     requires { WellFormed t }
     ensures { result ≡ in_places (panels_of t) }
@@ -99,9 +102,7 @@ pub fn table_of(panels: [Panel; MOST_PANELS], count: usize) -> Table
 {
     let mut places = [NOWHERE; ID_COUNT];
     let mut members = [0u8; GROUP_COUNT];
-    let mut k = count;
-    while 0 < k {
-        k -= 1;
+    for k in (0..count).rev() {
         let p = panels[k];
         places[p.id.0 as usize] = k as u8;
         members[p.group.0 as usize] += 1;
@@ -124,13 +125,14 @@ pub fn place_of(t: Table, id: MonitorId) -> Option<usize>
 }
 
 // Whether a packet with this ID and group addresses a panel.
+#[tactic(auto, unfolding(crate::specs::Addressed::reaches))]
 pub fn reaches(id: MonitorId, group: GroupId, p: Panel) -> bool
     ensures { result ≡ reaches id group p }
 {
     if group.0 == 0 {
-        return id.0 == 0 || p.id.0 == id.0;
+        return id.0 == 0 || p.id == id;
     }
-    group.0 != 255 && p.group.0 == group.0
+    group.0 != 255 && p.group == group
 }
 
 // A Phoenix panel's video as a caller sees it, with the tint's sign.

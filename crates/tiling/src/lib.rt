@@ -82,6 +82,7 @@ pub fn largest(kind: Kind) -> u8
 }
 
 // Whether a number is one of those from 1 up to a last one.
+#[tactic(auto, unfolding(crate::specs::Walls::up_to))]
 fn up_to(last: u8, n: u8) -> bool
     ensures { result ≡ up_to last n }
 {
@@ -89,6 +90,7 @@ fn up_to(last: u8, n: u8) -> bool
 }
 
 // The byte of a wall of this height and width, if the kind has such a wall.
+#[tactic(auto, using(crate::proofs::Walls::in_bounds, crate::proofs::Sizes::byte_few), unfolding(crate::specs::Kinds::coded_as))]
 pub fn coded_as(kind: Kind, height: u8, width: u8) -> Option<u8>
     ensures { result ≡ coded_as kind height width }
 {
@@ -103,6 +105,7 @@ pub fn coded_as(kind: Kind, height: u8, width: u8) -> Option<u8>
 }
 
 // The height and the width that a byte says, if it is a wall's.
+#[tactic(auto, using(crate::proofs::Walls::in_bounds), unfolding(crate::specs::Kinds::size_in))]
 pub fn size_in(kind: Kind, byte: u8) -> Option<WallSize>
     ensures { result ≡ size_in kind byte }
 {
@@ -118,11 +121,11 @@ pub fn size_in(kind: Kind, byte: u8) -> Option<WallSize>
 }
 
 // Whether a position is one of the wall that a byte says.
+#[tactic(auto, using(crate::proofs::Sizes::panels_few), unfolding(crate::specs::Kinds::size_in, crate::specs::Kinds::in_wall))]
 pub fn in_wall(kind: Kind, position: u8, byte: u8) -> bool
     ensures { result ≡ in_wall kind position byte }
 {
-    let size = size_in(kind, byte);
-    let Some(wall) = size else {
+    let Some(wall) = size_in(kind, byte) else {
         return false;
     };
     up_to(wall.height * wall.width, position)

@@ -19,14 +19,14 @@ pub loop-k-init : goal.loop-k-init
 loop-k-init c =
     let many : length (take c.args.count c.args.panels) ≡ c.args.count = first_many c.args.count c.requires.0 c.requires.1 in
     let w = take c.args.count c.args.panels in
-    (omega arith, no_places w _ (sym many), no_members w _ (sym many))
+    (no_places w _ (sym many), no_members w _ (sym many))
 
 pub overflow_add-members : goal.overflow_add-members
 overflow_add-members c =
     let p = get_or c.args.panels (c.loop-k.k - 1) unread in
     let g : p.group.0 < group_count = search rules in
     let many : length (take c.args.count c.args.panels) ≡ c.args.count = first_many c.args.count c.requires.0 c.requires.1 in
-    let few = counted_few (take c.args.count c.args.panels) c.loop-k.k p.group.0 c.loop-k.invariant.2 g in
+    let few = counted_few (take c.args.count c.args.panels) c.loop-k.k p.group.0 c.loop-k.invariant.1 g in
     omega (arith, few, many, c.requires.0)
 
 pub loop-k-preserved : goal.loop-k-preserved
@@ -41,12 +41,12 @@ loop-k-preserved c =
     let next : c.loop-k.k ≡ k + 1 = omega arith in
     let (places, members) =
     index_next (take n l) k {p = p} (in_first l n k _ many (omega arith)) (omega (arith, many)) i g
-    (c.loop-k.invariant.1 ∙ ap (λ (m : ℕ). places_from m (take n l)) next) (c.loop-k.invariant.2 ∙ ap (λ (m : ℕ). members_from m (take n l)) next) in
-    (omega arith, places, members)
+    (c.loop-k.invariant.0 ∙ ap (λ (m : ℕ). places_from m (take n l)) next) (c.loop-k.invariant.1 ∙ ap (λ (m : ℕ). members_from m (take n l)) next) in
+    (places, members)
 
 pub returns : goal.returns
 returns c =
     let many : length (take c.args.count c.args.panels) ≡ c.args.count = first_many c.args.count c.requires.0 c.requires.1 in
     let w = take c.args.count c.args.panels in
     let all : c.loop-k.k ≡ 0 = omega arith in
-    table_is _ w c.requires.1 (sym many) (c.loop-k.invariant.1 ∙ ap (λ (m : ℕ). places_from m w) all) (c.loop-k.invariant.2 ∙ ap (λ (m : ℕ). members_from m w) all)
+    table_is _ w c.requires.1 (sym many) (c.loop-k.invariant.0 ∙ ap (λ (m : ℕ). places_from m w) all) (c.loop-k.invariant.1 ∙ ap (λ (m : ℕ). members_from m w) all)

@@ -1,5 +1,4 @@
 use mathlib.Core.Path.{◌≡◌}
-use Prim.Native.Nat.{◌≤◌}
 use lib.ListN.{take}
 use Rattle.panels.proofs.Index.{places_from, members_from}
 use Rattle.panels.proofs.table_of.Given as goal
@@ -7,7 +6,4 @@ use Rattle.panels.proofs.table_of.Given as goal
 -- The invariant: the index has the panels from place k on. Assumes nothing.
 abbrev pub invariant-loop-k : goal.invariant-loop-k
 invariant-loop-k l =
-    (l.k ≤ l.count) × (l.places ≡ places_from l.k (take l.count l.panels)) × (l.members ≡ members_from l.k (take l.count l.panels))
-
-abbrev pub decreases-loop-k : goal.decreases-loop-k
-decreases-loop-k l = l.k
+    (l.places ≡ places_from l.k (take l.count l.panels)) × (l.members ≡ members_from l.k (take l.count l.panels))

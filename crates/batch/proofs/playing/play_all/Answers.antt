@@ -15,7 +15,6 @@ use Rattle.packet.specs.Reading.{reading_of}
 use Rattle.panels.specs.declared.Table.{Table}
 use Rattle.panels.specs.Wall.{Wall, panels_of, table_of}
 use Rattle.panels.specs.WellFormed.{WellFormed}
-use Rattle.answers.specs.declared.Change.{Change}
 use Rattle.answers.specs.declared.Heard.{Heard}
 use Rattle.answers.specs.declared.Played.{Played}
 use Rattle.answers.specs.Reply.{sent_bytes}
