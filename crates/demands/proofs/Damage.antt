@@ -17,7 +17,7 @@ use Rattle.packet.proofs.Spoiled.{spoiled-told as told}
 use Rattle.packet.proofs.Damages.{fault_of, damage-said}
 use Rattle.answers.specs.Played.{answered}
 use Rattle.host.specs.Machine.{telling, step}
-use Rattle.line.proofs.Streams.{marked}
+use Rattle.line.specs.Streams.{marked}
 use Rattle.demands.specs.Damage.{most_too_short, Kinds, NoDamage, SpoiledTold, AnyLength, before, Unchanged, HostUnchanged}
 use Rattle.demands.proofs.HostMoves.{heard_by_lem}
 

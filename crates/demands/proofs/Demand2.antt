@@ -38,7 +38,7 @@ use Rattle.image_read.proofs.Order.{read_any_order, read_by_code, left_out}
 use Rattle.image_salvage.proofs.Sound.{table_formed}
 use Rattle.std.proofs.lemmas.Result.{IfOk-at_ok}
 use Rattle.image_back.proofs.Back.{written_back}
-use Rattle.line.proofs.Streams.{stream_after}
+use Rattle.line.specs.Streams.{stream_after}
 use Rattle.demands.specs.Demand2.{ByReadings, ReadAsWritten, SetBy, OnlyAddressed, Answer-Is, Answers, Received, empty, add, remove, image, salvage, burst, InRange, ReadsBack, AnyOrder, ByCode, LeftOut, Cases}
 
 pub in_range_lem : InRange

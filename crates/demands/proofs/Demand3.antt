@@ -21,7 +21,7 @@ use Rattle.answers.specs.Played.{Outcome, nack_from, answered, played}
 use Rattle.answers.specs.Session.{by_burst, Ended, session}
 use Rattle.line.specs.Receiver.{Event, byte, quiet, bursts_after, receiver_of, streamed}
 use Rattle.answers.proofs.Readings.{answered_damaged}
-use Rattle.line.proofs.Streams.{stream_after}
+use Rattle.line.specs.Streams.{stream_after}
 use Rattle.demands.specs.Demand3.{whole, spoilt, sent, kept, SilenceOrNack, AsIfNeverSent, Withstands, Demand3, on_line, Demand3-line}
 
 nack_or_silent : (i : MonitorId) (q : Option ℕ) → SilenceOrNack (cond (is_some q) (word_from i Control.Nack) silence)

@@ -19,7 +19,7 @@ use Rattle.requests.specs.Request.{is_request}
 use Rattle.requests.specs.Said.{word_in}
 use Rattle.line.specs.declared.Receiver.{Receiver}
 use Rattle.line.specs.Receiver.{receiver_of, with_byte, at_mark}
-use Rattle.line.proofs.Streams.{stream_after}
+use Rattle.line.specs.Streams.{stream_after}
 use Rattle.host.specs.Heard.{said_by, said_to}
 use Rattle.host.specs.Machine.{Happening, State, step}
 use Rattle.host.proofs.EachMove.{step-holds}

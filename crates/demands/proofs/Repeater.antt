@@ -21,13 +21,14 @@ use Rattle.answers.specs.Played.{turned, answered}
 use Rattle.answers.specs.Session.{session}
 use Rattle.answers.specs.Sample.{two_panels}
 use Rattle.answers.proofs.Longest.{too_much}
-use Rattle.line.specs.declared.Heard.{Heard as FirstHeard}
-use Rattle.line.proofs.Streams as first
-use Rattle.small_receiver.specs.declared.Heard.{Heard}
+use Rattle.line.specs.declared.Heard.{Heard}
+use Rattle.line.specs.declared.Receiver.{Receiver}
+use Rattle.line.specs.Streams as first
+use Rattle.small_receiver.specs.declared.SmallReceiver.{SmallReceiver}
 use Rattle.small_receiver.specs.Stream.{streamed_by}
 use Rattle.small_receiver.specs.Small.{keeping, small_of, with_byte, reading_in, streamed}
-use Rattle.small_receiver.proofs.AnyReceiver.{fed_after}
-use Rattle.small_receiver.proofs.Small as small
+use Rattle.small_receiver.specs.AnyReceiver.{fed_after}
+use Rattle.small_receiver.specs.Laws as small
 use Rattle.demands.specs.Demand3.{sent, kept, on_line}
 use Rattle.demands.specs.Repeater.{KeepsTwelve, SameAtMark, SameOnLine, Demand3-repeater, NoLonger, ElevenTooFew}
 use Rattle.demands.proofs.Demand3.{heard_all, demand3}
@@ -40,11 +41,11 @@ pub same_at_mark : SameAtMark
 same_at_mark b t =
     let ours = small.marked 12 (omega arith) (omega arith) t b in
     let theirs = first.marked Edition.Sicp201 t b in (
-      ap (λ (h : Heard). h.reply) ours ∙ sym (ap (λ (h : FirstHeard). h.reply) theirs),
-      ap (λ (h : Heard). h.damage) ours ∙ sym (ap (λ (h : FirstHeard). h.damage) theirs),
-      ap (λ (h : Heard). h.table) ours ∙ sym (ap (λ (h : FirstHeard). h.table) theirs),
-      ap (λ (h : Heard). h.receiver) ours,
-      ap (λ (h : FirstHeard). h.receiver) theirs,
+      ap (λ (h : Heard SmallReceiver). h.reply) ours ∙ sym (ap (λ (h : Heard Receiver). h.reply) theirs),
+      ap (λ (h : Heard SmallReceiver). h.damage) ours ∙ sym (ap (λ (h : Heard Receiver). h.damage) theirs),
+      ap (λ (h : Heard SmallReceiver). h.table) ours ∙ sym (ap (λ (h : Heard Receiver). h.table) theirs),
+      ap (λ (h : Heard SmallReceiver). h.receiver) ours,
+      ap (λ (h : Heard Receiver). h.receiver) theirs,
     )
 
 pub same_on_line : SameOnLine

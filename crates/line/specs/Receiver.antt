@@ -1,15 +1,16 @@
 -- The receiver: the line's bytes and quiet marks, and the bursts between them. 01, "Packet and burst"; 02, A11: a line has one edition
 -- from its opening on.
-use Rattle.std.specs.Prelude.{ℕ, ◌+◌, ◌-◌, min, cond, List, [], ◌∷◌, ◌++◌, ltb, length, take, set, replicate}
+use Rattle.std.specs.Prelude.{ℕ, ◌≡◌, ◌+◌, ◌-◌, min, cond, List, [], ◌∷◌, ◌++◌, ltb, length, take, set, replicate}
 use Rattle.packet.specs.declared.Edition.{Edition}
 use Rattle.packet.specs.Packet.{longest}
-use Rattle.packet.specs.Reading.{reading_of}
+use Rattle.packet.specs.Reading.{Reading, reading_of}
 use Rattle.panels.specs.declared.Table.{Table}
 use Rattle.panels.specs.Wall.{Wall}
 use Rattle.line.specs.declared.Receiver.{Receiver}
 use Rattle.line.specs.declared.Heard.{Heard}
 use Rattle.answers.specs.Played.{answered, answered_on}
 use Rattle.answers.specs.Session.{Ended}
+use Rattle.line.specs.Any.{heard_of}
 
 -- what the line driver reports
 pub data Event : Type 0 where
@@ -34,9 +35,20 @@ with_byte r b = cond (ltb r.count longest) (record { edition = r.edition; bytes 
 unfoldable pub burst_of : Receiver → List ℕ
 burst_of r = take r.count (r.bytes ++ 0 ∷ [])
 
--- a quiet mark: the burst is read by the line's edition and answered, and nothing was heard since
-unfoldable pub at_mark : Receiver → Table → Heard
-at_mark r t = let p = answered_on t (reading_of r.edition (burst_of r)) in record { receiver = receiver_of r.edition []; table = p.table; reply = p.reply; damage = p.damage }
+-- the burst is read by the line's edition, which stays
+abbrev pub reading_in : Receiver → Reading
+reading_in r = reading_of r.edition (burst_of r)
+
+abbrev pub fresh_as : Receiver → Receiver
+fresh_as r = receiver_of r.edition []
+
+-- a quiet mark: the burst is answered, and nothing was heard since
+unfoldable pub at_mark : Receiver → Table → Heard Receiver
+at_mark r t = heard_of (fresh_as r) (answered_on t (reading_in r))
+
+-- on a 2.01 line nothing was heard
+abbrev pub IsOpen : Receiver → Type 0
+IsOpen r = r ≡ receiver_of Edition.Sicp201 []
 
 -- what the receiver makes of a stream
 unfoldable pub streamed : Receiver → Wall → List Event → Ended

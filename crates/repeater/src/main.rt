@@ -1,10 +1,10 @@
 // The repeater: the play program, through the small receiver.
 #![tactic(auto)]
 
-use play_line::Through;
+use small_receiver::SmallReceiver;
 use std::io;
 
 fn main(rt: HostRuntime) -> io::Result<()> {
-    play_line::run(&rt, Through::Small)?;
+    play_line::run::<SmallReceiver>(&rt)?;
     Ok(())
 }

@@ -6,15 +6,8 @@ use Rattle.panels.specs.Wall.{Wall}
 use Rattle.answers.specs.Played.{answered}
 use Rattle.answers.specs.Session.{Ended}
 use Rattle.line.specs.declared.Receiver.{Receiver}
-use Rattle.line.specs.Receiver.{Event, byte, quiet, receiver_of, with_byte, burst_of, streamed}
+use Rattle.line.specs.Receiver.{Event, byte, quiet, receiver_of, with_byte, burst_of, reading_in, fresh_as, streamed}
 use Rattle.small_receiver.specs.Stream.{streamed_by}
-
--- what it reads at a mark, and what the mark leaves of it
-abbrev pub reading_in : Receiver → Reading
-reading_in r = reading_of r.edition (burst_of r)
-
-abbrev pub fresh_as : Receiver → Receiver
-fresh_as r = receiver_of r.edition []
 
 pub first_streamed : (r : Receiver) (w : Wall) (es : List Event) → streamed_by with_byte reading_in fresh_as r w es ≡ streamed r w es
 unfolding streamed_by streamed

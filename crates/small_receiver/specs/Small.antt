@@ -1,5 +1,5 @@
 -- The small receiver of a 2.01 line, which keeps the first bytes of a burst, the count and a running XOR. 02, A14.
-use Rattle.std.specs.Prelude.{ℕ, ◌+◌, ◌-◌, min, List, [], ◌++◌, length, take, set, replicate}
+use Rattle.std.specs.Prelude.{ℕ, ◌≡◌, ◌+◌, ◌-◌, min, List, [], ◌++◌, length, take, set, replicate}
 use Rattle.xor.specs.Xor.{◌⊕◌, xor_all}
 use Rattle.settings.specs.Settings.{most_values}
 use Rattle.packet.specs.declared.Edition.{Edition}
@@ -13,7 +13,8 @@ use Rattle.answers.specs.Session.{Ended}
 use Rattle.line.specs.Receiver.{Event}
 use Rattle.small_receiver.specs.Stream.{streamed_by}
 use Rattle.small_receiver.specs.declared.SmallReceiver.{SmallReceiver}
-use Rattle.small_receiver.specs.declared.Heard.{Heard}
+use Rattle.line.specs.declared.Heard.{Heard}
+use Rattle.line.specs.Any.{heard_of}
 
 -- with room for n bytes, after some were heard; what came past 40 counts as one
 unfoldable pub keeping : ℕ → List ℕ → SmallReceiver
@@ -37,8 +38,12 @@ reading_in r = reading_by Edition.Sicp201 (take r.count r.bytes) r.count r.sum
 abbrev pub fresh_as : SmallReceiver → SmallReceiver
 fresh_as r = keeping (length r.bytes) []
 
-unfoldable pub at_mark : SmallReceiver → Table → Heard
-at_mark r t = let p = answered_on t (reading_in r) in record { receiver = fresh_as r; table = p.table; reply = p.reply; damage = p.damage }
+unfoldable pub at_mark : SmallReceiver → Table → Heard SmallReceiver
+at_mark r t = heard_of (fresh_as r) (answered_on t (reading_in r))
+
+-- nothing was heard
+abbrev pub IsOpen : SmallReceiver → Type 0
+IsOpen r = r ≡ small_of []
 
 -- what it makes of a stream
 abbrev pub streamed : SmallReceiver → Wall → List Event → Ended

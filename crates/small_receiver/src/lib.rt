@@ -2,16 +2,17 @@
 #![tactic(auto)]
 
 ghost use Rattle.std.specs.Prelude.{◌≡◌, ◌+◌, min};
-ghost use mathlib.Core.List.{[], foldl};
+ghost use mathlib.Core.List.{[]};
 ghost use Rattle.packet.specs.declared.Edition.{Edition};
 ghost use Rattle.packet.specs.Packet.{longest};
 ghost use Rattle.packet.specs.Front.{reading_by};
 ghost use Rattle.panels.specs.WellFormed.{WellFormed};
 ghost use Rattle.answers.specs.Played.{answered_on};
-ghost use Rattle.small_receiver.specs.Small.{small_of, with_byte, reading_in, at_mark};
+ghost use Rattle.small_receiver.specs.Small.{small_of, reading_in};
 
-use answers::{Played, Reply};
-use packet::{Damage, Edition, HEAD_201, LONGEST};
+use answers::Played;
+use line::{Heard, LineReceiver};
+use packet::{Edition, HEAD_201, LONGEST};
 use panels::Table;
 use settings::MOST_VALUES;
 
@@ -28,15 +29,6 @@ pub struct SmallReceiver {
     bytes: [u8; LONGEST_COMMAND],
     count: u8,
     sum: u8,
-}
-
-// What a quiet mark leaves, and what was wrong with the burst before it.
-#[derive(Clone, Copy)]
-pub struct Heard {
-    pub receiver: SmallReceiver,
-    pub table: Table,
-    pub reply: Reply,
-    pub damage: Option<Damage>,
 }
 
 // One more than was counted, as long as that counts.
@@ -70,31 +62,6 @@ impl SmallReceiver {
         }
     }
 
-    pub fn byte(mut self, b: u8) -> SmallReceiver
-        ensures { result ≡ with_byte self b }
-    {
-        let n = self.count as usize;
-        self.count = counted(self.count);
-        self.sum = self.sum ^ b;
-        if n < LONGEST_COMMAND {
-            self.bytes[n] = b;
-        }
-        self
-    }
-
-    // The bytes of a burst, one after the other.
-    pub fn bytes(self, burst: &[u8]) -> SmallReceiver
-        ensures { result ≡ foldl with_byte self burst.now }
-    {
-        let mut receiver = self;
-        let mut i = 0;
-        while i < burst.len() {
-            receiver = receiver.byte(burst[i]);
-            i += 1;
-        }
-        receiver
-    }
-
     // The answer to the burst of which it has the front.
     fn answered(self, t: Table) -> Played
         requires { WellFormed t }
@@ -108,24 +75,43 @@ impl SmallReceiver {
         }
         answered_by(t, &bytes, n, sum)
     }
+}
 
-    // A quiet mark: the burst is answered, and nothing was heard since.
-    pub fn quiet(mut self, t: Table) -> Heard
-        requires { WellFormed t }
-        ensures { result ≡ at_mark self t }
-    {
+impl LineReceiver for SmallReceiver {
+    ghost use Rattle.small_receiver.specs.Small.{with_byte, reading_in, fresh_as, IsOpen};
+    ghost use Rattle.small_receiver.specs.Laws.{small_answers};
+
+    ghost next = { with_byte };
+
+    ghost reading = { reading_in };
+
+    ghost fresh = { fresh_as };
+
+    ghost is_open = { IsOpen };
+
+    fn open_201() -> SmallReceiver {
+        SmallReceiver::open()
+    }
+
+    fn byte(mut self, b: u8) -> SmallReceiver {
+        let n = self.count as usize;
+        self.count = counted(self.count);
+        self.sum = self.sum ^ b;
+        if n < LONGEST_COMMAND {
+            self.bytes[n] = b;
+        }
+        self
+    }
+
+    fn quiet(self, t: Table) -> Heard<SmallReceiver> {
         let played = self.answered(t);
-        self.bytes = [0u8; LONGEST_COMMAND];
-        self.count = 0;
-        self.sum = 0;
-        let table = played.table;
-        let reply = played.reply;
-        let damage = played.damage;
         Heard {
-            receiver: self,
-            table,
-            reply,
-            damage,
+            receiver: SmallReceiver::open(),
+            table: played.table,
+            reply: played.reply,
+            damage: played.damage,
         }
     }
+
+    ghost answers_all = { small_answers };
 }

@@ -23,14 +23,15 @@ use Rattle.answers.specs.Played.{answered, answered_on}
 use Rattle.answers.specs.Session.{session}
 use Rattle.answers.proofs.Longest.{answered_first}
 use Rattle.line.specs.Receiver.{Event, bursts_after}
-use Rattle.small_receiver.proofs.AnyReceiver.{Alike, answered_alike, fed_after, stream_session}
-use Rattle.small_receiver.specs.declared.Heard.{Heard}
+use Rattle.small_receiver.specs.AnyReceiver.{Alike, answered_alike, fed_after, stream_session}
+use Rattle.line.specs.declared.Heard.{Heard}
+use Rattle.line.specs.Any.{heard_of, AnswersAll}
 use Rattle.small_receiver.specs.declared.SmallReceiver.{SmallReceiver}
-use Rattle.small_receiver.specs.Small.{keeping, longest_command, with_byte, reading_in, fresh_as, at_mark, streamed}
+use Rattle.small_receiver.specs.Small.{keeping, longest_command, with_byte, small_of, reading_in, fresh_as, IsOpen, at_mark, streamed}
 
 -- what was answered, and a fresh receiver
-abbrev pub heard_as : ℕ → Played → Heard
-heard_as n p = record { receiver = keeping n []; table = p.table; reply = p.reply; damage = p.damage }
+abbrev pub heard_as : ℕ → Played → Heard SmallReceiver
+heard_as n = heard_of (keeping n [])
 
 abbrev pub receiver : List ℕ → ℕ → ℕ → SmallReceiver
 receiver bs n s = record { bytes = bs; count = n; sum = s }
@@ -105,7 +106,7 @@ module _ (n : ℕ) (enough : longest_command ≤ n) (few : n ≤ longest + 1) wh
   unfolding at_mark
   at_mark_lem t l =
       ap (λ (p : Played). record { receiver = fresh_as (keeping n l); table = p.table; reply = p.reply; damage = p.damage }) (answered_alike t (alike l))
-      ∙ ap {B = Heard} (λ (r : SmallReceiver). let p = answered_on t (reading_of Edition.Sicp201 l) in record { receiver = r; table = p.table; reply = p.reply; damage = p.damage }) (anew n few l)
+      ∙ ap {B = Heard SmallReceiver} (λ (r : SmallReceiver). let p = answered_on t (reading_of Edition.Sicp201 l) in record { receiver = r; table = p.table; reply = p.reply; damage = p.damage }) (anew n few l)
 
   -- a burst of any length, byte after byte and then the mark
   pub marked : (t : Table) (b : List ℕ) → at_mark (foldl with_byte (keeping n []) b) t ≡ heard_as n (answered_on t (reading_of Edition.Sicp201 b))
@@ -113,3 +114,12 @@ module _ (n : ℕ) (enough : longest_command ≤ n) (few : n ≤ longest + 1) wh
 
   pub stream_after : (l : List ℕ) (w : Wall) (es : List Event) → streamed (keeping n l) w es ≡ session Edition.Sicp201 w (bursts_after l es)
   stream_after = stream_session with_byte (keeping n) (one_more n few) Edition.Sicp201 reading_in fresh_as (anew n few) alike
+
+pub small_answers : AnswersAll with_byte reading_in fresh_as IsOpen
+small_answers = record {
+  answers = λ r burst t o. ap (λ (r : SmallReceiver). answered_on t (reading_in r)) (fed o burst) ∙ answered_alike t (alike longest_command (omega arith) (omega arith) burst);
+  opens = λ r burst o. ap fresh_as (fed o burst) ∙ anew longest_command (omega arith) burst;
+}
+  where
+    fed : {r : SmallReceiver} → IsOpen r → (burst : List ℕ) → foldl with_byte r burst ≡ small_of burst
+    fed o burst = ap (λ (r : SmallReceiver). foldl with_byte r burst) o ∙ fed_after with_byte small_of (one_more longest_command (omega arith)) [] burst

@@ -5,8 +5,8 @@ use lib.Seq.{set_out}
 use borrow.Author.Rules.{rules}
 use Rattle.xor.specs.Xor.{◌⊕◌}
 use Rattle.small_receiver.specs.Small.{longest_command, with_byte}
-use Rattle.small_receiver.proofs.Small.{same_receiver}
-use Rattle.small_receiver.proofs.SmallReceiver.byte.Goals as goal
+use Rattle.small_receiver.specs.Laws.{same_receiver}
+use Rattle.small_receiver.proofs.SmallReceiverLineReceiver.byte.Goals as goal
 
 pub returns-then-n-lt-LONGEST_COMMAND : goal.returns-then-n-lt-LONGEST_COMMAND
 unfolding with_byte ◌⊕◌

@@ -18,11 +18,12 @@ use Rattle.line.specs.declared.Heard.{Heard}
 use Rattle.answers.specs.declared.Played.{Played}
 use Rattle.answers.specs.Played.{answered, answered_on}
 use Rattle.answers.specs.Session.{by_burst, session}
-use Rattle.line.specs.Receiver.{Event, byte, quiet, bursts_after, receiver_of, with_byte, burst_of, at_mark, streamed}
+use Rattle.line.specs.Any.{heard_of, AnswersAll}
+use Rattle.line.specs.Receiver.{reading_in, fresh_as, IsOpen, Event, byte, quiet, bursts_after, receiver_of, with_byte, burst_of, at_mark, streamed}
 
 -- what was answered, and a fresh receiver
-abbrev pub heard_as : Edition → Played → Heard
-heard_as edition p = record { receiver = receiver_of edition []; table = p.table; reply = p.reply; damage = p.damage }
+abbrev pub heard_as : Edition → Played → Heard Receiver
+heard_as edition = heard_of (receiver_of edition [])
 
 abbrev receiver : Edition → List ℕ → ℕ → Receiver
 receiver edition bs n = record { edition = edition; bytes = bs; count = n }
@@ -110,3 +111,14 @@ module _ (edition : Edition) where
   stream_after l w [] = refl
   stream_after l w (byte b ∷ es) = ap (λ (r : Receiver). streamed r w es) (with_byte_lem l b) ∙ stream_after (l ++ b ∷ []) w es
   stream_after l w (quiet ∷ es) = stream_quiet l w es ∙ rw (stream_after [] (answered w (reading_of edition l)).wall es)
+
+-- on a 2.01 line
+pub receiver_answers : AnswersAll with_byte reading_in fresh_as IsOpen
+unfolding receiver_of
+receiver_answers = record {
+  answers = λ r burst t o. ap (λ (r : Receiver). answered_on t (reading_in r)) (fed o burst) ∙ ap (answered_on t) (reading_alike Edition.Sicp201 burst);
+  opens = λ r burst o. ap fresh_as (fed o burst);
+}
+  where
+    fed : {r : Receiver} → IsOpen r → (burst : List ℕ) → foldl with_byte r burst ≡ receiver_of Edition.Sicp201 burst
+    fed o burst = ap (λ (r : Receiver). foldl with_byte r burst) o ∙ fed_after Edition.Sicp201 [] burst

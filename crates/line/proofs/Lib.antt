@@ -1,2 +1,0 @@
--- `Streams` has that a stream is the session of its bursts.
-pub mod Streams
