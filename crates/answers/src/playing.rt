@@ -66,7 +66,7 @@ pub fn answered_on(mut t: Table, reading: Reading) -> Played
     Played {
         table: t,
         reply: turn.reply,
-        damage: packet::damage_in(reading.verdict),
+        damage: reading.verdict.damage(),
     }
 }
 

@@ -5,12 +5,12 @@ use mathlib.Core.Path.{◌≡◌, refl, sym, ap, subst, ◌∙◌}
 use mathlib.Core.List.{List, [], ◌∷◌, map}
 use native.Mathlib.Omega.{arith}
 use lib.ListN.{get_or}
+use Rattle.std.proofs.lemmas.List.{get_or-map}
 use Rattle.std.specs.Prelude.{Option, Some, None}
 use Rattle.settings.specs.Settings.{kind_row}
 use Rattle.std.proofs.Common.{Option, Some, None}
 use Rattle.codes.specs.declared.Code.{Code}
 use Rattle.codes.specs.Found.{found_by}
-use Rattle.lists.proofs.Mapped.{at_map}
 use Rattle.packet.specs.declared.Edition.{Edition}
 use Rattle.packet.specs.declared.Verdict.{Verdict}
 use Rattle.packet.specs.Answered.{is_heard}
@@ -64,7 +64,7 @@ still_stands w good b r stands =
     go : (q : Option ℕ) → place_of r.id w ≡ q → StandsAs r w q → StandsAs r (map (changed b) w) q
     go (Some k) e s =
         let (there, _) = place_there r.id w k e in
-        ap model_of (at_map (changed b) w k blank blank there) ∙ kept_model b (get_or w k blank) (good_at w good k there) ∙ s
+        ap model_of (get_or-map (changed b) w k blank blank there) ∙ kept_model b (get_or w k blank) (good_at w good k there) ∙ s
     go None e s = s
 
 still_all : (edition : Edition) (w : Wall) → GoodWall w → (b : Reading) (rs : List Request) → AllAnswered edition w rs → AllAnswered edition (map (changed b) w) rs

@@ -6,6 +6,8 @@ use mathlib.Core.List.{List, [], ◌∷◌, ◌++◌, map, Memᴰ}
 use native.Mathlib.Omega.{arith}
 use borrow.Author.Tests.{ne_eqb}
 use lib.ListN.{length, get_or}
+use Rattle.std.proofs.lemmas.List.{get_or-map}
+use Rattle.codes.specs.declared.Found.{Found}
 use Rattle.lists.proofs.Mapped.{at_map}
 use Rattle.std.proofs.Common.{Option, Some}
 use Rattle.codes.specs.declared.Code.{Code}
@@ -48,7 +50,7 @@ module _ (edition : Edition) where
       let f = changed (read d) in
       let p = get_or w k blank in
       ap (λ (v : Wall). disturbed (read b) (read c) (get_or v k blank)) (answered-each w (read d))
-      ∙ ap (disturbed (read b) (read c)) (at_map f w k blank blank inside)
+      ∙ ap (disturbed (read b) (read c)) (get_or-map f w k blank blank inside)
       ∙ rw (same-addressed (read b).verdict (read d) p, same-addressed (read c).verdict (read d) p) (u k inside)
 
   -- A burst goes past many that it does not disturb.

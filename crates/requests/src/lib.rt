@@ -55,7 +55,7 @@ pub fn is_request(edition: Edition, request: Request) -> bool
         return false;
     }
     let group = request.group;
-    if !packet::carries(edition, group) {
+    if !edition.carries(group) {
         return false;
     }
     let found = codes::found_by(request.code);

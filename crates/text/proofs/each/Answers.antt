@@ -4,7 +4,7 @@ use Rattle.std.proofs.lemmas.Fn.{FoldsTo-push}
 use Rattle.std.specs.Fn.{Shared}
 use denote.Ref.{Bor}
 use Rattle.text.specs.Runs.{StepsTo, RunsTo}
-use Rattle.text.proofs.each_step.Goals as goal
+use Rattle.text.proofs.each.Goals as goal
 
 one_more : {F S E : Type 0} (g : Shared F (S × (ℕ × (Bor (List ℕ) × Unit {0}))) (Result S E)) (f : F) (first : S) (n : ℕ) (s : S) (p : Bor (List ℕ)) (t : S)
     → RunsTo g f first n s → g.post f (s, (n + 1, (p, tt))) (Ok t) → RunsTo g f first (n + 1) t
@@ -14,7 +14,7 @@ one_more g f first n s p t runs r = record {
 }
 
 pub step-requires : goal.step-requires
-step-requires g c = c.requires _ _ c.loop-number.invariant c.front.result (rw (c.front.ensures, length-take) (omega arith))
+step-requires g c = c.requires.step _ _ c.loop-number.invariant c.front.result (rw (c.front.ensures, length-take) (omega arith))
 
 pub loop-number-preserved : goal.loop-number-preserved
 loop-number-preserved g c =
