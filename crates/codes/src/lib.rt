@@ -44,6 +44,7 @@ pub fn found_by(code: u8) -> Option<Code>
 }
 
 // The row whose field in a setup image has this code: that of a setting's set code, or the kind, which no command sets.
+#[tactic(auto, using(std::proofs::lemmas::Bool::Decides::nat_tests), unfolding(crate::specs::Found::field_by, settings::specs::Settings::settings))]
 pub fn field_by(code: u8) -> Option<Code>
     ensures { result ≡ field_by code }
 {
