@@ -15,6 +15,7 @@ pub enum Code {
 
 // The setting that a code gets or sets, in the order of the manual's sections, those of 000 (SICP 2.01). 001 is SICP 1.85, and
 // 002 SICP 1.6.
+#[tactic(auto, unfolding(crate::specs::Found::found_from, settings::specs::Settings::settings))]
 pub fn found_by(code: u8) -> Option<Code>
     ensures { result ≡ found_by code }
 {
@@ -43,6 +44,7 @@ pub fn found_by(code: u8) -> Option<Code>
 }
 
 // The row whose field in a setup image has this code: that of a setting's set code, or the kind, which no command sets.
+#[tactic(auto, using(std::proofs::lemmas::Bool::Decides::nat_tests), unfolding(crate::specs::Found::field_by, settings::specs::Settings::settings))]
 pub fn field_by(code: u8) -> Option<Code>
     ensures { result ≡ field_by code }
 {
