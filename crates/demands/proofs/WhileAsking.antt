@@ -12,7 +12,8 @@ use Rattle.std.specs.Prelude.{Option, Some, None}
 use Rattle.lists.specs.Lists.{same}
 use Rattle.lists.proofs.Both.{both}
 use Rattle.settings.specs.Settings.{get_code}
-use Rattle.codes.specs.declared.Found.{Found}
+use Rattle.std.proofs.Common.{Option, Some, None}
+use Rattle.codes.specs.declared.Code.{Code}
 use Rattle.codes.specs.Found.{found_by}
 use Rattle.models.specs.Models.{allowed_for}
 use Rattle.packet.specs.declared.Damage.{Damage}
@@ -61,18 +62,18 @@ says_nack (Some Said.Nav) = false
 says_nack (Some Said.Report) = false
 says_nack None = false
 
-no_other : (r : Request) (f : Found) (d : List ℕ) → says_nack (ends_by r f d) ≡ false
-no_other r (Found.Set row) d = go (same d (0x00 ∷ 0x06 ∷ []))
+no_other : (r : Request) (f : Option Code) (d : List ℕ) → says_nack (ends_by r f d) ≡ false
+no_other r (Some (Code.Set row)) d = go (same d (0x00 ∷ 0x06 ∷ []))
   where
     go : (t : Bool) → says_nack (cond t (Some Said.Ack) None) ≡ false
     go true = refl
     go false = refl
-no_other r (Found.Get row) d = go (same (take 1 d) (get_code row ∷ []) && allowed_for r.model row (drop 1 d))
+no_other r (Some (Code.Get row)) d = go (same (take 1 d) (get_code row ∷ []) && allowed_for r.model row (drop 1 d))
   where
     go : (t : Bool) → says_nack (cond t (Some Said.Report) None) ≡ false
     go true = refl
     go false = refl
-no_other r Found.Nothing d = refl
+no_other r None d = refl
 
 nack_said : (edition : Edition) (r : Request) (b : List ℕ) → says_nack (said edition r b) ≡ is_nack edition r b
 nack_said edition r b =

@@ -9,7 +9,7 @@ ghost use Rattle.host.specs.Machine.{nav_ends, ending};
 ghost use Rattle.requests.specs.Said.{word_in};
 
 use crate::{Asked, End, Step, sending};
-use packet::{Edition, Verdict};
+use packet::{Edition, Reading, Verdict};
 use requests::Said;
 
 // How NAV ends the request. Where a power off was sent more than once, an earlier sending may have done the work.
@@ -41,23 +41,12 @@ fn told(edition: Edition, asked: Asked, d: &[u8], out: &mut [u8]) -> Step
     }
 }
 
-// Only an intact burst with group 0 and the request's ID is heeded, of which this is the data.
-pub(crate) fn heeded(
-    edition: Edition,
-    asked: Asked,
-    verdict: Verdict,
-    d: &[u8],
-    out: &mut [u8],
-) -> Step
+// Only an intact burst with group 0 and the request's ID is heeded.
+pub(crate) fn heeded(edition: Edition, asked: Asked, reading: Reading, out: &mut [u8]) -> Step
     requires { longest ≤ length out.old }
-    ensures { Answers (ending (asked_state edition asked) d.now (said_by asked.request verdict d.now)) out.old result out.new }
+    ensures { Answers (ending (asked_state edition asked) reading.entry.data.now (said_by asked.request reading.entry.verdict reading.entry.data.now)) out.old result out.new }
 {
-    let Verdict::Intact {
-        id,
-        group,
-        count: _,
-    } = verdict
-    else {
+    let Verdict::Intact { id, group, .. } = reading.verdict else {
         return crate::waiting(edition, asked, 0);
     };
     if group.0 != 0 {
@@ -68,5 +57,5 @@ pub(crate) fn heeded(
     if id.0 != own.0 {
         return crate::waiting(edition, asked, 0);
     }
-    told(edition, asked, d, out)
+    told(edition, asked, reading.data, out)
 }

@@ -218,14 +218,13 @@ impl Host {
             return plain(self, 0, Outcome::Refused(Refusal::NoRoom));
         }
         let edition = self.edition;
-        let verdict = packet::verdict_of(edition, b);
-        let damage = packet::damage_in(verdict);
+        let reading = packet::read(edition, b);
+        let damage = reading.verdict.damage();
         match self.phase {
             Phase::Idle => telling(damage, plain(self, 0, Outcome::Idle)),
             Phase::Resting => telling(damage, plain(self, 0, Outcome::Resting)),
             Phase::Waiting(asked) => {
-                let d = packet::data_of(edition, b, verdict);
-                telling(damage, hearing::heeded(edition, asked, verdict, d, out))
+                telling(damage, hearing::heeded(edition, asked, reading, out))
             }
         }
     }

@@ -3,6 +3,7 @@ use mathlib.Core.List.{List}
 use native.Mathlib.Omega.{arith}
 use Prim.Native.Nat.{ℕ}
 use lib.ListN.{length-drop}
+use Rattle.std.proofs.lemmas.List.{take_rest}
 use Rattle.std.specs.Prelude.{Option, Some}
 use Rattle.models.specs.declared.Model.{Model}
 use Rattle.requests.specs.declared.Said.{Said}
@@ -10,7 +11,6 @@ use Rattle.requests.specs.Said.{word_in}
 use Rattle.host.specs.Machine.{ending}
 use Rattle.host.specs.Private.Steps.{asked_state, asked_host}
 use Rattle.requests.proofs.Words.{report_length}
-use Rattle.lists.proofs.Places.{rest}
 use Rattle.host.proofs.Answers.{stays, ends}
 use Rattle.host.proofs.hearing.told.Goals as goal
 
@@ -27,7 +27,7 @@ slice_bounds-over-start c = (report_length _ _ _ (says _ _ _ c.word_in.ensures c
 pub over-requires-in-Report : goal.over-requires-in-Report
 over-requires-in-Report c =
     let fits = report_length _ _ _ (says _ _ _ c.word_in.ensures c.in-Some.is c.in-Report.is) in
-    rw (rest c.args.d.now) (simp length-drop (omega (arith, fits)))
+    rw (take_rest c.args.d.now 1) (simp length-drop (omega (arith, fits)))
 
 pub returns-in_default : goal.returns-in_default
 unfolding ending
@@ -47,4 +47,4 @@ returns-in-Nav c = ends (asked_state c.args.edition c.args.asked) c.over-in-Nav.
 
 pub returns-in-Report : goal.returns-in-Report
 unfolding ending
-returns-in-Report c = ends (asked_state c.args.edition c.args.asked) c.over-in-Report.ensures _ refl (rw (says _ _ _ c.word_in.ensures c.in-Some.is c.in-Report.is, rest c.args.d.now))
+returns-in-Report c = ends (asked_state c.args.edition c.args.asked) c.over-in-Report.ensures _ refl (rw (says _ _ _ c.word_in.ensures c.in-Some.is c.in-Report.is, take_rest c.args.d.now 1))
