@@ -13,6 +13,7 @@ use packet::{Edition, Reading, Verdict};
 use requests::Said;
 
 // How NAV ends the request. Where a power off was sent more than once, an earlier sending may have done the work.
+#[tactic(auto, unfolding(crate::specs::Machine::nav_ends))]
 fn nav_ends(asked: Asked) -> End
     ensures { (edition : Edition) → result ≡ nav_ends (asked_state edition asked) }
 {

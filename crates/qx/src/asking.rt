@@ -1,4 +1,6 @@
 // What a request asks of a QX panel, and the command codes that ask it.
+#![tactic(auto, unfolding(crate::specs::Asked::picture_of, crate::specs::Asked::asked_by, crate::specs::Asked::asked_of, crate::specs::Asked::codes_for, crate::specs::Asked::data_for))]
+
 ghost use Rattle.std.specs.Prelude.{◌≡◌, Some};
 ghost use Rattle.qx.specs.Asked.{is_carried, picture_of, asked_by, asked_of, codes_for};
 

@@ -11,6 +11,7 @@ use bursts::BurstList;
 use packet::MonitorId;
 
 // What a value says in answer to a command code.
+#[tactic(auto, unfolding(crate::specs::Replies::value_says))]
 fn value_says(code: u8, value: u8) -> Result<Reply, NoAnswer>
     ensures { result ≡ value_says code value }
 {

@@ -92,6 +92,7 @@ pub fn translate(request: Request, out: &mut [u8]) -> Result<Packets, Refusal>
 }
 
 // What the answers to a request's packets say, where there is one to each. They stand one behind the other, each behind its length.
+#[tactic(auto, unfolding(crate::specs::Replies::heard_by, crate::specs::Replies::heard_in, crate::specs::Asked::codes_for, crate::specs::Asked::data_for))]
 pub fn hear(request: Request, answers: &[u8]) -> Option<Result<Reply, NoAnswer>>
     ensures { result ≡ heard_by request answers.now }
 {

@@ -48,6 +48,7 @@ pub(crate) fn put_all(id: MonitorId, asked: Asked, out: &mut [u8])
 }
 
 // How many they are, and their sizes.
+#[tactic(auto, unfolding(crate::specs::Translation::packets_told, crate::specs::Asked::data_for, crate::specs::Message::qx_packet, crate::specs::Message::message, lists::specs::Lists::laid_over))]
 pub(crate) fn told(asked: Asked) -> Packets
     ensures { (id : MonitorId) → result ≡ packets_told (map (qx_packet id) (data_for (Some asked))) }
 {

@@ -12,6 +12,7 @@ use tiling::Kind;
 
 // ID, group, code and values, for a panel of this model. Of the values those are kept that a request has room for; a request with
 // more is refused by its count.
+#[tactic(auto, unfolding(crate::specs::Steps::told_for, crate::specs::Steps::request_of, lists::specs::Lists::laid_over))]
 pub fn told_for(model: Model, step: &[u8]) -> Option<Request>
     ensures { result ≡ told_for model step.now }
 {
@@ -31,6 +32,7 @@ pub fn told_for(model: Model, step: &[u8]) -> Option<Request>
 }
 
 // In front of them the model's number: the profile's, and twice the kind's.
+#[tactic(auto, unfolding(crate::specs::Steps::told_with_model))]
 pub fn told_with_model(step: &[u8]) -> Option<Request>
     ensures { result ≡ told_with_model step.now }
 {
