@@ -5,6 +5,7 @@ use mathlib.Core.Logic.{◌⊎◌, inl, inr}
 use mathlib.Core.Path.{◌≡◌, refl, sym, ap, ◌∙◌}
 use mathlib.Core.List.{[], ◌∷◌}
 use lib.ListN.{length, get_or}
+use Rattle.std.proofs.lemmas.List.{get_or-map}
 use Rattle.std.specs.Prelude.{Option, Some, None, is_some}
 use Rattle.codes.proofs.Laws.{get_found}
 use Rattle.std.specs.Prelude.{Result, Ok}
@@ -21,7 +22,6 @@ use Rattle.panels.specs.Addressed.{reaches}
 use Rattle.panels.specs.declared.Table.{Table}
 use Rattle.panels.specs.WellFormed.{GoodPanel, GoodWall, WellFormed}
 use Rattle.panels.proofs.Laws.{place_there}
-use Rattle.lists.proofs.Mapped.{at_map}
 use Rattle.panels.proofs.Formed.{empty_formed, good_at}
 use Rattle.table_calls.proofs.Formed.{added_formed, removed_formed}
 use Rattle.answers.specs.Reply.{silence, word_from}
@@ -106,7 +106,7 @@ by_verdict Verdict.Empty w read k e good h = inl refl
 by_verdict (Verdict.Damaged d) w read k e good h = inl refl
 by_verdict (Verdict.Intact i g n) w read k e good h =
     let f = turned i g (command read.part) in
-    rw (at_map f w k blank blank h) (turned_by read i g n e (get_or w k blank) (good_at w good k h))
+    rw (get_or-map f w k blank blank h) (turned_by read i g n e (get_or w k blank) (good_at w good k h))
 
 pub only_addressed : OnlyAddressed
 unfolding answered

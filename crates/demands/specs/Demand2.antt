@@ -3,7 +3,8 @@
 use Rattle.std.specs.Prelude.{Ok, ℕ, ◌≤◌, ◌<◌, true, ◌⊎◌, ◌≡◌, length, get_or, take, IsOk}
 use mathlib.Core.List.{List, [], ◌∷◌, map, Forall₂}
 use Rattle.settings.specs.declared.Profile.{Profile}
-use Rattle.codes.specs.declared.Found.{Found}
+use Rattle.std.specs.Prelude.{Some}
+use Rattle.codes.specs.declared.Code.{Code}
 use Rattle.settings.specs.Settings.{set_code, get_code, values_of, row_count, kind_row, tiling_row}
 use Rattle.codes.specs.Found.{found_by}
 use Rattle.models.specs.Models.{allowed_for, filled}
@@ -78,7 +79,7 @@ abbrev pub Answer-Is : Wall → Reply → Type 0
 Answer-Is w r =
     (r ≡ silence)
     ⊎ (((i : MonitorId) × (c : Control) × (r ≡ word_from i c))
-    ⊎ ((i : MonitorId) × (k : ℕ) × (row : ℕ) × (k < length w) × ((get_or w k blank).id.0 ≡ i.0) × (found_by (get_code row) ≡ Found.Get row)
+    ⊎ ((i : MonitorId) × (k : ℕ) × (row : ℕ) × (k < length w) × ((get_or w k blank).id.0 ≡ i.0) × (found_by (get_code row) ≡ Some (Code.Get row))
     × (r ≡ report_from i (get_code row ∷ values_of row (get_or w k blank).values))))
 
 abbrev pub Answers : Type 0

@@ -11,7 +11,8 @@ use lib.Seq.{take_at, drop_at, get_or-set_other}
 use Rattle.std.specs.Prelude.{Ok, is_ok, IsOk}
 use Rattle.settings.specs.declared.Profile.{Profile}
 use Rattle.models.specs.declared.Model.{Model}
-use Rattle.codes.specs.declared.Found.{Found}
+use Rattle.std.proofs.Common.{Option, Some, None}
+use Rattle.codes.specs.declared.Code.{Code}
 use Rattle.settings.specs.Settings.{set_code, byte_count, values_of, values_with, row_count, value_count, kind_row, tiling_row}
 use Rattle.codes.specs.Found.{field_by}
 use Rattle.models.specs.Models.{kind_for, allowed_for, model_in}
@@ -29,10 +30,10 @@ use Rattle.image_record.proofs.Steps.{seen_apart, Free, Stands, stands, stands_i
 use Rattle.image_read.proofs.Steps.{fields-step}
 
 -- the row of an entry's code
-row_found : Found → ℕ
-row_found (Found.Set row) = row
-row_found (Found.Get row) = 0
-row_found Found.Nothing = 0
+row_found : Option Code → ℕ
+row_found (Some (Code.Set row)) = row
+row_found (Some (Code.Get row)) = 0
+row_found None = 0
 
 unfoldable pub row_of : Entry → ℕ
 unfolding row_found
@@ -176,10 +177,10 @@ module _ (form : Form) (profile : Profile) where
       by_tests r false true e = let z : ◌≡◌ {A = ℕ} 0 1 = cc in omega arith
       by_tests r false false e = let z : ◌≡◌ {A = ℕ} 0 1 = cc in omega arith
 
-      by_found : (f : Found) → field_of form profile f seen values left ≡ Step.End → ⊥
-      by_found (Found.Set r) e = by_tests r (misplaced form seen r || misfits r left) (allowed_for (model_in profile values) r (values_in r left)) e
-      by_found (Found.Get r) e = let z : ◌≡◌ {A = ℕ} 0 1 = cc in omega arith
-      by_found Found.Nothing e = let z : ◌≡◌ {A = ℕ} 0 1 = cc in omega arith
+      by_found : (f : Option Code) → field_of form profile f seen values left ≡ Step.End → ⊥
+      by_found (Some (Code.Set r)) e = by_tests r (misplaced form seen r || misfits r left) (allowed_for (model_in profile values) r (values_in r left)) e
+      by_found (Some (Code.Get r)) e = let z : ◌≡◌ {A = ℕ} 0 1 = cc in omega arith
+      by_found None e = let z : ◌≡◌ {A = ℕ} 0 1 = cc in omega arith
 
   pub no_fault : (es : List Entry) (seen : List Bool) (values : List ℕ) → length seen ≡ row_count → length values ≡ value_count
       → IsOk (fields_from form profile seen values (bytes_of es))

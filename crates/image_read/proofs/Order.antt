@@ -10,7 +10,8 @@ use lib.ListN.{length, replicate}
 use Rattle.std.specs.Prelude.{Result, Ok, Err, is_ok, IsOk}
 use Rattle.settings.specs.declared.Profile.{Profile}
 use Rattle.models.specs.declared.Model.{Model}
-use Rattle.codes.specs.declared.Found.{Found}
+use Rattle.std.proofs.Common.{Some}
+use Rattle.codes.specs.declared.Code.{Code}
 use Rattle.settings.specs.Settings.{set_code, fresh_values, values_of, row_count, value_count, kind_row, tiling_row}
 use Rattle.codes.specs.Found.{field_by}
 use Rattle.models.specs.Models.{model_in}
@@ -43,7 +44,7 @@ without_permuted (twice p q) c w = without_permuted q c (without_permuted p c w)
 
 -- Set codes tell rows apart.
 pub codes_apart : {j k : ℕ} → j < row_count → k < row_count → set_code j ≡ set_code k → j ≡ k
-codes_apart hj hk e = let s : Found.Set _ ≡ Found.Set _ = sym (field_found hj) ∙ ap field_by e ∙ field_found hk in cc
+codes_apart hj hk e = let s : Some (Code.Set _) ≡ Some (Code.Set _) = sym (field_found hj) ∙ ap field_by e ∙ field_found hk in cc
 
 pub without_gives : (fresh : List ℕ) (row : ℕ) (es : List Entry) → Without (set_code row) es → given_or fresh row es ≡ fresh
 without_gives fresh row [] w = refl

@@ -15,7 +15,7 @@ use panels::{Panel, Table};
 use profiles::Video;
 use requests::Request;
 use sample::{Answer, Shown};
-use settings::{Profile, TILING_ROW};
+use settings::{Profile, Row};
 use std::io;
 use tiling::Kind;
 
@@ -82,9 +82,9 @@ fn set_place(rt: &impl Print, t: Table, position: u8, height: u8, width: u8) -> 
         model,
         id: MonitorId(2),
         group: GroupId(0),
-        code: settings::set_code(TILING_ROW),
+        code: Row::TILING.set_code(),
         values: [1, 0, position, byte, 0, 0, 0],
-        count: settings::byte_count(TILING_ROW),
+        count: Row::TILING.byte_count(),
     };
     send_request(rt, t, request)
 }
@@ -115,7 +115,7 @@ fn print_place(rt: &impl Print, position: u8, width: u8) -> io::Result<()> {
 #[tactic(auto, using(crate::proofs::Places::third))]
 fn show_place(rt: &impl Print, p: Panel) -> io::Result<()> {
     let values = p.values;
-    let first = settings::place_of(TILING_ROW);
+    let first = Row::TILING.place();
     if let Some(wall) = tiling::size_in(Kind::FifteenByTen, values[first + 3]) {
         print_place(rt, values[first + 2], wall.width)?;
     }
