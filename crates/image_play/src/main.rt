@@ -46,7 +46,6 @@ fn print_image(rt: &impl Print, form: Form, t: Table) -> io::Result<()>
     }
 }
 
-#[tactic(auto, using(image_read::proofs::Sound::read_formed))]
 fn print_reading(rt: &impl Print, bytes: &[u8]) -> io::Result<()> {
     if 4096 < bytes.len() {
         return print!(rt; "too-long");

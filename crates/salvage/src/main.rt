@@ -125,7 +125,6 @@ fn keep(rt: &(impl Files + Eprint + AllocGlobal), t: Table, path: &str) -> io::R
 }
 
 // The lines come first, and where they are lost no file is made: a setup without them does not tell what is from the image.
-#[tactic(auto, using(image_salvage::proofs::Sound::table_formed))]
 fn salvage(
     rt: &(impl Files + Print + Eprint + AllocGlobal),
     image: &[u8],
