@@ -38,7 +38,8 @@ pub enum Damage {
     Checksum,
 }
 
-// What the bytes between two quiet marks are. An intact burst has an ID, a group and a count of data bytes.
+// What the bytes between two quiet marks are. An intact burst has an ID, a group and a count of data bytes. An empty one is neither
+// right nor wrong, so a Result would be no plainer.
 #[derive(Clone, Copy, Debug, PartialEq, Eq)]
 pub enum Verdict {
     Empty,
@@ -73,7 +74,7 @@ pub enum Control {
     Nav,
 }
 
-// Whether a packet with this ID and group is answered.
+// Whether a packet with this ID and group is answered. They stand in structs of two crates, so they come as two.
 #[tactic(auto, unfolding(crate::specs::Answered::is_heard))]
 pub fn is_heard(id: MonitorId, group: GroupId) -> bool
     ensures { result ≡ is_heard id group }
