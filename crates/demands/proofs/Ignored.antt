@@ -19,6 +19,7 @@ use Rattle.demands.specs.HostMoves.{said}
 use Rattle.demands.specs.Sendings.{with_room, NotCounted, Ignored}
 use Rattle.demands.proofs.HostCalls.{Stays, stays, refused, roomy}
 use Rattle.demands.proofs.HostMoves.{said_is}
+use Rattle.std.proofs.lemmas.Grind.{common_steps}
 
 -- with and without a call that 19 refuses
 abbrev Same : Host → List Call → List Call → Type 0
@@ -55,14 +56,7 @@ module _ (host : Host) (b lent : List ℕ) (nothing : eqb host.sendings 0 ≡ fa
 
   passes : step (state_of host) (burst b) ≡ telling (damage_in (reading_of host.edition b).verdict) (quiet (state_of host) passed)
   unfolding step heard ending
-  passes = go (eqb host.sendings 0) refl
-    where
-      go : (z : Bool) → eqb host.sendings 0 ≡ z
-          → step (state_of host) (burst b) ≡ telling (damage_in (reading_of host.edition b).verdict) (quiet (state_of host) passed)
-      go true e = let none = eqb-true host.sendings 0 e in rw (length-replicate, e, none)
-      go false e =
-          let some = eqb-false host.sendings 0 e in
-          rw (length-replicate, e, lt-ltb 0 host.sendings (omega arith), said_is host.edition host.request b, nothing e)
+  passes = grind (arith, common_steps, state_of, burst, telling, damage_in, reading_of, quiet, eqb-true, length-replicate, eqb-false, lt-ltb, said_is)
 
   ignored_so : (host_after host (heard_call ∷ []) ≡ host) × (output_after host heard_call ≡ lent) × (given_out host heard_call ≡ []) × (none_over host (heard_call ∷ []) ≡ true)
   ignored_so = go (has_room heard_call) refl
