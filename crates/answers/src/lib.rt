@@ -9,7 +9,7 @@ mod turning;
 pub use answering::write_answer;
 use packet::{Control, Damage, GroupId, MonitorId};
 use panels::{Panel, Table};
-pub use playing::{answered_on, hear, play, store};
+pub use playing::{answered_on, hear, hear_on, play, store};
 use settings::{MOST_VALUES, Row};
 
 // A report's data at its longest: the get code, and the values of the largest row.

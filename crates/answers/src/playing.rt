@@ -6,7 +6,7 @@ ghost use Rattle.panels.specs.WellFormed.{WellFormed};
 ghost use Rattle.lists.specs.Lists.{laid_over};
 ghost use Rattle.packet.specs.Packet.{longest};
 ghost use Rattle.answers.specs.Reply.{sent_bytes};
-ghost use Rattle.answers.specs.Turn.{entry_of, turn_on, heard_as, turned_by, Fits};
+ghost use Rattle.answers.specs.Turn.{entry_of, turn_by, turn_on, heard_as, turned_by, Fits};
 ghost use Rattle.answers.specs.Played.{answered_on};
 
 use crate::{Change, Entry, Heard, Names, Played, answering, judging, turning};
@@ -40,17 +40,26 @@ pub fn store(t: &mut Table, change: Change, d: &[u8])
     }
 }
 
-// What a burst comes to on a table, with its answer written out on a line of an edition.
-pub fn hear(edition: Edition, t: &Table, reading: Reading, out: &mut [u8]) -> Heard
+// What a burst comes to, by what a table has of its names, with its answer written out on a line of an edition.
+pub fn hear(edition: Edition, entry: Entry, reading: Reading, out: &mut [u8]) -> Heard
+    requires { longest ≤ length out.old }
+    ensures value { (result ≡ heard_as edition (turn_by entry reading.entry.verdict reading.entry.data.now reading.entry.seems)) × (result.sent ≤ longest) }
+    ensures out_after { out.new ≡ laid_over (sent_bytes edition (turn_by entry reading.entry.verdict reading.entry.data.now reading.entry.seems).reply) out.old }
+{
+    let turn = turning::turn_of(entry, reading);
+    let sent = answering::put_answer(edition, turn.reply, out);
+    let change = turn.change;
+    Heard { sent, change }
+}
+
+// The same on a table.
+pub fn hear_on(edition: Edition, t: &Table, reading: Reading, out: &mut [u8]) -> Heard
     requires { WellFormed t.now × (longest ≤ length out.old) }
     ensures value { (result ≡ heard_as edition (turn_on (panels_of t.now) reading.entry.verdict reading.entry.data.now reading.entry.seems)) × (result.sent ≤ longest) }
     ensures out_after { out.new ≡ laid_over (sent_bytes edition (turn_on (panels_of t.now) reading.entry.verdict reading.entry.data.now reading.entry.seems).reply) out.old }
 {
     let entry = entry_of(t, turning::names_in(reading));
-    let turn = turning::turn_of(entry, reading);
-    let sent = answering::put_answer(edition, turn.reply, out);
-    let change = turn.change;
-    Heard { sent, change }
+    hear(edition, entry, reading, out)
 }
 
 // The answer to what was read of a burst.

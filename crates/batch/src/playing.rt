@@ -21,7 +21,7 @@ pub(crate) fn play_all(edition: Edition, t: &mut Table, list: BurstList, out: &m
     let mut written = 0;
     for burst in list {
         let reading = packet::read(edition, burst);
-        let heard = answers::hear(edition, t, reading, &mut out[written + 1..]);
+        let heard = answers::hear_on(edition, t, reading, &mut out[written + 1..]);
         out[written] = heard.sent as u8;
         written = written + 1 + heard.sent;
         if let Some(change) = &heard.change {

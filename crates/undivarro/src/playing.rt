@@ -39,7 +39,7 @@ pub(crate) fn played(
     ensures out_after { out.new ≡ (after_burst edition (panels_of t) burst.now answer.old out.old).out }
 {
     let reading = packet::read(edition, burst);
-    let heard = answers::hear(edition, &t, reading, answer);
+    let heard = answers::hear_on(edition, &t, reading, answer);
     if let Some(change) = &heard.change {
         answers::store(&mut t, *change, reading.data);
     }

@@ -27,7 +27,7 @@ use Rattle.batch.specs.Scene.{room_for_one, played_out}
 use Rattle.batch.proofs.Counted.{behind, put_there}
 use Rattle.batch.proofs.Scenes.{Playing, playing_first, playing_next, playing_last}
 use Rattle.batch.proofs.playing.play_all.Goals as goal
-use Rattle.batch.proofs.playing.play_all.Goals.{After-hear-heard}
+use Rattle.batch.proofs.playing.play_all.Goals.{After-hear_on-heard}
 
 -- a burst that was heard on a table
 module _ {t : Table} (f : WellFormed t) (edition : Edition) (v : Verdict) (d : List ℕ) (a : Option MonitorId) {h : Heard} (gave : h ≡ heard_as edition (turn_on (panels_of t) v d a)) where
@@ -75,12 +75,12 @@ loop-burst-init c =
     }
 
 -- the burst that comes next, and the table that it leaves
-heard_so : (c : After-hear-heard) → Leaves c.hear-heard.result.change c.read-reading.result.data.now (panels_of c.loop-burst.t) (after c.loop-burst.invariant.formed c.args.edition c.read-reading.result.verdict c.read-reading.result.data.now c.read-reading.result.seems c.hear-heard.ensures.value.0)
-heard_so c = heard_leaves c.loop-burst.invariant.formed c.args.edition c.read-reading.result.verdict c.read-reading.result.data.now c.read-reading.result.seems c.hear-heard.ensures.value.0
+heard_so : (c : After-hear_on-heard) → Leaves c.hear_on-heard.result.change c.read-reading.result.data.now (panels_of c.loop-burst.t) (after c.loop-burst.invariant.formed c.args.edition c.read-reading.result.verdict c.read-reading.result.data.now c.read-reading.result.seems c.hear_on-heard.ensures.value.0)
+heard_so c = heard_leaves c.loop-burst.invariant.formed c.args.edition c.read-reading.result.verdict c.read-reading.result.data.now c.read-reading.result.seems c.hear_on-heard.ensures.value.0
 
-goes_on : (c : After-hear-heard) {u : Table} → u ≡ table_of (after c.loop-burst.invariant.formed c.args.edition c.read-reading.result.verdict c.read-reading.result.data.now c.read-reading.result.seems c.hear-heard.ensures.value.0)
-    → let l = set (put_mid (c.loop-burst.written + 1) (length c.loop-burst.out - (c.loop-burst.written + 1)) c.loop-burst.out c.hear-heard.new.out) c.loop-burst.written c.hear-heard.result.sent in
-    let w = c.loop-burst.written + 1 + c.hear-heard.result.sent in
+goes_on : (c : After-hear_on-heard) {u : Table} → u ≡ table_of (after c.loop-burst.invariant.formed c.args.edition c.read-reading.result.verdict c.read-reading.result.data.now c.read-reading.result.seems c.hear_on-heard.ensures.value.0)
+    → let l = set (put_mid (c.loop-burst.written + 1) (length c.loop-burst.out - (c.loop-burst.written + 1)) c.loop-burst.out c.hear_on-heard.new.out) c.loop-burst.written c.hear_on-heard.result.sent in
+    let w = c.loop-burst.written + 1 + c.hear_on-heard.result.sent in
     let rest = bursts_left c.next.new.self in
     record {
       formed : WellFormed u;
@@ -97,9 +97,9 @@ goes_on c is =
     let playing = subst (λ (rest : List (List ℕ)). Playing c.args.edition (panels_of c.args.t.now) (bursts_left c.args.list) c.args.out.now (panels_of c.loop-burst.t) rest c.loop-burst.written c.loop-burst.out) steps i.playing in
     let many = ap {B = ℕ} length steps in
     let room : c.loop-burst.written + room_for_one * length (burst ∷ rest) ≤ length c.args.out.now = omega (arith, i.room) in
-    let small = c.hear-heard.ensures.value.1 in
-    let gave = c.hear-heard.ensures.value.0 in
-    let laid = c.hear-heard.ensures.out_after in
+    let small = c.hear_on-heard.ensures.value.1 in
+    let gave = c.hear_on-heard.ensures.value.0 in
+    let laid = c.hear_on-heard.ensures.out_after in
     record {
       formed = formed i.formed c.args.edition _ _ _ gave burst is_read is playing room i.same small laid;
       same = long i.formed c.args.edition _ _ _ gave burst is_read is playing room i.same small laid;
@@ -110,16 +110,16 @@ goes_on c is =
 pub store-requires : goal.store-requires
 store-requires c =
     let f = c.loop-burst.invariant.formed in
-    (f, change_fits f c.read-reading.result.data.now _ c.in-Some-change.is (heard_so (goal.at.store-requires c).After-hear-heard))
+    (f, change_fits f c.read-reading.result.data.now _ c.in-Some-change.is (heard_so (goal.at.store-requires c).After-hear_on-heard))
 
 pub loop-burst-preserved-in-Some-change : goal.loop-burst-preserved-in-Some-change
 loop-burst-preserved-in-Some-change c =
-    let h = (goal.at.loop-burst-preserved-in-Some-change c).After-hear-heard in
+    let h = (goal.at.loop-burst-preserved-in-Some-change c).After-hear_on-heard in
     goes_on h (table_changed c.loop-burst.invariant.formed c.read-reading.result.data.now _ c.in-Some-change.is (heard_so h) c.store.ensures)
 
 pub loop-burst-preserved : goal.loop-burst-preserved
 loop-burst-preserved c =
-    let h = (goal.at.loop-burst-preserved c).After-hear-heard in
+    let h = (goal.at.loop-burst-preserved c).After-hear_on-heard in
     goes_on h (table_stays c.loop-burst.invariant.formed c.read-reading.result.data.now _ c.in_default.is (heard_so h))
 
 -- no burst is left

@@ -11,12 +11,12 @@ use Rattle.undivarro.proofs.playing.played.Goals.{Joined-heard, in-Some, in_defa
 pub store-requires : goal.store-requires
 store-requires c =
     let f = c.requires.0 in
-    (f, change_fits f c.read-reading.result.data.now _ c.in-Some.is (heard_leaves f c.args.edition c.read-reading.result.verdict c.read-reading.result.data.now c.read-reading.result.seems c.hear-heard.ensures.value.0))
+    (f, change_fits f c.read-reading.result.data.now _ c.in-Some.is (heard_leaves f c.args.edition c.read-reading.result.verdict c.read-reading.result.data.now c.read-reading.result.seems c.hear_on-heard.ensures.value.0))
 
 left : (c : Joined-heard) → c.match-heard.t ≡ table_of (answered_by c.read-reading.result.verdict (panels_of c.args.t) c.read-reading.result.data.now c.read-reading.result.seems).wall
 left c =
     let f = c.requires.0 in
-    let all = heard_leaves f c.args.edition c.read-reading.result.verdict c.read-reading.result.data.now c.read-reading.result.seems c.hear-heard.ensures.value.0 in
+    let all = heard_leaves f c.args.edition c.read-reading.result.verdict c.read-reading.result.data.now c.read-reading.result.seems c.hear_on-heard.ensures.value.0 in
     elim c.match-heard.branch [
       | in-Some w ↦ w.t-is ∙ table_changed f c.read-reading.result.data.now _ w.in-Some.is all w.store.ensures
       | in_default w ↦ w.t-is ∙ table_stays f c.read-reading.result.data.now _ w.in_default.is all
@@ -37,7 +37,7 @@ returns c =
     let is_read = c.read-reading.ensures in
     let is = left (goal.at.returns c).Joined-heard in
     record {
-      value = outcome_left f a.edition a.burst.now a.answer.now a.out.now _ _ _ is_read is _ c.hear-heard.ensures.value.0 _ _ c.given.ensures c.put_setup-written.ensures.value;
-      answer_after = answer_left f a.edition a.burst.now a.answer.now a.out.now _ _ _ is_read is _ c.hear-heard.ensures.out_after;
+      value = outcome_left f a.edition a.burst.now a.answer.now a.out.now _ _ _ is_read is _ c.hear_on-heard.ensures.value.0 _ _ c.given.ensures c.put_setup-written.ensures.value;
+      answer_after = answer_left f a.edition a.burst.now a.answer.now a.out.now _ _ _ is_read is _ c.hear_on-heard.ensures.out_after;
       out_after = out_left f a.edition a.burst.now a.answer.now a.out.now _ _ _ is_read is _ c.put_setup-written.ensures.out_after;
     }
