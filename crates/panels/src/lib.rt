@@ -19,7 +19,8 @@ pub const ID_COUNT: usize = 256;
 // How many groups there are.
 pub const GROUP_COUNT: usize = 256;
 
-// What the index has for an ID that no panel has.
+// What the index has for an ID that no panel has. An Option in each of 256 places would double the index in a table's fixed
+// memory.
 const NOWHERE: u8 = MOST_PANELS as u8;
 
 #[derive(Clone, Copy)]
@@ -31,7 +32,8 @@ pub struct Panel {
 }
 
 // The panels in their places, and the index: the place of each ID, which is MOST_PANELS where no panel has it, and how many
-// panels each group has. A table that is passed on is copied, so who holds one looks at its places and its index in it.
+// panels each group has. Its panels are an array with a count, since a library has no heap. A table that is passed on is copied,
+// so who holds one looks at its places and its index in it.
 #[derive(Clone, Copy)]
 pub struct Table {
     pub panels: [Panel; MOST_PANELS],
