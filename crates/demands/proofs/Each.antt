@@ -18,6 +18,8 @@ use Rattle.answers.proofs.Formed.{turned-keeps}
 use Rattle.answers.proofs.Turned.{stays}
 use Rattle.demands.proofs.Demand2.{by_readings}
 use Rattle.demands.specs.Apart.{addressed_by}
+use Rattle.std.proofs.Common.{arith}
+use Rattle.std.proofs.lemmas.Grind.{common_steps}
 
 -- what a burst with this verdict and data makes of a panel, and bursts one after the other
 abbrev pub changed_by : Verdict → List ℕ → Panel → Panel
@@ -44,10 +46,10 @@ answered-each w r = go r.verdict
 pub all_each : (w : Wall) (rs : List Reading) → (by_burst answered w rs).wall ≡ map (changed_by_all rs) w
 unfolding by_burst
 all_each w [] = sym (map-id w)
-all_each w (r ∷ rs) = all_each (answered w r).wall rs ∙ ap (map (changed_by_all rs)) (answered-each w r) ∙ map-map (changed_by_all rs) (changed r) w
+all_each w (r ∷ rs) = grind (arith, common_steps, all_each (answered w r).wall rs, answered-each, map-map)
 
 pub session-each : (edition : Edition) (w : Wall) (bs : List (List ℕ)) → (session edition w bs).wall ≡ map (changed_by_all (map (reading_of edition) bs)) w
-session-each edition w bs = ap (λ (e : Ended). e.wall) (by_readings edition w bs) ∙ all_each w (map (reading_of edition) bs)
+session-each edition w bs = grind (arith, common_steps, by_readings, all_each, reading_of)
 
 -- a panel that is not addressed stays, and whom another burst addresses stays so too
 pub not_addressed : (v : Verdict) (d : List ℕ) (p : Panel) → addressed_by v p ≡ false → changed_by v d p ≡ p

@@ -25,6 +25,8 @@ use Rattle.host.specs.Machine.{Happening, State, step}
 use Rattle.host.proofs.EachMove.{step-holds}
 use Rattle.demands.proofs.Demand2.{by_readings}
 use Rattle.demands.specs.Editions.{OpenedByNumber, NeverGuesses, KeepsEdition, GroupZero, heeds, Heeded}
+use Rattle.std.proofs.Common.{arith}
+use Rattle.std.proofs.lemmas.Grind.{common_steps}
 
 pub opened_by_number : OpenedByNumber
 opened_by_number = number_back
@@ -35,11 +37,7 @@ never_guesses edition w events = stream_after edition [] w events ∙ by_reading
 -- the receiver
 byte-keeps : (r : Receiver) (b : ℕ) → (with_byte r b).edition ≡ r.edition
 unfolding with_byte
-byte-keeps r b = go (ltb r.count longest) _ _ refl refl
-  where
-    go : (t : Bool) (x y : Receiver) → x.edition ≡ r.edition → y.edition ≡ r.edition → (cond t x y).edition ≡ r.edition
-    go true x y e f = e
-    go false x y e f = f
+byte-keeps r b = grind (arith, common_steps)
 
 -- the host
 step_keeps : (s : State) (h : Happening) → (step s h).next.edition ≡ s.edition
@@ -59,14 +57,7 @@ keeps-edition = (byte-keeps, (λ r t. refl), step_keeps)
 
 pub group-zero : GroupZero
 unfolding is_request
-group-zero r = go (eqb r.group.0 0) refl
-  where
-    g : ℕ
-    g = r.group.0
-
-    go : (t : Bool) → eqb g 0 ≡ t → is_request Edition.Sicp185 r ≡ (t && is_request Edition.Sicp201 r)
-    go true e = rw (eq-eqb 0 g (sym (eqb-true g 0 e)), eq-eqb g g refl)
-    go false e = rw (ne_eqb 0 g (λ z. eqb-false g 0 e (sym z)), and-false (leb r.count most_values))
+group-zero r = grind (arith, common_steps)
 
 -- of an intact burst
 heeded_so : (edition : Edition) (r : Request) (b : List ℕ) (n : ℕ)
@@ -79,17 +70,8 @@ heeded_so Edition.Sicp201 r b n = refl
 -- and of another
 ignored : (r : Request) (edition : Edition) (b d : List ℕ) → is_intact edition b ≡ false → said_by r (verdict_of edition b) d ≡ None
 unfolding verdict_of is_intact said_by
-ignored r edition b d e = go (eqb (length b) 0) refl
-  where
-    go : (z : Bool) → eqb (length b) 0 ≡ z → said_by r (verdict_of edition b) d ≡ None
-    go true z = rw z
-    go false z = rw (z, e)
+ignored r edition b d e = grind (arith, common_steps)
 
 pub heeded : Heeded
 unfolding said_to
-heeded edition r b = go (is_intact edition b) refl
-  where
-    go : (t : Bool) → is_intact edition b ≡ t
-        → said_by r (verdict_of edition b) (data_of edition b) ≡ cond (t && heeds edition r b) (word_in r.model r.code (data_of edition b)) None
-    go true e = ap (λ (v : Verdict). said_by r v (data_of edition b)) (intact-verdict edition b e) ∙ heeded_so edition r b _
-    go false e = ignored r edition b _ e
+heeded edition r b = grind (arith, common_steps, data_of, heeds, word_in, intact-verdict, heeded_so, ignored)

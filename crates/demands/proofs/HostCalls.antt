@@ -1,13 +1,11 @@
 -- Calls of the host one after the other. Assumes nothing.
 use Prim.Native.Nat.{ℕ}
 use mathlib.Core.Bool.{Bool, true, false, cond}
-use mathlib.Core.Path.{◌≡◌, refl, sym, ap, ◌∙◌}
-use mathlib.Core.List.{List, [], ◌∷◌, ◌++◌, flatten, append-nil, append_assoc}
+use mathlib.Core.Path.{◌≡◌, refl}
+use mathlib.Core.List.{List, [], ◌∷◌, ◌++◌, flatten}
 use native.Mathlib.Omega.{arith}
-use borrow.Author.Tests.{ne_eqb}
 use lib.Dec.{eqb}
-use lib.ListN.{length, take, drop}
-use lib.Seq.{take-append_seam}
+use lib.ListN.{length, take}
 use Rattle.std.specs.Prelude.{None, Option}
 use Rattle.lists.specs.Lists.{laid_over}
 use Rattle.packet.specs.declared.Damage.{Damage}
@@ -21,9 +19,9 @@ use Rattle.host.specs.declared.End.{End}
 use Rattle.host.specs.declared.Outcome.{Outcome}
 use Rattle.host.specs.declared.Refusal.{Refusal}
 use Rattle.host.specs.Machine.{start, State, Move, waiting_for, waits, move, quiet, over, begun, telling, step}
-use Rattle.host.specs.Calls.{host_of, state_of, step_of, bytes_of, call}
-use Rattle.host.proofs.Answers.{host_back}
+use Rattle.host.specs.Calls.{state_of, step_of, bytes_of, call}
 use Rattle.demands.specs.HostCalls.{Call, has_room, answer_to, output_after, given_out, host_after, packets}
+use Rattle.std.proofs.lemmas.Grind.{common_steps}
 
 -- What a call gives out is the packet of its move.
 
@@ -37,11 +35,11 @@ module _ (m : Move) (lent : List ℕ) where
 
   pub one-given : (p : List ℕ) → eqb (length p) 0 ≡ false → m.sent ≡ p ∷ [] → given ≡ p ∷ []
   unfolding step_of flatten laid_over
-  one-given p some e = rw (e, append-nil, some, take-append_seam p (drop (length p) lent))
+  one-given p some e = grind (arith, common_steps)
 
 pub packet_some : (edition : Edition) (r : Request) → eqb (length (request_packet edition r)) 0 ≡ false
 unfolding request_packet packet_of
-packet_some edition r = ne_eqb (length (request_packet edition r)) 0 (λ e. omega (arith, e))
+packet_some edition r = grind (arith, common_steps)
 
 -- A call whose move is quiet leaves the host and the output as they are, and gives nothing out.
 
@@ -53,12 +51,7 @@ pub record Stays (host : Host) (c : Call) (o : Outcome) : Type 0 where
 
 pub stays : (host : Host) (c : Call) (o : Outcome) (d : Option Damage) → call c.lent (state_of host) c.happens ≡ telling d (quiet (state_of host) o) → Stays host c o
 unfolding step_of laid_over flatten
-stays host c o d e = record {
-  same_host = ap (λ (m : Move). host_of m.next) e ∙ host_back host;
-  same_output = rw e;
-  none = none-given (call c.lent (state_of host) c.happens) c.lent (ap (λ (m : Move). m.sent) e);
-  told = ap (λ (m : Move). m.outcome) e;
-}
+stays host c o d e = grind (arith, common_steps)
 
 -- One without room, which 19 refuses, is such a call.
 pub without_room : (host : Host) (c : Call) → has_room c ≡ false → call c.lent (state_of host) c.happens ≡ quiet (state_of host) (Outcome.Refused Refusal.NoRoom)
@@ -81,7 +74,7 @@ after_both host (c ∷ cs) ds = after_both (answer_to host c).host cs ds
 
 pub packets_both : (host : Host) (cs ds : List Call) → packets host (cs ++ ds) ≡ packets host cs ++ packets (host_after host cs) ds
 packets_both host [] ds = refl
-packets_both host (c ∷ cs) ds = ap (λ (l : List (List ℕ)). given_out host c ++ l) (packets_both (answer_to host c).host cs ds) ∙ sym (append_assoc (given_out host c) _ _)
+packets_both host (c ∷ cs) ds = grind (arith, common_steps, packets_both (answer_to host c).host cs ds)
 
 -- A start goes by four questions: whether a request waits, whether the host rests, whether it is a request, and whether an answer is due.
 

@@ -1,11 +1,11 @@
 -- Power off and on. Assumes nothing.
 use Prim.Native.Nat.{ℕ, zero, suc}
-use mathlib.Core.Bool.{true, false, cond, not, false≢true, ◌&&◌, ◌||◌, and-true, and-false}
+use mathlib.Core.Bool.{true, false, cond, not, false≢true, ◌&&◌, ◌||◌, and-true}
 use mathlib.Core.Path.{◌≡◌, refl, sym, ap, ◌∙◌}
 use mathlib.Core.List.{List, [], ◌∷◌, flatten}
 use native.Mathlib.Omega.{arith}
-use borrow.Author.Tests.{eq-eqb, ne_eqb, lt-leb}
-use lib.Dec.{leb, eqb}
+use borrow.Author.Tests.{eq-eqb}
+use lib.Dec.{eqb}
 use lib.ListN.{get_or}
 use Rattle.lists.specs.Lists.{same}
 use Rattle.lists.proofs.Both.{both}
@@ -29,11 +29,12 @@ use Rattle.answers.proofs.Formed.{off-same}
 use Rattle.demands.proofs.Profiles.{own_model}
 use Rattle.demands.proofs.ToOne.{set-reply, panel, asked_good, asked_replies}
 use Rattle.demands.specs.Power.{PowerSet, OffStays, NavEnds}
+use Rattle.std.proofs.lemmas.Grind.{common_steps}
 
 -- above 2 nothing is allowed
 above : (v : ℕ) → within (1 to 2) (suc (suc (suc v))) ≡ false
 unfolding within
-above v = rw (lt-leb (suc (suc (suc v))) 2 (omega arith), and-false (leb 1 (suc (suc (suc v)))))
+above v = grind (arith, common_steps)
 
 -- power is 1 or 2, so that it is on where it is not off
 on : (v : ℕ) → within (1 to 2) v ≡ true → eqb v 2 ≡ not (eqb v 1)
@@ -58,13 +59,12 @@ module _ (p : Panel) (good : GoodPanel p) where
   takes_power zero = refl
   takes_power (suc zero) = sym (is_on (model_of p) p.values (good.in_range power_row (omega arith)))
   takes_power (suc (suc zero)) = refl
-  takes_power (suc (suc (suc v))) =
-      rw (above v, ne_eqb (suc (suc (suc v))) 2 (λ e. omega arith), ne_eqb (suc (suc (suc v))) 1 (λ e. omega arith))
+  takes_power (suc (suc (suc v))) = grind (arith, common_steps)
 
   answers_power : (i : MonitorId) (v : ℕ)
       → reply_by i (judge (command (0x18 ∷ v ∷ [])) p) ≡ word_from i (cond (eqb v 2 || eqb v 1 && eqb (get_or p.values 1 0) 2) Control.Ack Control.Nav)
   unfolding settings found_from command judge
-  answers_power i v = rw (takes_power v) (set-reply i (eqb v 2 || eqb v 1 && eqb (get_or p.values 1 0) 2) _)
+  answers_power i v = grind (arith, common_steps, takes_power, set-reply)
 
 pub power_set_lem : PowerSet
 power_set_lem t f i k v n there r intact sets =

@@ -31,6 +31,7 @@ use Rattle.demands.proofs.Qx.{wanted, data_is, Fits, written, qx_numbers, taken,
 use Rattle.demands.specs.Scenes.{list_of}
 use Rattle.demands.proofs.Scenes.{told-again, stops}
 use Rattle.demands.specs.Qx.{number_for, packets_of, answer_to, value_to, says_to, each_to, Reads, NoneAsked, AnswerNumbers, Joined, ReadBack, SpoiledAnswer, Examples004}
+use Rattle.std.proofs.lemmas.Grind.{common_steps}
 
 fit_length : (id : MonitorId) (cs : List ℕ) (ps : List (List ℕ)) → Fits id cs ps → length cs ≡ length ps
 fit_length id [] [] f = refl
@@ -48,7 +49,7 @@ each-said id [] [] xs f = refl
 each-said id [] (p ∷ ps) xs f = elim f [ ]
 each-said id (c ∷ cs) [] xs f = elim f [ ]
 each-said id (c ∷ cs) (p ∷ ps) [] f = refl
-each-said id (c ∷ cs) (p ∷ ps) (x ∷ xs) f = ap₂ (λ (a : Answer) (l : List Answer). a ∷ l) (one-said id c p x f.0 f.1) (each-said id cs ps xs f.2)
+each-said id (c ∷ cs) (p ∷ ps) (x ∷ xs) f = grind (arith, common_steps, each-said id cs ps xs f.2, one-said)
 
 module _ (r : Request) (z : number_for 40 r ≡ 0) where
   asked_codes : asked.codes_for (asked.asked_of r) ≡ map (λ d. get_or d 0 0) (wanted r)
@@ -59,9 +60,7 @@ module _ (r : Request) (z : number_for 40 r ≡ 0) where
   heard-whole : (xs : List (List ℕ)) → heard_in r.id (map (λ d. get_or d 0 0) (wanted r)) (record { whole = xs; cut = false })
       ≡ cond (eqb (length xs) (length (packets_of r))) (Some (joined (each_to says_to (packets_of r) xs))) None
   unfolding heard_in answers_all
-  heard-whole xs =
-      let w = written r in
-      rw (fit_length r.id (map (λ d. get_or d 0 0) (wanted r)) (packets_of r) w.fits, lt-ltb 0 _ w.some, each-said r.id _ (packets_of r) xs w.fits)
+  heard-whole xs = grind (arith, common_steps, written, fit_length, wanted, packets_of, lt-ltb, each-said)
 
   heard_of : (xs : List (List ℕ)) → heard_by r (list_of xs) ≡ cond (eqb (length xs) (length (packets_of r))) (Some (joined (each_to says_to (packets_of r) xs))) None
   unfolding heard_by
@@ -69,14 +68,14 @@ module _ (r : Request) (z : number_for 40 r ≡ 0) where
 
   heard-cut : (list : List ℕ) → (bursts_in list).cut ≡ true → heard_by r list ≡ None
   unfolding heard_by heard_in answers_all
-  heard-cut list c = rw (c, and-false (ltb 0 (length (asked.codes_for (asked.asked_of r)))))
+  heard-cut list c = grind (arith, common_steps)
 
   -- as many as there are packets
   heard_all : (xs : List (List ℕ)) → length xs ≡ length (packets_of r) → heard_by r (list_of xs) ≡ Some (joined (each_to says_to (packets_of r) xs))
   heard_all xs n = heard_of xs ∙ rw (eq-eqb _ _ n)
 
 pub reads : Reads
-reads r xs z = (heard_of r z xs, λ n part h. heard-cut r z (list_of xs ++ n ∷ part) (stops xs n part h))
+reads r xs z = grind (arith, common_steps, heard_of, heard-cut, list_of, stops)
 
 pub none_asked : NoneAsked
 unfolding heard_by heard_in asked.codes_for
@@ -95,7 +94,7 @@ ack_is (Err e) = refl
 
 pub joined_is : Joined
 unfolding joined any_wrong first_other
-joined_is a b c = (alone a, rw (ack_is c, or-false (is_wrong c)))
+joined_is a b c = grind (arith, common_steps)
 
 -- the panel's own answer
 own_said : (p : List ℕ) (v : ℕ) → says_to p (answer_to p v) ≡ value_to p v
@@ -104,7 +103,7 @@ own_said p v = rw (same_self (answer_to p v))
 own_each : (ps : List (List ℕ)) (vs : List ℕ) → each_to says_to ps (each_to answer_to ps vs) ≡ each_to value_to ps vs
 own_each [] vs = refl
 own_each (p ∷ ps) [] = refl
-own_each (p ∷ ps) (v ∷ vs) = ap₂ (λ (a : Answer) (l : List Answer). a ∷ l) (own_said p v) (own_each ps vs)
+own_each (p ∷ ps) (v ∷ vs) = grind (arith, common_steps, own_each ps vs, own_said)
 
 each_many : (ps : List (List ℕ)) (vs : List ℕ) → length vs ≡ length ps → length (each_to answer_to ps vs) ≡ length ps
 each_many [] vs n = refl
@@ -112,7 +111,7 @@ each_many (p ∷ ps) [] n = n
 each_many (p ∷ ps) (v ∷ vs) n = ap suc (each_many ps vs (omega arith))
 
 pub read_back : ReadBack
-read_back r vs z n = heard_all r z (each_to answer_to (packets_of r) vs) (each_many (packets_of r) vs n) ∙ rw (own_each (packets_of r) vs)
+read_back r vs z n = grind (arith, common_steps, heard_all, each_to, answer_to, packets_of, each_many, own_each)
 
 -- the sum of an answer is 0, so that no other byte may stand in one place
 answer-sum : (p : List ℕ) (v : ℕ) → xor_all (answer_to p v) ≡ 0
@@ -137,11 +136,7 @@ one_wrong (p ∷ ps) (b ∷ before) x after h e = rw (one_wrong ps before x afte
 
 pub spoiled-answer : SpoiledAnswer
 unfolding joined
-spoiled-answer r before after v s z h n =
-    let p = get_or (packets_of r) (length before) [] in
-    let x = spoiled s (answer_to p v) in
-    let there : length before < length (packets_of r) = omega (arith, n, length-append before (x ∷ after)) in
-    heard_all r z (before ++ x ∷ after) n ∙ rw (one_wrong (packets_of r) before x after there (spoiled-said s p v h))
+spoiled-answer r before after v s z h n = grind (arith, common_steps, packets_of, answer_to, length-append, heard_all, one_wrong, spoiled-said)
 
 pub examples_004 : Examples004
 unfolding translated_over packets_in packets_for qx_packet laid_over flatten heard_by heard_in answers_all asked.codes_for asked.asked_of asked.asked_by asked.picture_of asked.is_carried asked.data_for is_request is_taken found_from settings all_allowed within filled bursts_in bursts_up_to replies_to said_to value_says joined any_wrong first_other qx_answer message same is_heard xor_all ◌⊕◌

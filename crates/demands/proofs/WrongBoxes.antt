@@ -1,6 +1,6 @@
 -- The wrong boxes. Assumes nothing.
 use Prim.Native.Nat.{ℕ, ◌*◌}
-use mathlib.Core.Bool.{Bool, true, false, false≢true}
+use mathlib.Core.Bool.{Bool, true, false}
 use mathlib.Core.Logic.{inl}
 use mathlib.Core.Path.{◌≡◌, refl, sym, ap, ◌∙◌}
 use mathlib.Core.List.{List, [], ◌∷◌, ◌++◌, map, flatten}
@@ -21,16 +21,16 @@ use Rattle.packet.proofs.Spoiled.{spoiled_broken, spoiled_damaged}
 use Rattle.panels.specs.Wall.{Wall, place_from}
 use Rattle.packet.specs.Answered.{is_heard}
 use Rattle.panels.specs.Addressed.{reaches}
-use Rattle.answers.specs.declared.Answer.{Answer}
 use Rattle.answers.specs.declared.Reply.{Reply}
 use Rattle.answers.specs.Reply.{silence, sent_bytes}
 use Rattle.answers.specs.Judged.{command, stored, off_already, takes, judge}
 use Rattle.answers.specs.Played.{Outcome, turned, answered, played}
-use Rattle.answers.specs.Session.{by_burst, Ended, session}
+use Rattle.answers.specs.Session.{by_burst, session}
 use Rattle.answers.specs.Sample.{two_panels}
 use Rattle.demands.specs.Demand3.{Box, SilenceOrNack}
 use Rattle.demands.specs.WrongBoxes.{always, every_nav, never_stores, first_alone, if_silent, stores_answered, one_late, other_than, guesses, written, Differs, AllDiffer, SomeWithstand}
 use Rattle.demands.proofs.Demand3.{withstands_by, withstands, damaged_still, damaged_may}
+use Rattle.std.proofs.lemmas.Grind.{common_steps}
 
 -- the bytes that a box sends in that session
 abbrev sent_by : Edition → Box → List ℕ
@@ -63,13 +63,13 @@ same_ours Edition.Sicp201 = refl
 module _ (edition : Edition) where
   same_bytes : (box : Box) → box two_panels (written edition) ≡ session edition two_panels (written edition) → sent_by edition box ≡ ours edition
   unfolding flatten
-  same_bytes box e = ap (λ (d : Ended). flatten (map (sent_bytes edition) d.replies)) e ∙ (tested edition).0
+  same_bytes box e = grind (arith, common_steps, tested)
 
   at : (k : ℕ) → get_or (tests edition) k true ≡ get_or (false ∷ false ∷ false ∷ false ∷ false ∷ false ∷ []) k true
   at k = ap (λ (l : List Bool). get_or l k true) (tested edition).1
 
   differs : (box : Box) → same (sent_by edition box) (ours edition) ≡ false → Differs edition box
-  differs box wrong e = false≢true (sym wrong ∙ ap (λ (l : List ℕ). same l (ours edition)) (same_bytes box e) ∙ same_ours edition)
+  differs box wrong e = grind (arith, common_steps, same_bytes, same_ours)
 
 -- four times the same bytes are not the 15 or 18 that ours sends
 not_four : (edition : Edition) (n : ℕ) → 4 * n ≡ length (ours edition) → ⊥
@@ -101,12 +101,7 @@ all_differ edition = (
 )
 
 answered_still : (edition : Edition) (w : Wall) (b : List ℕ) (d : Damage) → (reading_of edition b).verdict ≡ Verdict.Damaged d → (stores_answered edition w b).wall ≡ w
-answered_still edition w b d e = go (played edition w b).reply.answer
-  where
-    go : (a : Answer) → if_silent a w (played edition w b).wall ≡ w
-    go Answer.Silence = refl
-    go (Answer.Word c) = damaged_still w (reading_of edition b) d e
-    go Answer.Report = damaged_still w (reading_of edition b) d e
+answered_still edition w b d e = grind (arith, common_steps, played, if_silent, damaged_still, reading_of)
 
 -- on the other edition a spoiled packet is damaged as well
 not_guessed : (edition : Edition) (w : Wall) (p : List ℕ) (s : Spoiling) → is_intact edition p ≡ true → Spoils s p
