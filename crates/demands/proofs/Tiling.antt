@@ -1,13 +1,12 @@
 -- Where a panel sits in the wall. Assumes nothing.
-use Prim.Native.Nat.{ℕ, ◌+◌, ◌-◌, ◌*◌, ◌/◌, ◌%◌, ◌<◌}
+use Prim.Native.Nat.{ℕ, ◌+◌, ◌<◌}
 use mathlib.Core.Bool.{Bool, true, false, cond, false≢true, ◌&&◌, and-true, and-false}
-use mathlib.Core.Path.{◌≡◌, refl, sym, ap, ap₂, ◌∙◌}
+use mathlib.Core.Path.{◌≡◌, refl, sym, ap, ◌∙◌}
 use mathlib.Core.List.{List, [], ◌∷◌, flatten}
 use native.Mathlib.Omega.{arith}
 use borrow.Author.Tests.{le-leb}
 use lib.Dec.{leb, eqb}
-use lib.ListN.{get_or, take, drop, set}
-use Rattle.std.specs.Prelude.{Option, Some, None}
+use lib.ListN.{get_or, take, drop}
 use Rattle.std.specs.Option.{option_map_or}
 use Rattle.lists.proofs.Both.{both}
 use Rattle.tiling.specs.declared.Kind.{Kind}
@@ -17,7 +16,7 @@ use Rattle.tiling.proofs.Walls.{in_bounds, height_back, width_back, byte_fits, b
 use Rattle.tiling.proofs.Sizes.{largest_few, panels_few}
 use Rattle.tiling.proofs.Numbers.{number_back}
 use Rattle.models.specs.declared.Model.{Model}
-use Rattle.settings.specs.Settings.{settings, allowed_by_row, within, ◌to◌, all_allowed, in_ranges, values_of, kind_row, tiling_row}
+use Rattle.settings.specs.Settings.{settings, allowed_by_row, within, all_allowed, in_ranges, values_of, kind_row, tiling_row}
 use Rattle.codes.specs.Found.{found_from}
 use Rattle.models.specs.Models.{allowed_for, kind_for, filled}
 use Rattle.settings.proofs.Laws.{value_of}
