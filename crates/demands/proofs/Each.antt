@@ -1,7 +1,7 @@
 -- What bursts make of a wall, panel by panel. Assumes nothing.
 use Prim.Native.Nat.{ℕ}
 use mathlib.Core.Bool.{false}
-use mathlib.Core.Path.{◌≡◌, refl, sym, ap, ◌∙◌}
+use mathlib.Core.Path.{◌≡◌, refl, sym}
 use mathlib.Core.List.{List, [], ◌∷◌, map, map-map, map-id}
 use Rattle.packet.specs.declared.Edition.{Edition}
 use Rattle.packet.specs.declared.MonitorId.{MonitorId}
@@ -13,7 +13,7 @@ use Rattle.panels.specs.Wall.{Wall}
 use Rattle.panels.specs.Addressed.{reaches}
 use Rattle.answers.specs.Judged.{command, stored}
 use Rattle.answers.specs.Played.{turned, answered_by, answered}
-use Rattle.answers.specs.Session.{Ended, by_burst, session}
+use Rattle.answers.specs.Session.{by_burst, session}
 use Rattle.answers.proofs.Formed.{turned-keeps}
 use Rattle.answers.proofs.Turned.{stays}
 use Rattle.demands.proofs.Demand2.{by_readings}

@@ -1,17 +1,14 @@
 -- Lines of both editions. Assumes nothing.
 use Prim.Native.Nat.{ℕ}
-use mathlib.Core.Bool.{Bool, true, false, cond, and-false, ◌&&◌}
-use mathlib.Core.Path.{◌≡◌, refl, sym, ap, ◌∙◌}
+use mathlib.Core.Bool.{false, cond}
+use mathlib.Core.Path.{◌≡◌, refl, ◌∙◌}
 use mathlib.Core.List.{List, []}
-use borrow.Author.Tests.{eq-eqb, ne_eqb, eqb-true, eqb-false}
-use lib.Dec.{leb, ltb, eqb}
-use lib.ListN.{length, get_or}
+use lib.ListN.{get_or}
 use Rattle.std.specs.Prelude.{None}
-use Rattle.settings.specs.Settings.{most_values}
 use Rattle.packet.specs.declared.Edition.{Edition}
 use Rattle.packet.specs.declared.Verdict.{Verdict}
 use Rattle.packet.specs.Edition.{group_on}
-use Rattle.packet.specs.Packet.{monitor_id, group_id, longest, is_intact, verdict_of, data_of}
+use Rattle.packet.specs.Packet.{monitor_id, group_id, is_intact, verdict_of, data_of}
 use Rattle.packet.proofs.EachEdition.{number_back}
 use Rattle.packet.proofs.Packets.{intact-verdict}
 use Rattle.requests.specs.declared.Request.{Request}

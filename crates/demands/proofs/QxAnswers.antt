@@ -1,11 +1,11 @@
 -- The answers to the packets of a request, compared byte by byte. Assumes nothing.
 use Prim.Native.Nat.{ℕ, suc, ◌<◌}
-use mathlib.Core.Bool.{true, false, cond, and-false, or-false, or-true}
-use mathlib.Core.Path.{◌≡◌, refl, ap, ap₂, ◌∙◌}
+use mathlib.Core.Bool.{true, false, cond, or-true}
+use mathlib.Core.Path.{◌≡◌, refl, ap, ◌∙◌}
 use mathlib.Core.List.{List, [], ◌∷◌, ◌++◌, map, flatten}
 use native.Mathlib.Omega.{arith}
 use borrow.Author.Tests.{lt-ltb, eq-eqb}
-use lib.Dec.{ltb, eqb}
+use lib.Dec.{eqb}
 use Rattle.std.specs.Prelude.{Some, None, Ok, Err}
 use lib.ListN.{length, get_or, length-take, length-append, length-drop}
 use Rattle.lists.specs.Lists.{same, laid_over}
@@ -25,7 +25,6 @@ use Rattle.qx.specs.Message.{message, qx_packet, qx_answer}
 use Rattle.qx.specs.Asked as asked
 use Rattle.qx.specs.declared.Reply.{Reply}
 use Rattle.qx.specs.Replies.{Answer, wrong, value_says, said_to, replies_to, is_wrong, is_ack, any_wrong, first_other, joined, answers_all, heard_in, heard_by}
-use Rattle.qx.proofs.Replies.{alone}
 use Rattle.qx.specs.Translation.{packets_for, packets_in, translated_over}
 use Rattle.demands.proofs.Qx.{wanted, data_is, Fits, written, qx_numbers, taken, refused_data}
 use Rattle.demands.specs.Scenes.{list_of}

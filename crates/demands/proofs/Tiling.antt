@@ -1,13 +1,12 @@
 -- Where a panel sits in the wall. Assumes nothing.
-use Prim.Native.Nat.{ℕ, ◌+◌, ◌-◌, ◌*◌, ◌/◌, ◌%◌, ◌<◌}
+use Prim.Native.Nat.{ℕ, ◌+◌, ◌<◌}
 use mathlib.Core.Bool.{Bool, true, false, cond, false≢true, ◌&&◌, and-true, and-false}
-use mathlib.Core.Path.{◌≡◌, refl, sym, ap, ap₂, ◌∙◌}
+use mathlib.Core.Path.{◌≡◌, refl, sym, ap, ◌∙◌}
 use mathlib.Core.List.{List, [], ◌∷◌, flatten}
 use native.Mathlib.Omega.{arith}
 use borrow.Author.Tests.{le-leb}
 use lib.Dec.{leb, eqb}
-use lib.ListN.{get_or, take, drop, set}
-use Rattle.std.specs.Prelude.{Option, Some, None}
+use lib.ListN.{get_or, take, drop}
 use Rattle.std.specs.Option.{option_map_or}
 use Rattle.lists.proofs.Both.{both}
 use Rattle.tiling.specs.declared.Kind.{Kind}
@@ -17,7 +16,7 @@ use Rattle.tiling.proofs.Walls.{in_bounds, height_back, width_back, byte_fits, b
 use Rattle.tiling.proofs.Sizes.{largest_few, panels_few}
 use Rattle.tiling.proofs.Numbers.{number_back}
 use Rattle.models.specs.declared.Model.{Model}
-use Rattle.settings.specs.Settings.{settings, allowed_by_row, within, ◌to◌, all_allowed, in_ranges, values_of, kind_row, tiling_row}
+use Rattle.settings.specs.Settings.{settings, allowed_by_row, within, all_allowed, in_ranges, values_of, kind_row, tiling_row}
 use Rattle.codes.specs.Found.{found_from}
 use Rattle.models.specs.Models.{allowed_for, kind_for, filled}
 use Rattle.settings.proofs.Laws.{value_of}
@@ -34,16 +33,14 @@ use Rattle.demands.proofs.Demand2.{in_range_lem}
 use Rattle.demands.proofs.Profiles.{up_to_lem, own_model}
 use Rattle.demands.proofs.ToOne.{set-reply, panel, asked_good, asked_reached, asked_replies}
 use Rattle.demands.specs.Tiling.{WallBack, ByteBack, ManualWrong, sits, TilingSet, AlwaysSits, HostTiling}
+use Rattle.std.proofs.lemmas.Grind.{common_steps}
 
 -- The arithmetic.
 pub wall_back : WallBack
-wall_back widest highest v h tall wide =
-    let (v1, vn) = in_bounds _ _ tall in
-    let (h1, hn) = in_bounds _ _ wide in
-    (byte_fits widest highest v h v1 vn h1 hn, height_back widest highest v h v1 vn h1 hn, width_back widest highest v h v1 vn h1 hn)
+wall_back widest highest v h tall wide = grind (arith, common_steps, in_bounds, byte_fits, height_back, width_back)
 
 pub byte_and_wall : ByteBack
-byte_and_wall widest highest byte fits = (height_fits widest highest byte fits, width_fits widest highest byte fits, byte_back widest highest byte fits)
+byte_and_wall widest highest byte fits = grind (arith, common_steps, height_fits, width_fits, byte_back)
 
 pub manual_wrong : ManualWrong
 manual_wrong = (refl, refl, refl, refl)
@@ -51,24 +48,12 @@ manual_wrong = (refl, refl, refl, refl)
 -- The two kinds in the paper's numbers.
 sits_in_wall : (n position byte : ℕ) → sits n position byte ≡ in_wall (kind_for n) position byte
 unfolding sits in_wall kind_with
-sits_in_wall n position byte = go (eqb n 0) (eqb n 1)
-  where
-    go : (t s : Bool)
-        → let widest : ℕ = cond t 5 15 in
-        (up_to (cond t 25 150) byte && up_to (((byte - 1) / widest + 1) * ((byte - 1) % widest + 1)) position)
-        ≡ in_wall (option_map_or (λ kind. kind) (cond t (Some Kind.FiveByFive) (cond s (Some Kind.FifteenByTen) None)) Kind.FifteenByTen) position byte
-    go true s = refl
-    go false true = refl
-    go false false = refl
+sits_in_wall n position byte = grind (arith, common_steps)
 
 -- a position and a wall are bytes
 wall-few : (kind : Kind) (position byte : ℕ) → in_wall kind position byte ≡ true → (leb position 255 ≡ true) × (leb byte 255 ≡ true)
 unfolding in_wall
-wall-few kind position byte e =
-    let (is, there) = both (up_to (largest kind) byte) _ e in
-    let (_, most) = in_bounds _ position there in
-    let (_, last) = in_bounds (largest kind) byte is in
-    (le-leb position 255 (omega (arith, panels_few kind byte is)), le-leb byte 255 (omega (arith, largest_few kind)))
+wall-few kind position byte e = grind (arith, common_steps, both, largest, in_bounds, le-leb, panels_few, largest_few)
 
 -- so that of a tiling only the flags' ranges and the wall count
 four : (a b c x y : Bool) → (c ≡ true → (x ≡ true) × (y ≡ true)) → ((a && (b && (x && (y && true)))) && c) ≡ (a && (b && c))
@@ -80,9 +65,7 @@ four true true true x y h = let (p, q) = h refl in rw (p, q)
 allowed_is : (model : Model) (enable frame position wall : ℕ)
     → allowed_for model tiling_row (enable ∷ frame ∷ position ∷ wall ∷ []) ≡ (leb enable 1 && (leb frame 1 && in_wall model.kind position wall))
 unfolding settings all_allowed
-allowed_is model enable frame position wall =
-    rw (up_to_lem 1 enable, up_to_lem 1 frame, up_to_lem 255 position, up_to_lem 255 wall)
-    (four (leb enable 1) (leb frame 1) (in_wall model.kind position wall) (leb position 255) (leb wall 255) (wall-few model.kind position wall))
+allowed_is model enable frame position wall = grind (arith, common_steps, up_to_lem, four, wall-few)
 
 -- Kind, position and wall among a panel's values.
 module _ (values : List ℕ) where
@@ -91,7 +74,7 @@ module _ (values : List ℕ) where
   kind_is = sym (value_of kind_row 0 values (omega arith))
 
   pub in_own_wall : (position byte : ℕ) → sits (get_or values 0 0) position byte ≡ in_wall (kind_for (get_or (values_of kind_row values) 0 0)) position byte
-  in_own_wall position byte = sits_in_wall (get_or values 0 0) position byte ∙ ap (λ (n : ℕ). in_wall (kind_for n) position byte) kind_is
+  in_own_wall position byte = grind (arith, common_steps, sits_in_wall, kind_for, kind_is)
 
   pub value_at : (k : ℕ) → k < 4 → get_or (values_of tiling_row values) k 0 ≡ get_or values (2 + k) 0
   unfolding settings allowed_by_row flatten
@@ -110,11 +93,7 @@ module _ (p : Panel) (enable frame position byte : ℕ) where
 
   held_is : held_then tiling_row vs p ≡ enable ∷ frame ∷ position ∷ wall ∷ []
   unfolding filled
-  held_is = go (eqb byte 0)
-    where
-      go : (t : Bool) → cond t (set vs 3 (get_or (values_of tiling_row p.values) 3 0)) vs ≡ enable ∷ frame ∷ position ∷ cond t (get_or p.values 5 0) byte ∷ []
-      go true = ap (λ (w : ℕ). enable ∷ frame ∷ position ∷ w ∷ []) (value_at p.values 3 (omega arith))
-      go false = refl
+  held_is = grind (arith, common_steps, values_of, tiling_row, value_at)
 
   pub held-allowed : allowed_for (model_of p) tiling_row (held_then tiling_row vs p) ≡ good
   held-allowed =
@@ -157,13 +136,11 @@ tiling_set t f i k enable frame position byte n there r intact part =
 kind_few : (model : Model) (values : List ℕ) → allowed_for model kind_row (values_of kind_row values) ≡ true → leb (get_or values 0 0) 1 ≡ true
 unfolding settings allowed_by_row flatten all_allowed
 kind_few model [] e = absurd (false≢true e)
-kind_few model (n ∷ values) e = sym (up_to_lem 1 n) ∙ (both (within (0 to 1) n) true (both (within (0 to 1) n && true) true e).0).0
+kind_few model (n ∷ values) e = grind (arith, common_steps, up_to_lem, both, within)
 
 sits_there : (p : Panel) → allowed_for (model_of p) tiling_row (values_of tiling_row p.values) ≡ true
     → sits (get_or p.values 0 0) (get_or p.values 4 0) (get_or p.values 5 0) ≡ true
-sits_there p e =
-    in_own_wall p.values (get_or p.values 4 0) (get_or p.values 5 0)
-    ∙ ap₂ (in_wall (model_of p).kind) (sym (value_at p.values 2 (omega arith))) (sym (value_at p.values 3 (omega arith))) ∙ (both (in_ranges p.profile tiling_row (values_of tiling_row p.values)) _ e).1
+sits_there p e = grind (arith, common_steps, in_own_wall, model_of, value_at, both, in_ranges, tiling_row, values_of)
 
 pub always-sits : AlwaysSits
 always-sits t c k h =
@@ -178,24 +155,8 @@ in_largest Kind.FiveByFive position = refl
 in_largest Kind.FifteenByTen position = refl
 
 sits_by : (kind : Kind) (position byte : ℕ) → in_wall kind position byte ≡ sits (kind_number kind) position byte
-sits_by kind position byte =
-    ap (λ (n : Option Kind). in_wall (option_map_or (λ k. k) n Kind.FifteenByTen) position byte) (sym (number_back kind)) ∙ sym (sits_in_wall (kind_number kind) position byte)
+sits_by kind position byte = grind (arith, common_steps, option_map_or, number_back, sits_in_wall, kind_number)
 
 pub host_tiling : HostTiling
 unfolding settings is_report filled
-host_tiling model enable frame position byte = (go (eqb byte 0), told)
-  where
-    kind : Kind
-    kind = model.kind
-
-    with_flags : {s r : Bool} → s ≡ r → (leb enable 1 && (leb frame 1 && s)) ≡ (leb enable 1 && (leb frame 1 && r))
-    with_flags e = ap (λ (s : Bool). leb enable 1 && (leb frame 1 && s)) e
-
-    told : allowed_for model tiling_row (enable ∷ frame ∷ position ∷ byte ∷ []) ≡ (leb enable 1 && (leb frame 1 && sits (kind_number kind) position byte))
-    told = allowed_is model enable frame position byte ∙ with_flags (sits_by kind position byte)
-
-    go : (t : Bool)
-        → allowed_for model tiling_row (cond t (enable ∷ frame ∷ position ∷ largest kind ∷ []) (enable ∷ frame ∷ position ∷ byte ∷ []))
-        ≡ (leb enable 1 && (leb frame 1 && cond t (up_to (cond (eqb (kind_number kind) 0) 25 150) position) (sits (kind_number kind) position byte)))
-    go true = allowed_is model enable frame position (largest kind) ∙ with_flags (in_largest kind position)
-    go false = told
+host_tiling model enable frame position byte = grind (arith, common_steps, allowed_for, tiling_row, kind_number, allowed_is, sits_by, largest, in_largest)
