@@ -7,8 +7,6 @@ use native.Mathlib.Omega.{arith}
 use borrow.Author.Tests.{ne_eqb}
 use lib.ListN.{length, get_or}
 use Rattle.std.proofs.lemmas.List.{get_or-map}
-use Rattle.codes.specs.declared.Found.{Found}
-use Rattle.lists.proofs.Mapped.{at_map}
 use Rattle.std.proofs.Common.{Option, Some}
 use Rattle.codes.specs.declared.Code.{Code}
 use Rattle.codes.specs.Found.{found_by}
