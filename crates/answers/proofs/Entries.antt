@@ -4,6 +4,7 @@ use mathlib.Core.List.{List, map}
 use Prim.Native.Nat.{ℕ, ◌%◌, ◌<◌}
 use native.Mathlib.Omega.{arith}
 use lib.ListN.{length, get_or}
+use Rattle.std.proofs.lemmas.List.{get_or_default}
 use Rattle.packet.specs.declared.MonitorId.{MonitorId}
 use Rattle.packet.specs.declared.Edition.{Edition}
 use Rattle.packet.specs.declared.Verdict.{Verdict}
@@ -13,7 +14,6 @@ use Rattle.panels.specs.declared.Panel.{Panel}
 use Rattle.panels.specs.declared.Table.{Table}
 use Rattle.panels.specs.Wall.{Wall, blank, panels_of, table_of, most_panels, id_count, group_count}
 use Rattle.panels.specs.WellFormed.{WellFormed}
-use Rattle.lists.proofs.Places.{get_d_inside}
 use Rattle.panels.proofs.Laws.{held_places, places_many}
 use Rattle.panels.proofs.Index.{place_found, members_found}
 use Rattle.answers.specs.declared.Entry.{Entry}
@@ -37,7 +37,7 @@ entry_is {t} f n i g count c d =
     let members = members_found f n.group g 0 in
     let k = get_or t.places n.id.0 0 % most_panels in
     let many : length t.panels ≡ most_panels = ap length (held_places f) ∙ places_many _ f.few in
-    let panel : get_or t.panels k d ≡ get_or t.panels k blank = get_d_inside t.panels k d blank (omega arith) in
+    let panel : get_or t.panels k d ≡ get_or t.panels k blank = get_or_default t.panels k d blank (omega arith) in
     let there = panel ∙ ap₂ (λ (l : List Panel) (m : ℕ). get_or l m blank) (held_places f) (ap (λ (m : ℕ). m % most_panels) at) in
     λ j. record { count = c j; members = members j; at = at j; panel = there j }
 

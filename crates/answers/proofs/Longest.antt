@@ -11,7 +11,8 @@ use Rattle.std.specs.Prelude.{Option, Some, None}
 use Rattle.lists.proofs.Sizes.{by_size}
 use Rattle.settings.specs.Settings.{row_count}
 use Rattle.settings.proofs.Laws.{byte-count-few}
-use Rattle.codes.specs.declared.Found.{Found}
+use Rattle.std.proofs.Common.{Option, Some, None}
+use Rattle.codes.specs.declared.Code.{Code}
 use Rattle.codes.specs.Found.{found_by}
 use Rattle.codes.proofs.Laws.{IsFound, found_right}
 use Rattle.packet.specs.declared.MonitorId.{MonitorId}
@@ -36,10 +37,10 @@ too_much (code ∷ v ∷ vs) h p = go (found_by code) (found_right code)
     kept row few true t = absurd (omega (arith, byte-count-few few, taken_many row (code ∷ v ∷ vs) p (omega arith) t))
     kept row few false t = judge_not (set_of row (v ∷ vs)) row (v ∷ vs) p refl t
 
-    go : (f : Found) → IsFound code f → judge (command_by f (v ∷ vs)) p ≡ not_available
-    go (Found.Set row) (few, _, _) = kept row few (takes row (v ∷ vs) p) refl
-    go (Found.Get row) f = refl
-    go Found.Nothing f = refl
+    go : (f : Option Code) → IsFound code f → judge (command_by f (v ∷ vs)) p ≡ not_available
+    go (Some (Code.Set row)) (few, _, _) = kept row few (takes row (v ∷ vs) p) refl
+    go (Some (Code.Get row)) f = refl
+    go None f = refl
 
 -- so of a packet's data more than that is not needed
 module _ (n : ℕ) (most : most_reported < n) (d : List ℕ) where

@@ -9,7 +9,8 @@ use lib.ListN.{length, get_or, drop, length-drop}
 use Rattle.lists.specs.Lists.{same}
 use Rattle.lists.proofs.Both.{both}
 use Rattle.lists.proofs.Same.{same_first}
-use Rattle.codes.specs.declared.Found.{Found}
+use Rattle.std.proofs.Common.{Option, Some, None}
+use Rattle.codes.specs.declared.Code.{Code}
 use Rattle.settings.specs.Settings.{settings, get_code, byte_count, place, allowed_by_row, values_of, row_count, kind_row, power_row, off}
 use Rattle.codes.specs.Found.{found_by}
 use Rattle.models.specs.Models.{allowed_for}
@@ -27,12 +28,12 @@ OrderIs d (Order.Report row) = (row < row_count) × (command d ≡ get_of row)
 OrderIs d (Order.Store row) = (row < row_count) × (0 < length d) × (command d ≡ set_of row (drop 1 d))
 OrderIs d Order.NotAvailable = (p : Panel) → judge (command d) p ≡ not_available
 
-order_found : (code : ℕ) (vs : List ℕ) (f : Found) → IsFound code f → command (code ∷ vs) ≡ command_by f vs
+order_found : (code : ℕ) (vs : List ℕ) (f : Option Code) → IsFound code f → command (code ∷ vs) ≡ command_by f vs
     → OrderIs (code ∷ vs) (order_of (command_by f vs))
-order_found code vs (Found.Set row) (h, _, _) e = (h, omega arith, e)
-order_found code [] (Found.Get row) (h, _, _) e = (h, e)
-order_found code (v ∷ vs) (Found.Get row) h e = λ p. unfold judge in rw e
-order_found code vs Found.Nothing h e = λ p. unfold judge in rw e
+order_found code vs (Some (Code.Set row)) (h, _, _) e = (h, omega arith, e)
+order_found code [] (Some (Code.Get row)) (h, _, _) e = (h, e)
+order_found code (v ∷ vs) (Some (Code.Get row)) h e = λ p. unfold judge in rw e
+order_found code vs None h e = λ p. unfold judge in rw e
 
 pub order_right : (d : List ℕ) → OrderIs d (order_of (command d))
 unfolding command
@@ -65,11 +66,11 @@ unfolding command
 on_line [] = tt
 on_line (code ∷ vs) = go (found_by code) vs (found_right code)
   where
-    go : (f : Found) (vs : List ℕ) → IsFound code f → OnLine (command_by f vs)
-    go (Found.Set row) vs (h, _, s) = (s, h)
-    go (Found.Get row) [] (h, _, s) = (s, h)
-    go (Found.Get row) (v ∷ vs) f = tt
-    go Found.Nothing vs f = tt
+    go : (f : Option Code) (vs : List ℕ) → IsFound code f → OnLine (command_by f vs)
+    go (Some (Code.Set row)) vs (h, _, s) = (s, h)
+    go (Some (Code.Get row)) [] (h, _, s) = (s, h)
+    go (Some (Code.Get row)) (v ∷ vs) f = tt
+    go None vs f = tt
 
 -- what a panel takes its own profile and kind allow it to hold,
 pub taken-allowed : (row : ℕ) (vs : List ℕ) (p : Panel) → takes row vs p ≡ true → allowed_for (model_of p) row (held_then row vs p) ≡ true

@@ -7,10 +7,9 @@ use borrow.Rule.Slice.PartMut.{mid_of, put_mid}
 use native.Mathlib.Numerals.{add-one}
 use native.Mathlib.Omega.{arith}
 use lib.ListN.{length, get_or, take, drop, set, length-append, length-take, length-drop, length-map}
-use Rattle.std.proofs.lemmas.List.{drop_all}
+use Rattle.std.proofs.lemmas.List.{drop_all, get_or_default, take-map}
 use lib.Seq.{set-get_or, take_all, get_or-take, take-add, drop-drop}
-use Rattle.lists.proofs.Places.{get_d_inside}
-use Rattle.lists.proofs.Mapped.{map_same, take-map, seam_on}
+use Rattle.lists.proofs.Mapped.{map_same, seam_on}
 use Rattle.panels.specs.declared.Panel.{Panel}
 use Rattle.panels.specs.declared.Table.{Table}
 use Rattle.panels.specs.Wall.{blank, panels_of, table_of, most_panels}
@@ -78,7 +77,7 @@ module _ (c : Change) (d : List ℕ) (l : List Panel) {u : List Panel} {k : ℕ}
   next = take (k + 1) (map (turned_by c d) l) ++ drop (k + 1) l
 
   here : (e : Panel) → get_or u k e ≡ get_or u k blank
-  here e = get_d_inside u k e blank (rw (is, length-append, length-take, length-drop, length-map) (omega arith))
+  here e = get_or_default u k e blank (rw (is, length-append, length-take, length-drop, length-map) (omega arith))
 
   turned_on : (q : Panel) → q ≡ turned_by c d (get_or u k blank) → set u k q ≡ next
   turned_on q p = ap (set u k) p ∙ rw (is, add-one) (turn_next (turned_by c d) l k h)

@@ -6,7 +6,7 @@ use Prim.Native.Nat.{ℕ, ◌+◌, ◌-◌}
 use native.Mathlib.Nat.{suc-sub-suc}
 use native.Mathlib.Omega.{arith}
 use lib.ListN.{length, take, drop, replicate}
-use Rattle.lists.proofs.Places.{drop-replicate}
+use Rattle.std.proofs.lemmas.List.{drop-replicate}
 use Rattle.panels.proofs.Values.{length-values}
 use Rattle.settings.specs.Settings.{byte_count, place, most_values, value_count, values_of}
 use Rattle.packet.specs.Packet.{monitor_id}

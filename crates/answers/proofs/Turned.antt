@@ -5,6 +5,7 @@ use mathlib.Core.List.{List, ◌++◌, map}
 use Prim.Native.Nat.{ℕ, suc, ◌+◌, ◌<◌}
 use native.Mathlib.Omega.{arith}
 use lib.ListN.{length, get_or, take, drop, set, length-map}
+use Rattle.std.proofs.lemmas.List.{get_or-map}
 use Rattle.settings.specs.Settings.{byte_count}
 use Rattle.packet.specs.declared.GroupId.{GroupId}
 use Rattle.packet.specs.declared.MonitorId.{MonitorId}
@@ -12,7 +13,6 @@ use Rattle.panels.specs.declared.Panel.{Panel}
 use Rattle.panels.specs.Wall.{Wall, blank}
 use Rattle.panels.specs.Addressed.{reaches}
 use Rattle.lists.proofs.Both.{both}
-use Rattle.lists.proofs.Mapped.{at_map}
 use Rattle.lists.proofs.Places.{store, from_seam}
 use Rattle.answers.specs.declared.Names.{Names}
 use Rattle.answers.specs.Judged.{Command, set_of, judge, takes, stored, held_then, panel_after}
@@ -52,5 +52,5 @@ pub turn_next : (f : Panel → Panel) (w : Wall) (k : ℕ) → k < length w
     → let l = take k (map f w) ++ drop k w in set l k (f (get_or l k blank)) ≡ take (suc k) (map f w) ++ drop (suc k) w
 turn_next f w k h =
     let n = length-map w f in
-    let here = ap f (from_seam (map f w) w k k blank (omega arith) (omega arith) (omega arith)) ∙ sym (at_map f w k blank blank h) in
+    let here = ap f (from_seam (map f w) w k k blank (omega arith) (omega arith) (omega arith)) ∙ sym (get_or-map f w k blank blank h) in
     rw here (store (map f w) w k blank (omega arith) h)

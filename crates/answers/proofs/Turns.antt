@@ -12,7 +12,6 @@ use lib.ListN.{length, get_or, drop}
 use Rattle.packet.specs.declared.MonitorId.{MonitorId}
 use Rattle.std.specs.Prelude.{Option, Some, None, is_some}
 use Rattle.std.specs.Option.{option_map}
-use Rattle.settings.specs.Settings.{row_count}
 use Rattle.packet.specs.declared.Verdict.{Verdict}
 use Rattle.packet.specs.Packet.{group_id}
 use Rattle.packet.specs.Answered.{is_heard}
@@ -104,12 +103,11 @@ module _ (n : Names) (w : Wall) (few : length w ≤ most_panels) (good : GoodWal
       go false ea b eb = group (eqb-false _ _ ea) (members_of n.group w) refl
 
   -- what a set changes, in the places of its packet
-  module _ (row : ℕ) (d : List ℕ) (r : row < row_count) (h : 0 < length d) (e : command d ≡ set_of row (drop 1 d)) where
+  module _ (row : ℕ) (d : List ℕ) (h : 0 < length d) (e : command d ≡ set_of row (drop 1 d)) where
     set_change : (s : Option Span) → Reached n w s → Leaves (option_map (change_in n row (drop 1 d)) s) d w (map (turned n.id n.group (command d)) w)
     set_change None s = map_same (turned n.id n.group (command d)) blank w (λ k m. stays n.id n.group (command d) (get_or w k blank) (s k m))
     set_change (Some p) s = (
       record {
-        is_row = r;
         has_code = h;
         judged = refl;
         ordered = s.ordered;
@@ -160,8 +158,8 @@ module _ (w : Wall) (few : length w ≤ most_panels) (good : GoodWall w) where
   unfolding change_of turned
   order_leaves n d (get_of row) s (_, e) =
       map_same _ blank w (λ k h. either_way (reaches n.id n.group _) (ap (λ (j : Judged). panel_after j (get_or w k blank)) (judge-get (command d) row (get_or w k blank) e)))
-  order_leaves n d (set_of row values) s (r, h, e) =
-      subst (λ (c : Command). Leaves (change_of (entry_of w n) n c) d w (map (turned n.id n.group (command d)) w)) (sym e ∙ s) (set_change n w few good row d r h e _ (span_holds n w few good))
+  order_leaves n d (set_of row values) s (_, h, e) =
+      subst (λ (c : Command). Leaves (change_of (entry_of w n) n c) d w (map (turned n.id n.group (command d)) w)) (sym e ∙ s) (set_change n w few good row d h e _ (span_holds n w few good))
   order_leaves n d unavailable s o =
       map_same _ blank w (λ k h. either_way (reaches n.id n.group _) (ap (λ (j : Judged). panel_after j (get_or w k blank)) (o (get_or w k blank))))
 

@@ -2,7 +2,8 @@
 -- A5: power off while off; A6: by its own kind, and by the wall that it has.
 use Rattle.std.specs.Prelude.{ℕ, Bool, cond, not, ◌&&◌, List, [], ◌∷◌, eqb, get_or}
 use Rattle.lists.specs.Lists.{same}
-use Rattle.codes.specs.declared.Found.{Found}
+use Rattle.std.specs.Prelude.{Option, Some, None}
+use Rattle.codes.specs.declared.Code.{Code}
 use Rattle.settings.specs.Settings.{get_code, values_of, values_with, power_row, off}
 use Rattle.codes.specs.Found.{found_by}
 use Rattle.models.specs.Models.{allowed_for, filled}
@@ -19,11 +20,11 @@ pub data Command : Type 0 where
   unavailable : Command
 
 -- set data is the set code and then the values, get data the get code alone
-abbrev pub command_by : Found → List ℕ → Command
-command_by (Found.Set row) values = set_of row values
-command_by (Found.Get row) [] = get_of row
-command_by (Found.Get row) (v ∷ values) = unavailable
-command_by Found.Nothing values = unavailable
+abbrev pub command_by : Option Code → List ℕ → Command
+command_by (Some (Code.Set row)) values = set_of row values
+command_by (Some (Code.Get row)) [] = get_of row
+command_by (Some (Code.Get row)) (v ∷ values) = unavailable
+command_by None values = unavailable
 
 unfoldable pub command : List ℕ → Command
 command [] = unavailable

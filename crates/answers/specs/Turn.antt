@@ -3,7 +3,7 @@
 use Rattle.std.specs.Prelude.{ℕ, suc, ◌%◌, ◌≤◌, ◌<◌, Bool, cond, ◌&&◌, List, [], ◌∷◌, ◌≡◌, Option, Some, None, eqb, ltb, length, get_or, drop}
 use Rattle.std.specs.Option.{option_map}
 use Rattle.settings.specs.declared.Profile.{Profile}
-use Rattle.settings.specs.Settings.{in_ranges, row_count}
+use Rattle.settings.specs.Settings.{in_ranges}
 use Rattle.packet.specs.declared.Control.{Control}
 use Rattle.packet.specs.declared.Edition.{Edition}
 use Rattle.packet.specs.declared.GroupId.{GroupId}
@@ -95,7 +95,6 @@ turned_by c d = turned c.names.id c.names.group (set_of c.row (drop 1 d))
 
 -- a change that is one of this wall: outside of its places nothing would be stored
 pub record Fits (c : Change) (d : List ℕ) (w : Wall) : Type 0 where
-  pub is_row : c.row < row_count
   pub has_code : 0 < length d
   pub judged : c.allowed ≡ allowed_by c.row (drop 1 d)
   pub ordered : c.span.first ≤ c.span.end

@@ -1,15 +1,15 @@
 // What a packet's data asks, and what a panel does with it.
 ghost use Rattle.std.specs.Prelude.{◌≡◌, ◌∷◌, ◌+◌, ◌<◌, length, drop};
-ghost use Rattle.settings.specs.Settings.{get_code, byte_count, values_of, values_with, row_count, tiling_row};
+ghost use Rattle.settings.specs.Settings.{get_code, byte_count, values_of, values_with, tiling_row};
 ghost use Rattle.answers.specs.Reply.{report_from};
 ghost use Rattle.answers.specs.Judged.{command, stored, off_already, held_then, takes};
 ghost use Rattle.answers.specs.Turn.{allowed_by, is_stored};
 ghost use Rattle.answers.specs.Private.Orders.{order_of, stands_then};
 
 use crate::{Answer, MOST_REPORTED, Names, Order, PROFILE_COUNT, Reply, TILING_COUNT};
-use codes::Found;
+use codes::Code;
 use panels::Panel;
-use settings::{OFF, POWER_ROW, Profile, TILING_ROW, VALUE_COUNT};
+use settings::{OFF, Profile, Row, VALUE_COUNT};
 
 // What these data bytes ask.
 pub fn order_of(d: &[u8]) -> Order
@@ -19,23 +19,24 @@ pub fn order_of(d: &[u8]) -> Order
     if n == 0 {
         return Order::NotAvailable;
     }
-    let found = codes::found_by(d[0]);
-    match found {
-        Found::Set(row) => Order::Store(row),
-        Found::Get(row) => {
+    let Some(code) = codes::found_by(d[0]) else {
+        return Order::NotAvailable;
+    };
+    match code {
+        Code::Set(row) => Order::Store(row),
+        Code::Get(row) => {
             if n == 1 {
                 Order::Report(row)
             } else {
                 Order::NotAvailable
             }
         }
-        Found::Nothing => Order::NotAvailable,
     }
 }
 
 // For each profile, by its number, whether its ranges allow the values behind the set code.
-pub fn allowed_by(row: usize, d: &[u8]) -> [bool; PROFILE_COUNT]
-    requires { (row < row_count) × (0 < length d.now) }
+pub fn allowed_by(row: Row, d: &[u8]) -> [bool; PROFILE_COUNT]
+    requires { 0 < length d.now }
     ensures { result ≡ allowed_by row (drop 1 d.now) }
 {
     let general = settings::in_ranges(Profile::General, row, &d[1..]);
@@ -44,17 +45,17 @@ pub fn allowed_by(row: usize, d: &[u8]) -> [bool; PROFILE_COUNT]
 }
 
 // Whether they turn off a panel that is off.
-fn off_already(p: Panel, row: usize, d: &[u8]) -> bool
+fn off_already(p: Panel, row: Row, d: &[u8]) -> bool
     ensures { result ≡ off_already row (drop 1 d.now) p }
 {
-    if row != POWER_ROW {
+    if row != Row::POWER {
         return false;
     }
     if d.len() != 2 {
         return false;
     }
     let values = p.values;
-    d[1] == OFF && values[settings::place_of(POWER_ROW)] == OFF
+    d[1] == OFF && values[Row::POWER.place()] == OFF
 }
 
 // The tiling that a panel would then hold: byte 0 leaves it the wall that it has.
@@ -63,9 +64,9 @@ fn tiling_then(p: Panel, d: &[u8]) -> [u8; TILING_COUNT]
     ensures { result ≡ held_then tiling_row (drop 1 d.now) p }
 {
     let values = p.values;
-    let wall = values[settings::place_of(TILING_ROW) + 3];
+    let wall = values[Row::TILING.place() + 3];
     let mut held = [d[1], d[2], d[3], d[4]];
-    models::fill(TILING_ROW, wall, &mut held);
+    models::fill(Row::TILING, wall, &mut held);
     held
 }
 
@@ -83,7 +84,7 @@ fn stands(p: Panel, d: &[u8]) -> bool
 }
 
 // Whether a panel takes them: its own profile and kind allow them, and they do not turn it off while it is off.
-pub fn takes(p: Panel, row: usize, allowed: [bool; PROFILE_COUNT], d: &[u8]) -> bool
+pub fn takes(p: Panel, row: Row, allowed: [bool; PROFILE_COUNT], d: &[u8]) -> bool
     requires { allowed ≡ allowed_by row (drop 1 d.now) }
     ensures { result ≡ takes row (drop 1 d.now) p }
 {
@@ -92,20 +93,14 @@ pub fn takes(p: Panel, row: usize, allowed: [bool; PROFILE_COUNT], d: &[u8]) -> 
     if !allowed[number] {
         return false;
     }
-    if row == TILING_ROW {
+    if row == Row::TILING {
         return stands(p, d);
     }
     !off_already(p, row, d)
 }
 
 // Whether a panel is addressed and takes them.
-pub fn is_stored(
-    p: Panel,
-    names: Names,
-    row: usize,
-    allowed: [bool; PROFILE_COUNT],
-    d: &[u8],
-) -> bool
+pub fn is_stored(p: Panel, names: Names, row: Row, allowed: [bool; PROFILE_COUNT], d: &[u8]) -> bool
     requires { allowed ≡ allowed_by row (drop 1 d.now) }
     ensures { result ≡ is_stored names row (drop 1 d.now) p }
 {
@@ -113,19 +108,19 @@ pub fn is_stored(
 }
 
 // A row's values stored among a panel's.
-fn store(row: usize, vs: &[u8], values: &mut [u8; VALUE_COUNT])
-    requires { (row < row_count) × (length vs.now ≡ byte_count row) }
+fn store(row: Row, vs: &[u8], values: &mut [u8; VALUE_COUNT])
+    requires { length vs.now ≡ byte_count row }
     ensures { values.new ≡ values_with row vs.now values.old }
 {
-    settings::store(row, vs, values);
+    row.store(vs, values);
 }
 
 // The panel with the values behind the set code stored in a row.
-pub fn with_values(mut p: Panel, row: usize, d: &[u8]) -> Panel
-    requires { (row < row_count) × (length d.now ≡ byte_count row + 1) }
+pub fn with_values(mut p: Panel, row: Row, d: &[u8]) -> Panel
+    requires { length d.now ≡ byte_count row + 1 }
     ensures { result ≡ stored row (held_then row (drop 1 d.now) p) p }
 {
-    if row == TILING_ROW {
+    if row == Row::TILING {
         let held = tiling_then(p, d);
         store(row, &held, &mut p.values);
         return p;
@@ -135,15 +130,14 @@ pub fn with_values(mut p: Panel, row: usize, d: &[u8]) -> Panel
 }
 
 // A panel's report of a row: the get code, and then its values.
-pub fn report_of(p: Panel, row: usize) -> Reply
-    requires { row < row_count }
+pub fn report_of(p: Panel, row: Row) -> Reply
     ensures { result ≡ report_from p.id (get_code row ∷ values_of row p.values) }
 {
-    let first = settings::place_of(row);
-    let count = settings::byte_count(row);
+    let first = row.place();
+    let count = row.byte_count();
     let values = p.values;
     let mut bytes = [0u8; MOST_REPORTED];
-    bytes[0] = settings::get_code(row);
+    bytes[0] = row.get_code();
     bytes[1..count + 1].copy_from_slice(&values[first..first + count]);
     Reply {
         answer: Answer::Report,

@@ -10,7 +10,7 @@ pub use answering::write_answer;
 use packet::{Control, Damage, GroupId, MonitorId};
 use panels::{Panel, Table};
 pub use playing::{answered_on, hear, play, store};
-use settings::MOST_VALUES;
+use settings::{MOST_VALUES, Row};
 
 // A report's data at its longest: the get code, and the values of the largest row.
 pub const MOST_REPORTED: usize = MOST_VALUES + 1;
@@ -41,8 +41,8 @@ pub struct Reply {
 // or nothing that is available.
 #[derive(Clone, Copy)]
 enum Order {
-    Report(usize),
-    Store(usize),
+    Report(Row),
+    Store(Row),
     NotAvailable,
 }
 
@@ -74,7 +74,7 @@ pub struct Span {
 #[derive(Clone, Copy)]
 pub struct Change {
     pub names: Names,
-    pub row: usize,
+    pub row: Row,
     pub allowed: [bool; PROFILE_COUNT],
     pub span: Span,
 }

@@ -60,13 +60,13 @@ pub fn answered_on(mut t: Table, reading: Reading) -> Played
 {
     let entry = entry_of(&t, turning::names_in(reading));
     let turn = turning::turn_of(entry, reading);
-    if let Some(change) = turn.change {
-        store(&mut t, change, reading.data);
+    if let Some(change) = &turn.change {
+        store(&mut t, *change, reading.data);
     }
     Played {
         table: t,
         reply: turn.reply,
-        damage: packet::damage_in(reading.verdict),
+        damage: reading.verdict.damage(),
     }
 }
 

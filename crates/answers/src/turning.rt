@@ -59,11 +59,11 @@ fn span_of(entry: Entry, names: Names) -> Option<Span>
 }
 
 // For each profile, by its number, whether its ranges allow what an order stores.
-fn allowed_in(order: Order, d: &[u8]) -> [bool; PROFILE_COUNT]
-    requires { order ≡ order_of (command d.now) }
-    ensures { result ≡ allowed_in order (drop 1 d.now) }
+fn allowed_in(order: &Order, d: &[u8]) -> [bool; PROFILE_COUNT]
+    requires { order.now ≡ order_of (command d.now) }
+    ensures { result ≡ allowed_in order.now (drop 1 d.now) }
 {
-    match order {
+    match *order {
         Order::Store(row) => judging::allowed_by(row, d),
         _ => [false; PROFILE_COUNT],
     }
@@ -74,14 +74,14 @@ fn allowed_in(order: Order, d: &[u8]) -> [bool; PROFILE_COUNT]
 fn change_of(
     entry: Entry,
     names: Names,
-    order: Order,
+    order: &Order,
     allowed: [bool; PROFILE_COUNT],
     d: &[u8],
 ) -> Option<Change>
-    requires { (order ≡ order_of (command d.now)) × (allowed ≡ allowed_in order (drop 1 d.now)) }
+    requires { (order.now ≡ order_of (command d.now)) × (allowed ≡ allowed_in order.now (drop 1 d.now)) }
     ensures { result ≡ change_of entry names (command d.now) }
 {
-    let Order::Store(row) = order else {
+    let Order::Store(row) = *order else {
         return None;
     };
     let span = span_of(entry, names)?;
@@ -94,12 +94,12 @@ fn change_of(
 }
 
 // A panel's own reply: the report of a get, ACK to a set that it takes, else NAV.
-fn reply_from(p: Panel, order: Order, allowed: [bool; PROFILE_COUNT], d: &[u8]) -> Reply
-    requires { (order ≡ order_of (command d.now)) × (allowed ≡ allowed_in order (drop 1 d.now)) }
+fn reply_from(p: Panel, order: &Order, allowed: [bool; PROFILE_COUNT], d: &[u8]) -> Reply
+    requires { (order.now ≡ order_of (command d.now)) × (allowed ≡ allowed_in order.now (drop 1 d.now)) }
     ensures { result ≡ reply_by p.id (judge (command d.now) p) }
 {
     let id = p.id;
-    match order {
+    match *order {
         Order::Report(row) => judging::report_of(p, row),
         Order::Store(row) => {
             if judging::takes(p, row, allowed, d) {
@@ -116,11 +116,11 @@ fn reply_from(p: Panel, order: Order, allowed: [bool; PROFILE_COUNT], d: &[u8]) 
 fn reply_to(
     entry: Entry,
     names: Names,
-    order: Order,
+    order: &Order,
     allowed: [bool; PROFILE_COUNT],
     d: &[u8],
 ) -> Reply
-    requires { (order ≡ order_of (command d.now)) × (allowed ≡ allowed_in order (drop 1 d.now)) }
+    requires { (order.now ≡ order_of (command d.now)) × (allowed ≡ allowed_in order.now (drop 1 d.now)) }
     ensures { result ≡ reply_to entry names (command d.now) }
 {
     if !packet::is_heard(names.id, names.group) {
@@ -152,9 +152,9 @@ fn turn_by(entry: Entry, names: Names, d: &[u8]) -> Turn
     ensures { result ≡ record { reply = reply_to entry names (command d.now); change = change_of entry names (command d.now) } }
 {
     let order = judging::order_of(d);
-    let allowed = allowed_in(order, d);
-    let change = change_of(entry, names, order, allowed, d);
-    let reply = reply_to(entry, names, order, allowed, d);
+    let allowed = allowed_in(&order, d);
+    let change = change_of(entry, names, &order, allowed, d);
+    let reply = reply_to(entry, names, &order, allowed, d);
     Turn { reply, change }
 }
 

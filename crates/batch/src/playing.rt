@@ -24,8 +24,8 @@ pub(crate) fn play_all(edition: Edition, t: &mut Table, list: BurstList, out: &m
         let heard = answers::hear(edition, t, reading, &mut out[written + 1..]);
         out[written] = heard.sent as u8;
         written = written + 1 + heard.sent;
-        if let Some(change) = heard.change {
-            answers::store(t, change, reading.data);
+        if let Some(change) = &heard.change {
+            answers::store(t, *change, reading.data);
         }
     }
     written

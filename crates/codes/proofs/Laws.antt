@@ -8,39 +8,41 @@ use borrow.Author.Tests.{eqb-true}
 use lib.Dec.{eqb}
 use lib.ListN.{drop}
 use lib.Seq.{drop-cons}
-use Rattle.codes.specs.declared.Found.{Found}
+use Rattle.std.proofs.Common.{Option, Some, None}
+use Rattle.codes.specs.declared.Code.{Code}
+use Rattle.codes.specs.declared.Code.TheVariants.{Set, Get}
 use Rattle.settings.specs.Settings.{settings, set_code, get_code, row_count, kind_row, row}
 use Rattle.codes.specs.Found.{found_from, found_by, field_by}
 use Rattle.lists.proofs.Each.{alike}
 use Rattle.settings.proofs.Laws.{no_setting}
 
 -- Codes are distinct, and no get code is a set code: the get code of a setting finds its row, and a field's code its row too.
-pub get_found : {row : ℕ} → kind_row < row → row < row_count → found_by (get_code row) ≡ Found.Get row
+pub get_found : {row : ℕ} → kind_row < row → row < row_count → found_by (get_code row) ≡ Some (Code.Get row)
 unfolding settings found_from
 get_found {row} s h =
     let k : suc (row - 1) ≡ row = omega arith in
-    rw k at (alike (λ k. found_by (get_code (suc k))) (λ k. Found.Get (suc k)) (row_count - 1) refl {k = row - 1} (omega arith))
+    rw k at (alike (λ k. found_by (get_code (suc k))) (λ k. Some (Code.Get (suc k))) (row_count - 1) refl {k = row - 1} (omega arith))
 
-pub field_found : {row : ℕ} → row < row_count → field_by (set_code row) ≡ Found.Set row
+pub field_found : {row : ℕ} → row < row_count → field_by (set_code row) ≡ Some (Code.Set row)
 unfolding settings found_from field_by
-field_found h = alike (λ k. field_by (set_code k)) Found.Set row_count refl h
+field_found h = alike (λ k. field_by (set_code k)) (λ k. Some (Code.Set k)) row_count refl h
 
 -- what is found from row k on
-found_after : ℕ → ℕ → Found
+found_after : ℕ → ℕ → Option Code
 found_after c k = found_from c k (drop k settings)
 
 found_step : (c k : ℕ) → k < row_count
-    → found_after c k ≡ cond (eqb (set_code k) c) (Found.Set k) (cond (eqb (get_code k) c) (Found.Get k) (found_after c (k + 1)))
+    → found_after c k ≡ cond (eqb (set_code k) c) (Some (Code.Set k)) (cond (eqb (get_code k) c) (Some (Code.Get k)) (found_after c (k + 1)))
 unfolding found_after found_from
 found_step c k h = rw (drop-cons settings k no_setting (unfold settings in h), add-one)
 
 -- What is found is a row of the nine settings, and the code is that row's.
-abbrev pub IsFound : ℕ → Found → Type 0
-IsFound c (Found.Set row) = (row < row_count) × (set_code row ≡ c) × (kind_row < row)
-IsFound c (Found.Get row) = (row < row_count) × (get_code row ≡ c) × (kind_row < row)
-IsFound c Found.Nothing = Unit {0}
+abbrev pub IsFound : ℕ → Option Code → Type 0
+IsFound c (Some (Set row)) = (row < row_count) × (set_code row ≡ c) × (kind_row < row)
+IsFound c (Some (Get row)) = (row < row_count) × (get_code row ≡ c) × (kind_row < row)
+IsFound c None = Unit {0}
 
-either : (P : Found → Type 0) (t : Bool) {x y : Found} → (t ≡ true → P x) → (t ≡ false → P y) → P (cond t x y)
+either : (P : Option Code → Type 0) (t : Bool) {x y : Option Code} → (t ≡ true → P x) → (t ≡ false → P y) → P (cond t x y)
 either P true f g = f refl
 either P false f g = g refl
 
@@ -57,16 +59,16 @@ unfolding found_after
 found_right c = found_after_lem c (row_count - 1) 1 refl (omega arith)
 
 -- The row of a field: also the kind's.
-abbrev pub IsField : ℕ → Found → Type 0
-IsField c (Found.Set row) = (row < row_count) × (set_code row ≡ c)
-IsField c (Found.Get row) = Unit {0}
-IsField c Found.Nothing = Unit {0}
+abbrev pub IsField : ℕ → Option Code → Type 0
+IsField c (Some (Set row)) = (row < row_count) × (set_code row ≡ c)
+IsField c (Some (Get row)) = Unit {0}
+IsField c None = Unit {0}
 
 pub field_right : (c : ℕ) → IsField c (field_by c)
 unfolding field_by
 field_right c = either (IsField c) (eqb c (set_code kind_row)) (λ e. (unfold settings in omega arith, sym (eqb-true _ _ e))) (λ _. go (found_by c) (found_right c))
   where
-    go : (f : Found) → IsFound c f → IsField c f
-    go (Found.Set row) (h, e, s) = (h, e)
-    go (Found.Get row) f = tt
-    go Found.Nothing f = tt
+    go : (f : Option Code) → IsFound c f → IsField c f
+    go (Some (Set row)) (h, e, s) = (h, e)
+    go (Some (Get row)) f = tt
+    go None f = tt

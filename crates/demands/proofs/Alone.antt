@@ -6,8 +6,8 @@ use mathlib.Core.List.{List, [], ◌∷◌, map}
 use borrow.Author.Tests.{eqb-true}
 use lib.Dec.{eqb}
 use lib.ListN.{length, get_or}
+use Rattle.std.proofs.lemmas.List.{get_or-map}
 use Rattle.std.specs.Prelude.{Option, Some, None, is_some}
-use Rattle.lists.proofs.Mapped.{at_map}
 use Rattle.packet.specs.declared.Edition.{Edition}
 use Rattle.packet.specs.declared.MonitorId.{MonitorId}
 use Rattle.packet.specs.declared.Control.{Control}
@@ -109,7 +109,7 @@ module _ (edition : Edition) where
       → get_or (session edition w bursts).wall k blank ≡ get_or (session edition (get_or w k blank ∷ []) bursts).wall 0 blank
   settings_alone w k h bursts =
       ap (λ (v : Wall). get_or v k blank) (session-each edition w bursts)
-      ∙ at_map (changed_by_all (map read bursts)) w k blank blank h
+      ∙ get_or-map (changed_by_all (map read bursts)) w k blank blank h
       ∙ sym (ap (λ (v : Wall). get_or v 0 blank) (session-each edition (get_or w k blank ∷ []) bursts))
 
   answers_alone : (w : Wall) → GoodWall w → (k : ℕ) → k < length w → (bursts : List (List ℕ))
@@ -120,7 +120,7 @@ module _ (edition : Edition) where
       let p = get_or w k blank in
       let v = (answered w (read b)).wall in
       let q = get_or v k blank in
-      let then : q ≡ changed (read b) p = ap (λ (u : Wall). get_or u k blank) (answered-each w (read b)) ∙ at_map (changed (read b)) w k blank blank h in
+      let then : q ≡ changed (read b) p = ap (λ (u : Wall). get_or u k blank) (answered-each w (read b)) ∙ get_or-map (changed (read b)) w k blank blank h in
       let same_id : p.id ≡ q.id = sym (ap (λ (x : Panel). x.id) then ∙ (kept-names (read b).verdict (read b).part p).0) in
       let own : q ∷ [] ≡ (answered (p ∷ []) (read b)).wall = ap (λ (x : Panel). x ∷ []) then ∙ sym (answered-each (p ∷ []) (read b)) in
       ap₂ (λ (x : Reply) (xs : List Reply). x ∷ xs) (answer_alone w good k h (read b))

@@ -24,14 +24,9 @@ use Rattle.answers.specs.Judged.{command}
 use Rattle.answers.specs.Played.{turned, answered_by, answered}
 use Rattle.lists.proofs.Mapped.{map_same}
 use Rattle.answers.proofs.Turned.{either_way, stays}
-use Rattle.image_forms.specs.declared.Form.{Form}
 use Rattle.image_write.specs.declared.Refusal.{Refusal as WriteRefusal}
 use Rattle.image_write.specs.Written.{setup_of, size_of, loses_nothing, written_of, written_number as image_number, output_of as image_output}
-use Rattle.refusals.specs.declared.Refusal.{Refusal as ImageRefusal}
-use Rattle.image_frame.specs.Frame.{form_of, frame_refusal, records_in}
-use Rattle.refusals.specs.Refusals.{is_sound}
-use Rattle.image_read.specs.Read.{ReadImage, refused, record_refusal, read_records, read_of}
-use Rattle.image_read.proofs.OnTheWay.{wall_with}
+use Rattle.image_read.specs.Read.{in_table}
 use Rattle.image_back.proofs.Back.{image_size}
 use Rattle.host.specs.declared.Refusal.{Refusal as HostRefusal}
 use Rattle.host.specs.declared.Outcome.{Outcome}
@@ -92,23 +87,9 @@ image_alone form t f out = go (loses_nothing form (panels_of t)) (leb (size_of f
     go true false = refl
     go false b = refl
 
--- a refusal gives no panel
-abbrev NoneRefused : ReadImage → Type 0
-NoneRefused r = (r.refusal ≡ ImageRefusal.Nothing → ⊥) → r.wall ≡ []
-
-either : (t : Bool) (r : ReadImage) (why : ImageRefusal) → NoneRefused r → NoneRefused (cond t r (refused why))
-either true r why h = h
-either false r why h = λ n. refl
-
-records-refused : (form : Form) (w : Wall) (records : List (List ℕ)) → NoneRefused (read_records form w records)
-unfolding read_records
-records-refused form w [] n = absurd (n refl)
-records-refused form w (bytes ∷ records) n =
-    either (is_sound (record_refusal form w bytes)) _ (record_refusal form w bytes) (records-refused form (wall_with form w bytes) records) n
-
+-- a refusal gives no table
 pub read_refused : ReadRefused
-unfolding read_of
-read_refused image n = either (is_sound (frame_refusal image)) _ (frame_refusal image) (records-refused (form_of image) [] (records_in image)) n
+read_refused image r e = ap in_table e
 
 -- A refused call of the host: it gives nothing out, and stays.
 abbrev Stays : State → Move → Type 0

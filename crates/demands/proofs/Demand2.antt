@@ -5,8 +5,10 @@ use mathlib.Core.Logic.{◌⊎◌, inl, inr}
 use mathlib.Core.Path.{◌≡◌, refl, sym, ap, ◌∙◌}
 use mathlib.Core.List.{[], ◌∷◌}
 use lib.ListN.{length, get_or}
+use Rattle.std.proofs.lemmas.List.{get_or-map}
 use Rattle.std.specs.Prelude.{Option, Some, None, is_some}
 use Rattle.codes.proofs.Laws.{get_found}
+use Rattle.std.specs.Prelude.{Result, Ok}
 use Rattle.packet.specs.declared.MonitorId.{MonitorId}
 use Rattle.packet.specs.declared.GroupId.{GroupId}
 use Rattle.packet.specs.declared.Control.{Control}
@@ -14,12 +16,12 @@ use Rattle.packet.specs.declared.Verdict.{Verdict}
 use Rattle.packet.specs.Reading.{Reading, reading_of}
 use Rattle.packet.proofs.Packets.{packet_verdict, packet_data_lem}
 use Rattle.panels.specs.declared.Panel.{Panel}
-use Rattle.panels.specs.Wall.{Wall, blank, table_of, panels_of, place_of}
+use Rattle.panels.specs.Wall.{Wall, blank, panels_of, place_of}
 use Rattle.packet.specs.Answered.{is_heard}
 use Rattle.panels.specs.Addressed.{reaches}
-use Rattle.panels.specs.WellFormed.{GoodPanel, GoodWall}
+use Rattle.panels.specs.declared.Table.{Table}
+use Rattle.panels.specs.WellFormed.{GoodPanel, GoodWall, WellFormed}
 use Rattle.panels.proofs.Laws.{place_there}
-use Rattle.lists.proofs.Mapped.{at_map}
 use Rattle.panels.proofs.Formed.{empty_formed, good_at}
 use Rattle.table_calls.proofs.Formed.{added_formed, removed_formed}
 use Rattle.answers.specs.Reply.{silence, word_from}
@@ -29,10 +31,12 @@ use Rattle.answers.specs.Session.{Ended, by_burst}
 use Rattle.answers.proofs.Orders.{OnLine, on_line, taken-allowed}
 use Rattle.answers.proofs.Formed.{stored_own, stored-others, answered_formed}
 use Rattle.demands.proofs.Cases.{p_cases}
-use Rattle.image_read.specs.Read.{ReadImage}
+use Rattle.image_read.specs.Read.{in_table}
+use Rattle.refusals.specs.declared.Refusal.{Refusal}
 use Rattle.image_read.proofs.Sound.{read_formed}
 use Rattle.image_read.proofs.Order.{read_any_order, read_by_code, left_out}
-use Rattle.image_salvage.proofs.Sound.{salvage_formed}
+use Rattle.image_salvage.proofs.Sound.{table_formed}
+use Rattle.std.proofs.lemmas.Result.{IfOk-at_ok}
 use Rattle.image_back.proofs.Back.{written_back}
 use Rattle.line.specs.Streams.{stream_after}
 use Rattle.demands.specs.Demand2.{ByReadings, ReadAsWritten, SetBy, OnlyAddressed, Answer-Is, Answers, Received, empty, add, remove, image, salvage, burst, InRange, ReadsBack, AnyOrder, ByCode, LeftOut, Cases}
@@ -41,8 +45,8 @@ pub in_range_lem : InRange
 in_range_lem t empty = empty_formed
 in_range_lem t (add c i g n k) = added_formed (in_range_lem _ c) i g n k
 in_range_lem t (remove c i) = removed_formed (in_range_lem _ c) i
-in_range_lem t (image bytes) = read_formed bytes
-in_range_lem t (salvage bytes) = salvage_formed bytes
+in_range_lem t (image bytes u e) = IfOk-at_ok WellFormed e (read_formed bytes)
+in_range_lem t (salvage bytes s e) = table_formed bytes e
 in_range_lem t (burst c r) = answered_formed (in_range_lem _ c) r
 
 pub by_readings : ByReadings
@@ -102,7 +106,7 @@ by_verdict Verdict.Empty w read k e good h = inl refl
 by_verdict (Verdict.Damaged d) w read k e good h = inl refl
 by_verdict (Verdict.Intact i g n) w read k e good h =
     let f = turned i g (command read.part) in
-    rw (at_map f w k blank blank h) (turned_by read i g n e (get_or w k blank) (good_at w good k h))
+    rw (get_or-map f w k blank blank h) (turned_by read i g n e (get_or w k blank) (good_at w good k h))
 
 pub only_addressed : OnlyAddressed
 unfolding answered
@@ -152,8 +156,7 @@ received edition w events = stream_after edition [] w events
 -- The image.
 pub reads_back : ReadsBack
 reads_back form t f out n written =
-    let back = written_back form (panels_of t) f.good f.few out n written in
-    (ap (λ (r : ReadImage). r.refusal) back, ap (λ (r : ReadImage). table_of r.wall) back ∙ sym f.held)
+    ap in_table (written_back form (panels_of t) f.good f.few out n written) ∙ ap {B = Result Table Refusal} (λ (u : Table). Ok u) (sym f.held)
 
 pub any_order : AnyOrder
 any_order = read_any_order

@@ -5,11 +5,12 @@ use mathlib.Core.Path.{◌≡◌, refl, sym, ap, subst, ◌∙◌}
 use mathlib.Core.List.{List, [], ◌∷◌, map}
 use native.Mathlib.Omega.{arith}
 use lib.ListN.{get_or}
+use Rattle.std.proofs.lemmas.List.{get_or-map}
 use Rattle.std.specs.Prelude.{Option, Some, None}
 use Rattle.settings.specs.Settings.{kind_row}
-use Rattle.codes.specs.declared.Found.{Found}
+use Rattle.std.proofs.Common.{Option, Some, None}
+use Rattle.codes.specs.declared.Code.{Code}
 use Rattle.codes.specs.Found.{found_by}
-use Rattle.lists.proofs.Mapped.{at_map}
 use Rattle.packet.specs.declared.Edition.{Edition}
 use Rattle.packet.specs.declared.Verdict.{Verdict}
 use Rattle.packet.specs.Answered.{is_heard}
@@ -63,7 +64,7 @@ still_stands w good b r stands =
     go : (q : Option ℕ) → place_of r.id w ≡ q → StandsAs r w q → StandsAs r (map (changed b) w) q
     go (Some k) e s =
         let (there, _) = place_there r.id w k e in
-        ap model_of (at_map (changed b) w k blank blank there) ∙ kept_model b (get_or w k blank) (good_at w good k there) ∙ s
+        ap model_of (get_or-map (changed b) w k blank blank there) ∙ kept_model b (get_or w k blank) (good_at w good k there) ∙ s
     go None e s = s
 
 still_all : (edition : Edition) (w : Wall) → GoodWall w → (b : Reading) (rs : List Request) → AllAnswered edition w rs → AllAnswered edition (map (changed b) w) rs
@@ -74,10 +75,10 @@ still_all edition w good b (r ∷ rs) (request, stands, others) = (request, (λ 
 abbrev Once : Edition → Move → Type 0
 Once edition m = (sendings_in m.outcome ≡ 1) × (m.next ≡ idle edition)
 
-ends_once : (edition : Edition) (f : Found) (r : Request) (p : Panel) (m : Move) → EndsWith edition f r p 1 m → Once edition m
-ends_once edition (Found.Set row) r p m e = rw e (refl, refl)
-ends_once edition (Found.Get row) r p m e = rw e (refl, refl)
-ends_once edition Found.Nothing r p m e = absurd e
+ends_once : (edition : Edition) (f : Option Code) (r : Request) (p : Panel) (m : Move) → EndsWith edition f r p 1 m → Once edition m
+ends_once edition (Some (Code.Set row)) r p m e = rw e (refl, refl)
+ends_once edition (Some (Code.Get row)) r p m e = rw e (refl, refl)
+ends_once edition None r p m e = absurd e
 
 module _ (edition : Edition) (t : Table) (f : WellFormed t) (r : Request) (request : is_request edition r ≡ true)
     (stands : is_heard r.id r.group ≡ true → StandsAs r (panels_of t) (place_of r.id (panels_of t))) where

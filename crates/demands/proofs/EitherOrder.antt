@@ -6,9 +6,10 @@ use mathlib.Core.List.{List, [], ◌∷◌, map}
 use borrow.Author.Tests.{eqb-false, eq-eqb}
 use lib.Dec.{eqb}
 use lib.ListN.{length, get_or}
+use Rattle.std.proofs.lemmas.List.{get_or-map}
 use Rattle.std.specs.Prelude.{Option, Some, None, is_some}
 use Rattle.lists.proofs.Both.{both}
-use Rattle.lists.proofs.Mapped.{at_map, map_alike}
+use Rattle.lists.proofs.Mapped.{map_alike}
 use Rattle.packet.specs.declared.MonitorId.{MonitorId}
 use Rattle.packet.specs.declared.GroupId.{GroupId}
 use Rattle.packet.specs.declared.Verdict.{Verdict}
@@ -139,7 +140,7 @@ module _ (w : Wall) (good : GoodWall w) (r s : Reading) (free : (k : ℕ) → k 
           let (inside, same) = place_there i w k at in
           let p = get_or w k blank in
           ap (λ (u : Wall). reply_by i (judge (command r.part) (get_or u k blank))) is
-          ∙ ap (λ (q : Panel). reply_by i (judge (command r.part) q)) (at_map (changed s) w k blank blank inside)
+          ∙ ap (λ (q : Panel). reply_by i (judge (command r.part) q)) (get_or-map (changed s) w k blank blank inside)
           ∙ same-said p (good_at w good k inside) r s (free k inside) (ap (λ (x : Verdict). addressed_by x p) e ∙ heard-addressed i g p h same) i
 
       heard : (i : MonitorId) (g : GroupId) (n : ℕ) → r.verdict ≡ Verdict.Intact i g n → (t : Bool) → is_heard i g ≡ t

@@ -10,7 +10,8 @@ use lib.ListN.{length, get_or, length-take, length-replicate}
 use lib.Seq.{take-append_seam}
 use Rattle.std.specs.Prelude.{Option, Some, None}
 use Rattle.models.specs.declared.Model.{Model}
-use Rattle.codes.specs.declared.Found.{Found}
+use Rattle.std.proofs.Common.{Option, Some, None}
+use Rattle.codes.specs.declared.Code.{Code}
 use Rattle.settings.specs.Settings.{settings, set_code, get_code, byte_count, values_of, row_count, most_values, kind_row, power_row, tiling_row, off}
 use Rattle.codes.specs.Found.{found_by}
 use Rattle.models.specs.Models.{allowed_for}
@@ -59,7 +60,7 @@ codes_some row s h =
     rw k at (alike (λ j. eqb (get_code (suc j)) 0) (λ j. false) (row_count - 1) refl {k = row - 1} (omega arith))
 
 -- The box answers a request to a panel that is there as that panel judges it.
-word_report : (model : Model) (code row : ℕ) (values : List ℕ) → found_by code ≡ Found.Get row → eqb (get_code row) 0 ≡ false
+word_report : (model : Model) (code row : ℕ) (values : List ℕ) → found_by code ≡ Some (Code.Get row) → eqb (get_code row) 0 ≡ false
     → allowed_for model row values ≡ true → word_in model code (get_code row ∷ values) ≡ (Some Said.Report)
 unfolding word_in is_control same ended_by is_report
 word_report model code row values found not_zero allowed = rw (not_zero, found, eq-eqb (get_code row) _ refl, allowed)
@@ -149,7 +150,7 @@ module _ (edition : Edition) (w : Wall) (r : Request) (k : ℕ) (asked : is_requ
   untold s d None = refl
 
   -- NAV to a power off
-  power_off_lem : (row : ℕ) → found_by r.code ≡ Found.Set row → off_already row (request_values r) panel ≡ true → is_power_off r ≡ true
+  power_off_lem : (row : ℕ) → found_by r.code ≡ Some (Code.Set row) → off_already row (request_values r) panel ≡ true → is_power_off r ≡ true
   unfolding off_already is_power_off same
   power_off_lem row found e =
       let (at, sets) = both (eqb row power_row) _ e in
@@ -162,7 +163,7 @@ module _ (edition : Edition) (w : Wall) (r : Request) (k : ℕ) (asked : is_requ
   nav_ends_lem (suc n) e = rw (e, length-replicate, lt-ltb 1 (suc (suc n)) (omega arith), ne_eqb (suc (suc n)) 1 (λ d. omega arith))
 
   -- and to any other request
-  not_power : (row : ℕ) → found_by r.code ≡ Found.Set row → past_wall row (request_values r) panel ≡ true → is_power_off r ≡ false
+  not_power : (row : ℕ) → found_by r.code ≡ Some (Code.Set row) → past_wall row (request_values r) panel ≡ true → is_power_off r ≡ false
   unfolding is_power_off same settings
   not_power row found e =
       let (at, _) = both (eqb row tiling_row) _ (both (eqb row tiling_row && eqb (get_or (request_values r) 3 0) 0) _ e).0 in
@@ -181,10 +182,10 @@ module _ (edition : Edition) (w : Wall) (r : Request) (k : ℕ) (asked : is_requ
       (untold (waiting edition r (suc n)) d (word_in r.model r.code d))
 
   -- a set to which the panel says the word
-  set-ends : (n : ℕ) → n < most_sendings → (row : ℕ) → found_by r.code ≡ Found.Set row
+  set-ends : (n : ℕ) → n < most_sendings → (row : ℕ) → found_by r.code ≡ Some (Code.Set row)
       → allowed_for (model_of panel) row (held_then row (request_values r) panel) ≡ not (past_wall row (request_values r) panel)
       → (off past : Bool) → off_already row (request_values r) panel ≡ off → past_wall row (request_values r) panel ≡ past
-      → EndsWith edition (Found.Set row) r panel (suc n) (step (asking edition r n) (burst (sent_bytes edition (played edition w (request_packet edition r)).reply)))
+      → EndsWith edition (Some (Code.Set row)) r panel (suc n) (step (asking edition r n) (burst (sent_bytes edition (played edition w (request_packet edition r)).reply)))
   unfolding command takes judge sent_bytes ending
   set-ends n few row found allowed true past e f =
       let reply : (played edition w (request_packet edition r)).reply ≡ word_from r.id Control.Nav = box_answers ∙ rw (found, allowed, e, and-false (not (past_wall row (request_values r) panel))) in
@@ -196,14 +197,14 @@ module _ (edition : Edition) (w : Wall) (r : Request) (k : ℕ) (asked : is_requ
       let reply : (played edition w (request_packet edition r)).reply ≡ word_from r.id Control.Ack = box_answers ∙ rw (found, allowed, e, f) in
       rw (reply, e, f) (hears n few (control_data Control.Ack) (omega (arith, head_few edition)) ∙ (unfold word_in is_control same ended_by in rw found))
 
-  ends : (n : ℕ) → n < most_sendings → GoodPanel panel → (f : Found) → found_by r.code ≡ f → is_taken r f ≡ true
+  ends : (n : ℕ) → n < most_sendings → GoodPanel panel → (f : Option Code) → found_by r.code ≡ f → is_taken r f ≡ true
       → EndsWith edition f r panel (suc n) (step (asking edition r n) (burst (sent_bytes edition (played edition w (request_packet edition r)).reply)))
   unfolding is_taken command judge sent_bytes ending
-  ends n few good Found.Nothing found t = absurd (false≢true t)
-  ends n few good (Found.Set row) found t =
+  ends n few good None found t = absurd (false≢true t)
+  ends n few good (Some (Code.Set row)) found t =
       let may = (both (not (eqb r.group.0 255)) _ t).1 in
       set-ends n few row found (may_hold panel row (request_values r) (subst (λ (m : Model). may_set m row (request_values r) ≡ true) (sym told) may)) (off_already row (request_values r) panel) (past_wall row (request_values r) panel) refl refl
-  ends n few good (Found.Get row) found t =
+  ends n few good (Some (Code.Get row)) found t =
       let none = eqb-true r.count 0 (both (eqb r.count 0) _ t).0 in
       let (in_table, _, setting) = subst (IsFound r.code) found (found_right r.code) in
       let d = get_code row ∷ values_of row panel.values in

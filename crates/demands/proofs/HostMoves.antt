@@ -10,7 +10,8 @@ use lib.ListN.{length}
 use Rattle.std.specs.Prelude.{Option, Some, None}
 use Rattle.lists.specs.Lists.{same}
 use Rattle.settings.specs.Settings.{settings, get_code}
-use Rattle.codes.specs.declared.Found.{Found}
+use Rattle.std.proofs.Common.{Option, Some, None}
+use Rattle.codes.specs.declared.Code.{Code}
 use Rattle.codes.specs.Found.{found_by}
 use Rattle.packet.specs.declared.Edition.{Edition}
 use Rattle.packet.specs.Packet.{is_intact, data_of}
@@ -32,12 +33,12 @@ unfolding data_of
 data_in_lem Edition.Sicp185 b e = rw e
 data_in_lem Edition.Sicp201 b e = rw e
 
-ends_by_lem : (r : Request) (f : Found) (d : List ℕ) → ended_by r.model f d ≡ ends_by r f d
+ends_by_lem : (r : Request) (f : Option Code) (d : List ℕ) → ended_by r.model f d ≡ ends_by r f d
 unfolding ended_by is_control is_report same
-ends_by_lem r (Found.Set row) d = refl
-ends_by_lem r (Found.Get row) [] = refl
-ends_by_lem r (Found.Get row) (c ∷ values) = rw (and-true (eqb c (get_code row)))
-ends_by_lem r Found.Nothing d = refl
+ends_by_lem r (Some (Code.Set row)) d = refl
+ends_by_lem r (Some (Code.Get row)) [] = refl
+ends_by_lem r (Some (Code.Get row)) (c ∷ values) = rw (and-true (eqb c (get_code row)))
+ends_by_lem r None d = refl
 
 word_in_lem : (r : Request) (d : List ℕ) → word_in r.model r.code d ≡ cond (same d (0x00 ∷ 0x15 ∷ [])) (Some Said.Nack) (cond (same d (0x00 ∷ 0x18 ∷ [])) (Some Said.Nav) (ends_by r (found_by r.code) d))
 unfolding word_in is_control

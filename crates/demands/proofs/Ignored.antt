@@ -1,19 +1,22 @@
 -- Calls that change nothing: those that 19 refuses, and bursts that are ignored. Assumes nothing.
-use Prim.Native.Nat.{ℕ}
+use Prim.Native.Nat.{ℕ, suc}
 use mathlib.Core.Bool.{Bool, true, false, cond}
 use mathlib.Core.Path.{◌≡◌, refl, ap, ◌∙◌}
 use mathlib.Core.List.{List, [], ◌∷◌, ◌++◌}
 use native.Mathlib.Omega.{arith}
-use borrow.Author.Tests.{eqb-true, eqb-false, lt-ltb}
+use borrow.Author.Tests.{ne_eqb, lt-ltb}
 use lib.Dec.{eqb}
-use lib.ListN.{length-replicate}
+use lib.ListN.{length, replicate}
 use Rattle.std.specs.Prelude.{None}
 use Rattle.packet.specs.Packet.{damage_in}
 use Rattle.packet.specs.Reading.{reading_of}
+use Rattle.packet.specs.declared.Edition.{Edition}
+use Rattle.requests.specs.Request.{request_packet}
+use Rattle.host.specs.declared.Phase.{Phase}
 use Rattle.host.specs.declared.Host.{Host}
 use Rattle.host.specs.declared.Outcome.{Outcome}
-use Rattle.host.specs.Machine.{burst, is_over, quiet, unasked, ending, heard, telling, step}
-use Rattle.host.specs.Calls.{state_of}
+use Rattle.host.specs.Machine.{burst, is_over, quiet, ending, heard, telling, step}
+use Rattle.host.specs.Calls.{state_by, state_of}
 use Rattle.demands.specs.HostCalls.{Call, has_room, answer_to, output_after, given_out, host_after, packets, none_over}
 use Rattle.demands.specs.HostMoves.{said}
 use Rattle.demands.specs.Sendings.{with_room, NotCounted, Ignored}
@@ -41,28 +44,35 @@ not_counted host (c ∷ cs) = counted_or_not host c cs (not_counted (answer_to h
 
 -- A burst that is ignored.
 
-not_over : (z resting : Bool) → is_over (cond z (unasked resting) Outcome.Waiting) ≡ false
-not_over true true = refl
-not_over true false = refl
-not_over false resting = refl
+-- what is told then
+abbrev told_at : Phase → Outcome
+told_at Phase.Idle = Outcome.Idle
+told_at Phase.Resting = Outcome.Resting
+told_at (Phase.Waiting asked) = Outcome.Waiting
 
-module _ (host : Host) (b lent : List ℕ) (nothing : eqb host.sendings 0 ≡ false → said host.edition host.request b ≡ None) where
+not_over : (p : Phase) → is_over (told_at p) ≡ false
+not_over Phase.Idle = refl
+not_over Phase.Resting = refl
+not_over (Phase.Waiting asked) = refl
+
+passes_by : (edition : Edition) (p : Phase) (b : List ℕ) → (let s = state_by edition p in eqb (length s.given) 0 ≡ false → said s.edition s.request b ≡ None)
+    → step (state_by edition p) (burst b) ≡ telling (damage_in (reading_of edition b).verdict) (quiet (state_by edition p) (told_at p))
+unfolding step heard ending
+passes_by edition Phase.Idle b nothing = refl
+passes_by edition Phase.Resting b nothing = refl
+passes_by edition (Phase.Waiting asked) b nothing =
+    let n = suc (length (replicate asked.again (request_packet edition asked.request))) in
+    rw (lt-ltb 0 n (omega arith), said_is edition asked.request b, nothing (ne_eqb n 0 (λ e. omega arith)))
+
+module _ (host : Host) (b lent : List ℕ) (nothing : let s = state_of host in eqb (length s.given) 0 ≡ false → said s.edition s.request b ≡ None) where
   abbrev heard_call : Call
   heard_call = record { happens = burst b; lent = lent }
 
   abbrev passed : Outcome
-  passed = cond (eqb host.sendings 0) (unasked host.resting) Outcome.Waiting
+  passed = told_at host.phase
 
   passes : step (state_of host) (burst b) ≡ telling (damage_in (reading_of host.edition b).verdict) (quiet (state_of host) passed)
-  unfolding step heard ending
-  passes = go (eqb host.sendings 0) refl
-    where
-      go : (z : Bool) → eqb host.sendings 0 ≡ z
-          → step (state_of host) (burst b) ≡ telling (damage_in (reading_of host.edition b).verdict) (quiet (state_of host) passed)
-      go true e = let none = eqb-true host.sendings 0 e in rw (length-replicate, e, none)
-      go false e =
-          let some = eqb-false host.sendings 0 e in
-          rw (length-replicate, e, lt-ltb 0 host.sendings (omega arith), said_is host.edition host.request b, nothing e)
+  passes = passes_by host.edition host.phase b nothing
 
   ignored_so : (host_after host (heard_call ∷ []) ≡ host) × (output_after host heard_call ≡ lent) × (given_out host heard_call ≡ []) × (none_over host (heard_call ∷ []) ≡ true)
   ignored_so = go (has_room heard_call) refl
@@ -73,7 +83,7 @@ module _ (host : Host) (b lent : List ℕ) (nothing : eqb host.sendings 0 ≡ fa
 
       go : (t : Bool) → has_room heard_call ≡ t
           → (host_after host (heard_call ∷ []) ≡ host) × (output_after host heard_call ≡ lent) × (given_out host heard_call ≡ []) × (none_over host (heard_call ∷ []) ≡ true)
-      go true e = all passed (not_over (eqb host.sendings 0) host.resting) (stays host heard_call passed _ (roomy host heard_call e ∙ passes))
+      go true e = all passed (not_over host.phase) (stays host heard_call passed _ (roomy host heard_call e ∙ passes))
       go false e = all _ refl (refused host heard_call e)
 
 pub ignored : Ignored

@@ -1,10 +1,12 @@
 -- The numbers that calls refuse by. Assumes nothing.
-use Prim.Native.Nat.{ℕ, ◌+◌, ◌*◌}
+use Prim.Native.Nat.{ℕ, suc, ◌+◌, ◌*◌}
 use mathlib.Core.Path.{◌≡◌, refl, ap, ◌∙◌}
 use mathlib.Core.Bool.{Bool, true, false, cond, ◌&&◌, ◌||◌}
 use mathlib.Core.List.{List, [], ◌∷◌, flatten}
+use native.Mathlib.Omega.{arith}
+use borrow.Author.Tests.{lt-ltb}
 use lib.Dec.{leb, ltb, eqb}
-use lib.ListN.{length, length-replicate}
+use lib.ListN.{length, replicate}
 use Rattle.std.specs.Prelude.{Option, Some, None, Ok, Err, is_some}
 use Rattle.std.specs.Option.{option_map_or}
 use Rattle.settings.specs.declared.Profile.{Profile}
@@ -25,11 +27,12 @@ use Rattle.answers.specs.declared.Sent.{Sent}
 use Rattle.answers.specs.Reply.{sent_bytes, sent_of, refusal_number as answer_number}
 use Rattle.requests.specs.declared.Request.{Request}
 use Rattle.requests.specs.declared.Said.{Said}
-use Rattle.requests.specs.Request.{is_request}
+use Rattle.requests.specs.Request.{request_packet, is_request}
+use Rattle.host.specs.declared.Phase.{Phase}
 use Rattle.host.specs.declared.Host.{Host}
 use Rattle.host.specs.Heard.{said_to}
 use Rattle.host.specs.Machine.{Happening, start, burst, mark, State, Move, most_sendings, sendings, waits, quiet, unasked, again, ending, heard, step}
-use Rattle.host.specs.Calls.{state_of, step_of}
+use Rattle.host.specs.Calls.{state_by, state_of, step_of}
 use Rattle.image_write.specs.declared.Refusal.{Refusal as ImageRefusal}
 use Rattle.image_forms.specs.declared.Form.{Form}
 use Rattle.image_forms.specs.Forms.{keeps}
@@ -37,8 +40,7 @@ use Rattle.image_write.specs.Written.{size_of, loses_nothing, written_of as imag
 use Rattle.image_write.proofs.Losing.{two_holds}
 use Rattle.demands.specs.HostCalls.{has_room, answer_to}
 use Rattle.demands.proofs.HostCalls.{start_by, start_by_lem, refused, roomy}
-use Rattle.demands.proofs.HostMoves.{some_or_none}
-use Rattle.demands.specs.Numbers.{Add, Remove, is_plain, all_plain, ImageOne, ImageTwo, Answer, most_data, Packet, Open, number_in, start_number, HostCall}
+use Rattle.demands.specs.Numbers.{Add, Remove, is_plain, all_plain, ImageOne, ImageTwo, Answer, most_data, Packet, Open, number_in, number_at, start_number, HostCall}
 
 pub add_number : Add
 unfolding add_refusal profile_with kind_with
@@ -166,11 +168,16 @@ module _ (s : State) where
   unfolding step
   mark-taken = either (waits s) _ _ again-taken refl
 
+by_phase : (edition : Edition) (p : Phase) (n : ℕ) → let s = state_by edition p in cond (waits s) 21 (cond s.resting 24 n) ≡ number_at p n
+by_phase edition Phase.Idle n = refl
+by_phase edition Phase.Resting n = refl
+by_phase edition (Phase.Waiting asked) n = rw (lt-ltb 0 (suc (length (replicate asked.again (request_packet edition asked.request)))) (omega arith))
+
 by_happening : (host : Host) (h : Happening) → number_in (step (state_of host) h).outcome ≡ start_number host h
 by_happening host (start r) =
     let s = state_of host in
     ap (λ (m : Move). number_in m.outcome) (start_by_lem s r) ∙ start_questions s r (waits s) s.resting (is_request s.edition r) (is_heard r.id r.group)
-    ∙ rw length-replicate (some_or_none host.sendings 21 (cond host.resting 24 (cond (is_request host.edition r) 0 22)))
+    ∙ by_phase host.edition host.phase (cond (is_request host.edition r) 0 22)
 by_happening host (burst b) = burst-taken (state_of host) b
 by_happening host mark = mark-taken (state_of host)
 

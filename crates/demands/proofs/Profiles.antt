@@ -11,8 +11,8 @@ use lib.ListN.{length, get_or}
 use lib.Signed.{mag, le_z}
 use mir.Syntax.{w8}
 use mir.Val.{SFits}
+use Rattle.std.proofs.lemmas.List.{get_or-map}
 use Rattle.lists.proofs.Each.{alike}
-use Rattle.lists.proofs.Mapped.{at_map}
 use Rattle.profiles.specs.declared.Video.{Video}
 use Rattle.settings.specs.Settings.{settings, ◌to◌, within, all_allowed, byte_count, video_row}
 use Rattle.models.specs.Models.{allowed_for}
@@ -52,7 +52,7 @@ unfolding turned judge
 own_model w r i g n row values intact named k h =
     let f = turned i g (set_of row values) in
     let p = get_or w k blank in
-    rw (answered-intact w r i g n intact, named) (at_map f w k blank blank h ∙ one_set (reaches i g p) (takes row values p) (stored row (held_then row values p) p) p ∙ as_allowed (reaches i g p) row values p)
+    rw (answered-intact w r i g n intact, named) (get_or-map f w k blank blank h ∙ one_set (reaches i g p) (takes row values p) (stored row (held_then row values p) p) p ∙ as_allowed (reaches i g p) row values p)
 
 fits : (t : ℤ) → mag t < 128 → SFits w8 t
 fits t h = record { sfits = h }

@@ -12,7 +12,8 @@ use Rattle.lists.specs.Lists.{laid_over}
 use Rattle.settings.specs.Settings.{settings, set_code, get_code, byte_count, power_row, video_row}
 use Rattle.settings.specs.declared.Profile.{Profile}
 use Rattle.settings.specs.Profiles.{profile_number}
-use Rattle.codes.specs.declared.Found.{Found}
+use Rattle.std.proofs.Common.{Some}
+use Rattle.codes.specs.declared.Code.{Code}
 use Rattle.codes.specs.Found.{found_from, found_by}
 use Rattle.packet.specs.declared.Edition.{Edition}
 use Rattle.packet.specs.declared.MonitorId.{MonitorId}
@@ -42,7 +43,7 @@ codes_are : (get_code power_row ≡ 0x19) × (set_code power_row ≡ 0x18) × (s
 unfolding settings
 codes_are = (refl, refl, refl)
 
-found_are : (found_by 0x18 ≡ Found.Set power_row) × (found_by 0x32 ≡ Found.Set video_row) × (byte_count power_row ≡ 1) × (byte_count video_row ≡ 7)
+found_are : (found_by 0x18 ≡ Some (Code.Set power_row)) × (found_by 0x32 ≡ Some (Code.Set video_row)) × (byte_count power_row ≡ 1) × (byte_count video_row ≡ 7)
 unfolding settings found_from
 found_are = (refl, refl, refl, refl)
 

@@ -6,8 +6,11 @@ use mathlib.Core.List.{List, [], ◌∷◌, ◌++◌, map, Memᴰ}
 use native.Mathlib.Omega.{arith}
 use borrow.Author.Tests.{ne_eqb}
 use lib.ListN.{length, get_or}
-use Rattle.lists.proofs.Mapped.{at_map}
+use Rattle.std.proofs.lemmas.List.{get_or-map}
 use Rattle.codes.specs.declared.Found.{Found}
+use Rattle.lists.proofs.Mapped.{at_map}
+use Rattle.std.proofs.Common.{Option, Some}
+use Rattle.codes.specs.declared.Code.{Code}
 use Rattle.codes.specs.Found.{found_by}
 use Rattle.codes.proofs.Laws.{IsFound, found_right}
 use Rattle.settings.specs.Settings.{set_code}
@@ -47,7 +50,7 @@ module _ (edition : Edition) where
       let f = changed (read d) in
       let p = get_or w k blank in
       ap (λ (v : Wall). disturbed (read b) (read c) (get_or v k blank)) (answered-each w (read d))
-      ∙ ap (disturbed (read b) (read c)) (at_map f w k blank blank inside)
+      ∙ ap (disturbed (read b) (read c)) (get_or-map f w k blank blank inside)
       ∙ rw (same-addressed (read b).verdict (read d) p, same-addressed (read c).verdict (read d) p) (u k inside)
 
   -- A burst goes past many that it does not disturb.
@@ -100,10 +103,10 @@ pub none_in_common : NoneInCommon
 none_in_common edition t f b c apart = change_places edition t f b c (apart_free edition (panels_of t) b c apart)
 
 -- a set with a code is of the row that has it
-set_with : (code row : ℕ) (d values : List ℕ) → d ≡ code ∷ values → found_by code ≡ Found.Set row → (command d ≡ set_of row values) × (set_code row ≡ code)
+set_with : (code row : ℕ) (d values : List ℕ) → d ≡ code ∷ values → found_by code ≡ Some (Code.Set row) → (command d ≡ set_of row values) × (set_code row ≡ code)
 unfolding command
 set_with code row d values is found =
-    (ap command is ∙ ap (λ (f : Found). command_by f values) found, (subst (IsFound code) found (found_right code)).1)
+    (ap command is ∙ ap (λ (f : Option Code). command_by f values) found, (subst (IsFound code) found (found_right code)).1)
 
 pub other_codes : OtherCodes
 other_codes edition t f b c (code, other, ne, (i, g, n, row, vs, _, is, found), (j, h, m, row_other, us, _, is-other, found-other)) =

@@ -1,11 +1,12 @@
 -- Reader and salvage never disagree. Assumes nothing.
 use mathlib.Core.Path.{◌≡◌, refl, sym, ap, ◌∙◌}
-use mathlib.Core.Bool.{Bool, true, false, cond, false≢true}
+use mathlib.Core.Bool.{false, cond, false≢true}
 use mathlib.Core.List.{List, [], ◌∷◌, ◌++◌}
 use Prim.Native.Nat.{ℕ, suc}
-use borrow.Author.Tests.{eqb-false}
+use native.Mathlib.Omega.{arith}
 use lib.ListN.{drop, replicate}
-use Rattle.std.specs.Prelude.{Option, Some, None}
+use Rattle.std.specs.Prelude.{Option, Some, None, Result, Ok, Err, is_ok}
+use Rattle.std.specs.Result.{result_unwrap_or}
 use Rattle.settings.specs.declared.Profile.{Profile}
 use Rattle.settings.specs.Settings.{fresh_values, row_count}
 use Rattle.panels.specs.declared.Panel.{Panel}
@@ -14,19 +15,17 @@ use Rattle.image_forms.specs.declared.Form.{Form}
 use Rattle.image_forms.specs.Forms.{head_size}
 use Rattle.image_faults.specs.declared.Fault.{Fault}
 use Rattle.refusals.specs.declared.Refusal.{Refusal}
-use Rattle.refusals.specs.Refusals.{is_sound, refusal_number}
-use Rattle.image_frame.specs.Frame.{form_of, frame_refusal, records_in}
-use Rattle.refusals.proofs.Sound.{sound-nothing}
+use Rattle.refusals.specs.Refusals.{refusal_number, number_of, if_sound}
+use Rattle.image_frame.specs.Frame.{form_of, frame_of, records_in}
+use Rattle.image_frame.proofs.Edges.{sound, frame_same}
 use Rattle.image_record.specs.declared.Step.{Step}
 use Rattle.image_record.specs.Head.{id_in, head_in, headed}
-use Rattle.image_record.specs.Run.{run_from}
-use Rattle.image_record.proofs.Heads.{head-known}
+use Rattle.image_record.specs.Run.{Run, run_from}
 use Rattle.image_record.proofs.Runs.{run_stopped}
-use Rattle.image_read.specs.Fields.{refusal_at, fields_from, fields_in}
-use Rattle.image_read.specs.Read.{ReadImage, record_refusal, panel_in, refused, read_records, read_of}
-use Rattle.image_read.proofs.Sound.{panel-known}
+use Rattle.image_read.specs.Fields.{values_at, fields_from, fields_in}
+use Rattle.image_read.specs.Read.{panel_in, read_records, read_of}
 use Rattle.image_salvage.specs.Kept.{Kept, kept_of}
-use Rattle.image_salvage.specs.Salvaged.{Salvage, behind_faults, salvaged_from, salvage_of, text_from}
+use Rattle.image_salvage.specs.Salvaged.{Salvage, salvage_in, behind_faults, salvaged_from, salvage_of, text_from}
 use Rattle.image_salvage.proofs.Walk.{kept_step, lines_none}
 use Rattle.image_salvage.proofs.Sound.{record_dropped, record_kept}
 use Rattle.demands.specs.Salvage.{first_fault, SameFault, SoundKept}
@@ -40,66 +39,80 @@ unfolding first
 first_of [] rest some = absurd (some refl)
 first_of (fault ∷ faults) rest some = refl
 
+-- each refusal has a number
+some_number : (r : Refusal) → refusal_number r ≡ 0 → ⊥
+some_number Refusal.TooShort e = omega arith
+some_number Refusal.OtherForm e = omega arith
+some_number Refusal.TooMany e = omega arith
+some_number Refusal.NoStarts e = omega arith
+some_number Refusal.Starts e = omega arith
+some_number Refusal.Record e = omega arith
+some_number Refusal.Field e = omega arith
+some_number Refusal.Value e = omega arith
+
 -- of a record's fields
 module _ (form : Form) (profile : Profile) (left : List ℕ) where
-  abbrev step : Step
-  step = (run_from form profile (replicate row_count false) (fresh_values profile) left).step
+  abbrev run : Run
+  run = run_from form profile (replicate row_count false) (fresh_values profile) left
 
   record FieldsAgree : Type 0 where
-    number : refusal_number (fields_in form profile left).refusal ≡ first (kept_of form profile left).faults
-    kept : (fields_in form profile left).refusal ≡ Refusal.Nothing → ((kept_of form profile left).values ≡ (fields_in form profile left).values) × ((kept_of form profile left).faults ≡ [])
+    number : number_of (fields_in form profile left) ≡ first (kept_of form profile left).faults
+    kept : (values : List ℕ) → fields_in form profile left ≡ Ok values → ((kept_of form profile left).values ≡ values) × ((kept_of form profile left).faults ≡ [])
 
   fields_agree : FieldsAgree
   unfolding fields_from first
-  fields_agree = go step refl
+  fields_agree = go run.step refl
     where
-      go : (s : Step) → step ≡ s → FieldsAgree
+      stopped : {s : Step} → run.step ≡ s → values_at run.step run.values ≡ values_at s run.values
+      stopped e = ap (λ (s : Step). values_at s run.values) e
+
+      go : (s : Step) → run.step ≡ s → FieldsAgree
       go (Step.Field row) e = absurd ((run_stopped form profile (replicate row_count false) (fresh_values profile) left).no_field row e)
       go (Step.NotAllowed row) e = record {
-        number = ap (λ (s : Step). refusal_number (refusal_at s)) e ∙ ap (λ (k : Kept). first k.faults) (sym (kept_step form profile _ _ _ left (Step.NotAllowed row) e));
-        kept = λ s. absurd (false≢true (ap is_sound (sym (ap refusal_at e) ∙ s)));
+        number = ap number_of (stopped e) ∙ ap (λ (k : Kept). first k.faults) (sym (kept_step form profile _ _ _ left (Step.NotAllowed row) e));
+        kept = λ values s. absurd (false≢true (ap is_ok (sym (stopped e) ∙ s)));
       }
       go Step.Broken e = record {
-        number = ap (λ (s : Step). refusal_number (refusal_at s)) e ∙ ap (λ (k : Kept). first k.faults) (sym (kept_step form profile _ _ _ left Step.Broken e));
-        kept = λ s. absurd (false≢true (ap is_sound (sym (ap refusal_at e) ∙ s)));
+        number = ap number_of (stopped e) ∙ ap (λ (k : Kept). first k.faults) (sym (kept_step form profile _ _ _ left Step.Broken e));
+        kept = λ values s. absurd (false≢true (ap is_ok (sym (stopped e) ∙ s)));
       }
       go Step.End e = record {
-        number = ap (λ (s : Step). refusal_number (refusal_at s)) e ∙ ap (λ (k : Kept). first k.faults) (sym (kept_step form profile _ _ _ left Step.End e));
-        kept = λ s. (ap (λ (k : Kept). k.values) (kept_step form profile _ _ _ left Step.End e), ap (λ (k : Kept). k.faults) (kept_step form profile _ _ _ left Step.End e));
+        number = ap number_of (stopped e) ∙ ap (λ (k : Kept). first k.faults) (sym (kept_step form profile _ _ _ left Step.End e));
+        kept = λ values s. (
+          ap (λ (k : Kept). k.values) (kept_step form profile _ _ _ left Step.End e) ∙ ap (λ (r : Result (List ℕ) Refusal). result_unwrap_or r []) (sym (stopped e) ∙ s),
+          ap (λ (k : Kept). k.faults) (kept_step form profile _ _ _ left Step.End e),
+        );
       }
 
 -- a reading and a salvage of the records that are left
-record Agree (r : ReadImage) (s : Salvage) : Type 0 where
-  number : refusal_number r.refusal ≡ first_fault s.faults
-  kept : r.refusal ≡ Refusal.Nothing → (s.wall ≡ r.wall) × ((k : ℕ) → text_from k s.faults ≡ [])
+record Agree (r : Result Wall Refusal) (s : Salvage) : Type 0 where
+  number : number_of r ≡ first_fault s.faults
+  kept : (w : Wall) → r ≡ Ok w → (s.wall ≡ w) × ((k : ℕ) → text_from k s.faults ≡ [])
 
 -- a record without a fault, and the others behind it
 module _ (form : Form) (w : Wall) (bytes : List ℕ) (records : List (List ℕ)) where
-  first_refused : {why : Refusal} → record_refusal form w bytes ≡ why → is_sound why ≡ false → read_records form w (bytes ∷ records) ≡ refused why
+  first_refused : {why : Refusal} → panel_in form (id_in w) bytes ≡ Err why → read_records form w (bytes ∷ records) ≡ Err why
   unfolding read_records
-  first_refused e s = rw (e, s)
+  first_refused e = rw e
 
-  first_read : record_refusal form w bytes ≡ Refusal.Nothing → read_records form w (bytes ∷ records) ≡ read_records form (w ++ panel_in form bytes ∷ []) records
+  first_read : {p : Panel} → panel_in form (id_in w) bytes ≡ Ok p → read_records form w (bytes ∷ records) ≡ read_records form (w ++ p ∷ []) records
   unfolding read_records
   first_read e = rw e
 
   -- the record is dropped
   agree_dropped : head_in form (id_in w) bytes ≡ None → Agree (read_records form w (bytes ∷ records)) (salvaged_from form w (bytes ∷ records))
-  unfolding record_refusal
+  unfolding panel_in
   agree_dropped e =
-      let read = first_refused {why = Refusal.Record} (rw e) refl in
+      let read = first_refused {why = Refusal.Record} (rw e) in
       let salvaged = record_dropped form w bytes records e in
       record {
-        number = ap (λ (r : ReadImage). refusal_number r.refusal) read ∙ ap (λ (s : Salvage). first_fault s.faults) (sym salvaged);
-        kept = λ s. absurd (false≢true (ap is_sound (ap (λ (r : ReadImage). r.refusal) (sym read) ∙ s)));
+        number = ap number_of read ∙ ap (λ (s : Salvage). first_fault s.faults) (sym salvaged);
+        kept = λ v s. absurd (false≢true (ap is_ok (sym read ∙ s)));
       }
 
   module _ (profile : Profile) (e : head_in form (id_in w) bytes ≡ Some profile) where
     abbrev left : List ℕ
     left = drop (head_size form) bytes
-
-    abbrev why : Refusal
-    why = (fields_in form profile left).refusal
 
     abbrev faults : List Fault
     faults = (kept_of form profile left).faults
@@ -107,70 +120,70 @@ module _ (form : Form) (w : Wall) (bytes : List ℕ) (records : List (List ℕ))
     abbrev wall : Wall
     wall = w ++ headed bytes profile (kept_of form profile left).values ∷ []
 
-    refusal_is : record_refusal form w bytes ≡ why
-    unfolding record_refusal
-    refusal_is = rw e
+    panel_is : panel_in form (id_in w) bytes ≡ if_sound (fields_in form profile left) (λ values. Ok (headed bytes profile values))
+    unfolding panel_in
+    panel_is = rw e
 
     salvaged : salvaged_from form w (bytes ∷ records) ≡ behind_faults faults (salvaged_from form wall records)
     salvaged = record_kept form w bytes records profile e
 
     -- it has a fault, which is the first
-    agree_faulty : is_sound why ≡ false → Agree (read_records form w (bytes ∷ records)) (salvaged_from form w (bytes ∷ records))
-    agree_faulty bad =
-        let read = first_refused refusal_is bad in
-        let number = (fields_agree form profile left).number in
-        let some : first faults ≡ 0 → ⊥ = λ z. eqb-false (refusal_number why) 0 bad (number ∙ z) in
+    agree_faulty : (why : Refusal) → fields_in form profile left ≡ Err why → Agree (read_records form w (bytes ∷ records)) (salvaged_from form w (bytes ∷ records))
+    agree_faulty why f =
+        let read = first_refused {why = why} (panel_is ∙ ap (λ (r : Result (List ℕ) Refusal). if_sound r (λ values. Ok (headed bytes profile values))) f) in
+        let number : refusal_number why ≡ first faults = sym (ap number_of f) ∙ (fields_agree form profile left).number in
+        let some : first faults ≡ 0 → ⊥ = λ z. some_number why (number ∙ z) in
         record {
-          number = ap (λ (r : ReadImage). refusal_number r.refusal) read ∙ number ∙ sym (first_of faults (salvaged_from form wall records).faults some) ∙ ap (λ (s : Salvage). first_fault s.faults) (sym salvaged);
-          kept = λ s. absurd (false≢true (sym bad ∙ ap is_sound (ap (λ (r : ReadImage). r.refusal) (sym read) ∙ s)));
+          number = ap number_of read ∙ number ∙ sym (first_of faults (salvaged_from form wall records).faults some) ∙ ap (λ (s : Salvage). first_fault s.faults) (sym salvaged);
+          kept = λ v s. absurd (false≢true (ap is_ok (sym read ∙ s)));
         }
 
     -- it has none, and the others decide
-    agree_sound : why ≡ Refusal.Nothing → Agree (read_records form wall records) (salvaged_from form wall records)
+    agree_sound : (values : List ℕ) → fields_in form profile left ≡ Ok values → Agree (read_records form wall records) (salvaged_from form wall records)
         → Agree (read_records form w (bytes ∷ records)) (salvaged_from form w (bytes ∷ records))
     unfolding text_from
-    agree_sound s ih =
-        let (values, none) = (fields_agree form profile left).kept s in
-        let known = (head-known form (id_in w) bytes profile e).1 in
-        let same : panel_in form bytes ≡ headed bytes profile (kept_of form profile left).values = panel-known form bytes profile known ∙ ap (headed bytes profile) (sym values) in
+    agree_sound values f ih =
+        let (same, none) = (fields_agree form profile left).kept values f in
+        let panel : panel_in form (id_in w) bytes ≡ Ok (headed bytes profile values) =
+        panel_is ∙ ap (λ (r : Result (List ℕ) Refusal). if_sound r (λ values. Ok (headed bytes profile values))) f in
         let read : read_records form w (bytes ∷ records) ≡ read_records form wall records =
-        first_read (refusal_is ∙ s) ∙ ap (λ (p : Panel). read_records form (w ++ p ∷ []) records) same in
+        first_read panel ∙ ap (λ (vs : List ℕ). read_records form (w ++ headed bytes profile vs ∷ []) records) (sym same) in
         let saved : salvaged_from form w (bytes ∷ records) ≡ behind_faults [] (salvaged_from form wall records) =
         salvaged ∙ ap (λ (fs : List Fault). behind_faults fs (salvaged_from form wall records)) none in
         record {
-          number = ap (λ (r : ReadImage). refusal_number r.refusal) read ∙ ih.number ∙ ap (λ (s : Salvage). first_fault s.faults) (sym saved);
-          kept = λ z.
-              let (walls, text) = ih.kept (ap (λ (r : ReadImage). r.refusal) (sym read) ∙ z) in (
-                ap (λ (s : Salvage). s.wall) saved ∙ walls ∙ ap (λ (r : ReadImage). r.wall) (sym read),
+          number = ap number_of read ∙ ih.number ∙ ap (λ (s : Salvage). first_fault s.faults) (sym saved);
+          kept = λ v z.
+              let (walls, text) = ih.kept v (sym read ∙ z) in (
+                ap (λ (s : Salvage). s.wall) saved ∙ walls,
                 λ k. ap (λ (s : Salvage). text_from k s.faults) saved ∙ rw (lines_none k) (text (suc k)),
               );
         }
 
 agree_from : (form : Form) (w : Wall) (records : List (List ℕ)) → Agree (read_records form w records) (salvaged_from form w records)
 unfolding read_records salvaged_from text_from
-agree_from form w [] = record { number = refl; kept = λ s. (refl, λ k. refl) }
+agree_from form w [] = record { number = refl; kept = λ v s. (ap (λ (r : Result Wall Refusal). result_unwrap_or r w) s, λ k. refl) }
 agree_from form w (bytes ∷ records) = go (head_in form (id_in w) bytes) refl (λ v. agree_from form v records)
   where
     go : (n : Option Profile) → head_in form (id_in w) bytes ≡ n → ((v : Wall) → Agree (read_records form v records) (salvaged_from form v records))
         → Agree (read_records form w (bytes ∷ records)) (salvaged_from form w (bytes ∷ records))
     go None e ih = agree_dropped form w bytes records e
-    go (Some profile) e ih = by_fault (is_sound (fields_in form profile (drop (head_size form) bytes)).refusal) refl
+    go (Some profile) e ih = by_fields (fields_in form profile (drop (head_size form) bytes)) refl
       where
-        by_fault : (b : Bool) → is_sound (fields_in form profile (drop (head_size form) bytes)).refusal ≡ b → Agree (read_records form w (bytes ∷ records)) (salvaged_from form w (bytes ∷ records))
-        by_fault true s = agree_sound form w bytes records profile e (sound-nothing _ s) (ih _)
-        by_fault false s = agree_faulty form w bytes records profile e s
+        by_fields : (f : Result (List ℕ) Refusal) → fields_in form profile (drop (head_size form) bytes) ≡ f
+            → Agree (read_records form w (bytes ∷ records)) (salvaged_from form w (bytes ∷ records))
+        by_fields (Ok values) f = agree_sound form w bytes records profile e values f (ih _)
+        by_fields (Err why) f = agree_faulty form w bytes records profile e why f
 
 pub same_fault : SameFault
 unfolding read_of salvage_of
-same_fault image e = rw e (agree_from (form_of image) [] (records_in image)).number
+same_fault image e = let frame = (sound image e).1 in rw frame (agree_from (form_of image) [] (records_in image)).number
 
 pub sound-kept : SoundKept
 unfolding read_of salvage_of
-sound-kept image s = go (is_sound (frame_refusal image)) refl s
+sound-kept image w s = go (frame_of image) (λ frame e. frame_same image e) s
   where
-    go : (b : Bool) → is_sound (frame_refusal image) ≡ b
-        → let r = cond b (read_records (form_of image) [] (records_in image)) (refused (frame_refusal image)) in
-        let s = cond b (salvaged_from (form_of image) [] (records_in image)) (record { wall = []; faults = [] }) in
-        r.refusal ≡ Refusal.Nothing → (s.wall ≡ r.wall) × (text_from 1 s.faults ≡ [])
-    go true e s = let (wall, text) = (agree_from (form_of image) [] (records_in image)).kept s in (wall, text 1)
-    go false e s = absurd (false≢true (sym e ∙ ap is_sound s))
+    go : (r : Result (List ℕ) Refusal) → ((frame : List ℕ) → r ≡ Ok frame → image ≡ frame)
+        → if_sound r (λ frame. read_records (form_of frame) [] (records_in frame)) ≡ Ok w
+        → let s = cond (is_ok r) (salvage_in image) (record { wall = []; faults = [] }) in (s.wall ≡ w) × (text_from 1 s.faults ≡ [])
+    go (Ok frame) same s = let (wall, text) = (agree_from (form_of image) [] (records_in image)).kept w (rw (same frame refl) s) in (wall, text 1)
+    go (Err r) same s = absurd (false≢true (ap is_ok s))

@@ -1,5 +1,5 @@
 -- How long a request lasts and what is given out for it. Assumes nothing.
-use Prim.Native.Nat.{ℕ, suc, ◌≤◌}
+use Prim.Native.Nat.{ℕ, suc, ◌+◌, ◌≤◌}
 use mathlib.Core.Bool.{Bool, true, false, cond, false≢true, and-false}
 use mathlib.Core.Path.{◌≡◌, refl, sym, ap, subst, ◌∙◌}
 use mathlib.Core.List.{List, [], ◌∷◌, ◌++◌}
@@ -80,12 +80,12 @@ module _ (host : Host) (r : Request) (first : Call) (cs : List Call) (starts : f
           m ∙ waits_by s r (waits s) s.resting (is_request s.edition r) (is_heard r.id r.group) (ap (λ (x : Move). is_waiting x.outcome) (sym m) ∙ ap is_waiting told-waiting)
       go false short = absurd (false≢true (ap is_waiting (sym (refused host first short).told) ∙ ap is_waiting told-waiting))
 
-  next : (answer_to host first).host ≡ waiting_host host.edition r 1
+  next : (answer_to host first).host ≡ waiting_host host.edition r 0
   unfolding step_of
   next = ap (λ (m : Move). host_of m.next) taken
 
-  life : Lasted host.edition r 1 cs
-  life = lasted host.edition r 1 (omega arith) cs (subst (λ (h : Host). none_over h cs ≡ true) next lasts)
+  life : Lasted host.edition r 0 cs
+  life = lasted host.edition r 0 cs (subst (λ (h : Host). none_over h cs ≡ true) next lasts)
 
   -- the start does not count
   from_start : (ds : List Call) → pushed host.edition r (first ∷ ds) ≡ pushed host.edition r ds
@@ -103,8 +103,10 @@ module _ (host : Host) (r : Request) (first : Call) (cs : List Call) (starts : f
       → let k = pushed host.edition r ((first ∷ cs) ++ c ∷ []) in
       (n ≡ length (packets host (first ∷ cs))) × (given_out h c ≡ []) × (e ≡ End.GivenUp → k ≡ 3) × (k ≡ 3 → e ≡ End.GivenUp)
   ended_with c e n q =
-      let here = ap (λ (h : Host). host_after h cs) next ∙ life.host in
-      let (count, none, up) = counted_at host.edition r k (life.few (omega arith)) c e n (subst (λ (h : Host). (answer_to h c).outcome ≡ Outcome.Over e n) here q) in
+      let all : k + 0 ≡ k = omega arith in
+      let here = ap (λ (h : Host). host_after h cs) next ∙ life.host ∙ ap (waiting_host host.edition r) all in
+      let few = life.few (omega arith) in
+      let (count, none, up) = counted_at host.edition r k (omega arith) c e n (subst (λ (h : Host). (answer_to h c).outcome ≡ Outcome.Over e n) here q) in
       let third_up : is_given_up e ≡ eqb (pushed host.edition r ((first ∷ cs) ++ c ∷ [])) 3
       = up ∙ ap (λ (j : ℕ). eqb j 3) (sym (from_start (cs ++ c ∷ []) ∙ pushed-behind host.edition r cs c)) in (
         count ∙ sym (ap (λ (l : List (List ℕ)). length l) given_all ∙ simp length-replicate (omega arith)),

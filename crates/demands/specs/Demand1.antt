@@ -1,6 +1,6 @@
 -- Demand 1. That every function comes back without a fault is what the prover shows of each. The rest: a refusal changes neither
 -- table nor host nor a lent buffer, a bad burst changes no panel, and writing changes no byte but those written.
-use Rattle.std.specs.Prelude.{ℕ, ◌<◌, false, cond, ◌⊎◌, ◌≡◌, List, [], eqb, length, get_or, drop, None}
+use Rattle.std.specs.Prelude.{ℕ, ◌<◌, false, cond, ◌⊎◌, ◌≡◌, List, eqb, length, get_or, drop, Err, None}
 use Rattle.packet.specs.declared.Edition.{Edition}
 use Rattle.packet.specs.declared.MonitorId.{MonitorId}
 use Rattle.packet.specs.declared.GroupId.{GroupId}
@@ -20,7 +20,7 @@ use Rattle.answers.specs.Played.{answered}
 use Rattle.image_forms.specs.declared.Form.{Form}
 use Rattle.refusals.specs.declared.Refusal.{Refusal as ImageRefusal}
 use Rattle.image_write.specs.Written.{size_of, written_of, written_number as image_number, output_of as image_output}
-use Rattle.image_read.specs.Read.{read_of}
+use Rattle.image_read.specs.Read.{read_of, in_table}
 use Rattle.host.specs.declared.Host.{Host}
 use Rattle.host.specs.declared.Refusal.{Refusal as HostRefusal}
 use Rattle.host.specs.declared.Outcome.{Outcome}
@@ -34,9 +34,9 @@ AddRefused = (w : Wall) (i : MonitorId) (g : GroupId) (n k : ℕ) → (add_refus
 abbrev pub RemoveRefused : Type 0
 RemoveRefused = (w : Wall) (i : MonitorId) → (remove_refusal w i ≡ None → ⊥) → removed w i ≡ w
 
--- a refused image gives no panel
+-- a refused image gives its refusal, and no table
 abbrev pub ReadRefused : Type 0
-ReadRefused = (image : List ℕ) → ((read_of image).refusal ≡ ImageRefusal.Nothing → ⊥) → (read_of image).wall ≡ []
+ReadRefused = (image : List ℕ) (r : ImageRefusal) → read_of image ≡ Err r → in_table (read_of image) ≡ Err r
 
 -- a refused call of the host leaves the host and the output as they were
 abbrev pub CallRefused : Type 0

@@ -1,9 +1,10 @@
 -- Demand 2. Each burst gets exactly the answer that 01 gives: that is `played`, to which `answers::play` is proved
 -- equal. It goes by what is read of the burst, and what it never does is said here of every reading, and so of both editions.
-use Rattle.std.specs.Prelude.{Ok, ℕ, ◌≤◌, ◌<◌, true, ◌⊎◌, ◌≡◌, length, get_or, take}
+use Rattle.std.specs.Prelude.{Ok, ℕ, ◌≤◌, ◌<◌, true, ◌⊎◌, ◌≡◌, length, get_or, take, IsOk}
 use mathlib.Core.List.{List, [], ◌∷◌, map, Forall₂}
 use Rattle.settings.specs.declared.Profile.{Profile}
-use Rattle.codes.specs.declared.Found.{Found}
+use Rattle.std.specs.Prelude.{Some}
+use Rattle.codes.specs.declared.Code.{Code}
 use Rattle.settings.specs.Settings.{set_code, get_code, values_of, row_count, kind_row, tiling_row}
 use Rattle.codes.specs.Found.{found_by}
 use Rattle.models.specs.Models.{allowed_for, filled}
@@ -30,13 +31,12 @@ use Rattle.demands.specs.Cases.{Case, tried, cases}
 use Rattle.line.specs.Receiver.{Event, bursts_after, receiver_of, streamed}
 use Rattle.image_forms.specs.declared.Form.{Form}
 use Rattle.image_forms.specs.Forms.{has_field}
-use Rattle.refusals.specs.declared.Refusal.{Refusal}
 use Rattle.image_write.specs.Written.{written_of, output_of}
-use Rattle.image_frame.specs.Frame.{form_of, frame_refusal, records_in}
+use Rattle.image_frame.specs.Frame.{form_of, frame_of, records_in}
 use Rattle.image_read.specs.Fields.{fields_in}
-use Rattle.refusals.specs.Refusals.{is_sound}
 use Rattle.image_read.specs.Read.{read_of, in_table}
 use Rattle.image_read.specs.Entries.{Entry, bytes_of, fresh_entry, Without, Reordered, GiveAlike, SameHead}
+use Rattle.image_salvage.specs.declared.Salvaged.{Salvaged}
 use Rattle.image_salvage.specs.Salvaged.{salvaged_as}
 
 -- a session goes by what is read of its bursts, one after the other,
@@ -79,7 +79,7 @@ abbrev pub Answer-Is : Wall → Reply → Type 0
 Answer-Is w r =
     (r ≡ silence)
     ⊎ (((i : MonitorId) × (c : Control) × (r ≡ word_from i c))
-    ⊎ ((i : MonitorId) × (k : ℕ) × (row : ℕ) × (k < length w) × ((get_or w k blank).id.0 ≡ i.0) × (found_by (get_code row) ≡ Found.Get row)
+    ⊎ ((i : MonitorId) × (k : ℕ) × (row : ℕ) × (k < length w) × ((get_or w k blank).id.0 ≡ i.0) × (found_by (get_code row) ≡ Some (Code.Get row))
     × (r ≡ report_from i (get_code row ∷ values_of row (get_or w k blank).values))))
 
 abbrev pub Answers : Type 0
@@ -94,8 +94,8 @@ pub data Comes : Table → Type 0 where
   empty : Comes (table_of [])
   add : {t : Table} → Comes t → (i : MonitorId) (g : GroupId) (n k : ℕ) → Comes (table_of (added (panels_of t) i g n k))
   remove : {t : Table} → Comes t → (i : MonitorId) → Comes (table_of (removed (panels_of t) i))
-  image : (bytes : List ℕ) → Comes (in_table (read_of bytes)).table
-  salvage : (bytes : List ℕ) → Comes (salvaged_as bytes).table
+  image : (bytes : List ℕ) (t : Table) → in_table (read_of bytes) ≡ Ok t → Comes t
+  salvage : (bytes : List ℕ) (s : Salvaged) → salvaged_as bytes ≡ Ok s → Comes s.table
   burst : {t : Table} → Comes t → (r : Reading) → Comes (table_of (answered (panels_of t) r).wall)
 
 abbrev pub InRange : Type 0
@@ -105,16 +105,15 @@ InRange = (t : Table) → Comes t → WellFormed t
 abbrev pub ReadsBack : Type 0
 ReadsBack =
     (form : Form) (t : Table) → WellFormed t → (out : List ℕ) (n : ℕ) → written_of form (panels_of t) out ≡ Ok n
-    → let image = take n (output_of form (panels_of t) out) in
-    ((in_table (read_of image)).refusal ≡ Refusal.Nothing) × ((in_table (read_of image)).table ≡ t)
+    → in_table (read_of (take n (output_of form (panels_of t) out))) ≡ Ok t
 
 -- Fields go by code: an image without fault, and another, of the same form or the other one, whose records hold the same fields
 -- in any order that has no kind behind a tiling, read as the same wall
 abbrev pub Alike : (Form → Profile → List Entry → List Entry → Type 0) → Type 0
 Alike P =
-    (image other : List ℕ) → is_sound (frame_refusal other) ≡ true
+    (image other : List ℕ) → IsOk (frame_of other)
     → Forall₂ (SameHead P (form_of image) (form_of other)) (records_in image) (records_in other)
-    → (read_of image).refusal ≡ Refusal.Nothing → read_of other ≡ read_of image
+    → IsOk (read_of image) → read_of other ≡ read_of image
 
 abbrev pub AnyOrder : Type 0
 AnyOrder = Alike Reordered
@@ -127,7 +126,7 @@ ByCode = Alike GiveAlike
 abbrev pub LeftOut : Type 0
 LeftOut =
     (profile : Profile) (form : Form) (row : ℕ) (es : List Entry) → row < row_count → has_field form row ≡ true → Without (set_code row) es
-    → (row ≡ tiling_row → Without (set_code kind_row) es) → (fields_in form profile (bytes_of es)).refusal ≡ Refusal.Nothing
+    → (row ≡ tiling_row → Without (set_code kind_row) es) → IsOk (fields_in form profile (bytes_of es))
     → fields_in form profile (bytes_of (fresh_entry profile row ∷ es)) ≡ fields_in form profile (bytes_of es)
 
 -- the ten P cases of 01, and those of a 1.85 line

@@ -1,6 +1,7 @@
 -- Host and box on one line, of either edition. 01, "Host side"; 02, A11.
 use Rattle.std.specs.Prelude.{ℕ, zero, suc, ◌<◌, Bool, true, cond, not, ◌&&◌, ◌≡◌, List, [], ◌∷◌, map, eqb, length, get_or, replicate, Option, Some, None}
-use Rattle.codes.specs.declared.Found.{Found}
+use Rattle.std.specs.Prelude.{Option, Some, None}
+use Rattle.codes.specs.declared.Code.{Code}
 use Rattle.tiling.specs.Kinds.{in_wall}
 use Rattle.settings.specs.Settings.{values_of, tiling_row}
 use Rattle.codes.specs.Found.{found_by}
@@ -38,11 +39,11 @@ past_wall row values p =
 -- With the nth packet a get ends with the report of the panel's values, and a set with ACK; but the power off of a panel that is
 -- off (02, A5) with NAV and, where an earlier packet may have turned it off, with "off or refused"; and a tiling past the panel's
 -- own wall with NAV.
-abbrev pub EndsWith : Edition → Found → Request → Panel → ℕ → Move → Type 0
-EndsWith edition (Found.Set row) r p n m =
+abbrev pub EndsWith : Edition → Option Code → Request → Panel → ℕ → Move → Type 0
+EndsWith edition (Some (Code.Set row)) r p n m =
     m ≡ over (waiting edition r n) [] (cond (off_already row (request_values r) p) (cond (eqb n 1) End.Nav End.OffOrRefused) (cond (past_wall row (request_values r) p) End.Nav End.Ack)) []
-EndsWith edition (Found.Get row) r p n m = m ≡ over (waiting edition r n) [] End.Report (values_of row p.values)
-EndsWith edition Found.Nothing r p n m = ⊥
+EndsWith edition (Some (Code.Get row)) r p n m = m ≡ over (waiting edition r n) [] End.Report (values_of row p.values)
+EndsWith edition None r p n m = ⊥
 
 -- A request to a panel that is there, and of the profile and kind that the request says, ends so with the first packet that is answered: on
 -- a line that loses nothing that is the first, and on another the one that comes after n marks.

@@ -2,7 +2,8 @@
 use Rattle.std.specs.Prelude.{ℕ, ◌-◌, cond, ◌&&◌, ◌≡◌, List, [], ◌∷◌, leb, eqb, length, take, drop, Option, Some, None}
 use Rattle.lists.specs.Lists.{same}
 use Rattle.settings.specs.Settings.{get_code}
-use Rattle.codes.specs.declared.Found.{Found}
+use Rattle.std.specs.Prelude.{Option, Some, None}
+use Rattle.codes.specs.declared.Code.{Code}
 use Rattle.codes.specs.Found.{found_by}
 use Rattle.models.specs.Models.{allowed_for}
 use Rattle.packet.specs.declared.Edition.{Edition}
@@ -21,10 +22,10 @@ data_in Edition.Sicp185 b = take (length b - 3) (drop 2 b)
 data_in Edition.Sicp201 b = take (length b - 4) (drop 3 b)
 
 -- for a set ACK, 00 06; for a get its report, the get code and then values that the panel may hold
-abbrev pub ends_by : Request → Found → List ℕ → Option Said
-ends_by r (Found.Set row) d = cond (same d (0x00 ∷ 0x06 ∷ [])) (Some Said.Ack) None
-ends_by r (Found.Get row) d = cond (same (take 1 d) (get_code row ∷ []) && allowed_for r.model row (drop 1 d)) (Some Said.Report) None
-ends_by r Found.Nothing d = None
+abbrev pub ends_by : Request → Option Code → List ℕ → Option Said
+ends_by r (Some (Code.Set row)) d = cond (same d (0x00 ∷ 0x06 ∷ [])) (Some Said.Ack) None
+ends_by r (Some (Code.Get row)) d = cond (same (take 1 d) (get_code row ∷ []) && allowed_for r.model row (drop 1 d)) (Some Said.Report) None
+ends_by r None d = None
 
 -- for either NACK, 00 15, or NAV, 00 18; and nothing, where the burst is not intact, or is not heeded
 abbrev pub said : Edition → Request → List ℕ → Option Said

@@ -15,6 +15,7 @@ use Rattle.table_calls.specs.Calls.{number_of as table_number, add_refusal, remo
 use Rattle.answers.specs.declared.Reply.{Reply}
 use Rattle.answers.specs.Reply.{sent_of, refusal_number as answer_number}
 use Rattle.requests.specs.Request.{is_request}
+use Rattle.host.specs.declared.Phase.{Phase}
 use Rattle.host.specs.declared.Host.{Host}
 use Rattle.host.specs.declared.Outcome.{Outcome}
 use Rattle.host.specs.Machine.{Happening, start, burst, mark}
@@ -81,8 +82,13 @@ number_in Outcome.Waiting = 0
 number_in (Outcome.Over e n) = 0
 number_in (Outcome.Refused r) = host_number r
 
+abbrev pub number_at : Phase → ℕ → ℕ
+number_at Phase.Idle n = n
+number_at Phase.Resting n = 24
+number_at (Phase.Waiting asked) n = 21
+
 abbrev pub start_number : Host → Happening → ℕ
-start_number host (start r) = cond (eqb host.sendings 0) (cond host.resting 24 (cond (is_request host.edition r) 0 22)) 21
+start_number host (start r) = number_at host.phase (cond (is_request host.edition r) 0 22)
 start_number host (burst b) = 0
 start_number host mark = 0
 

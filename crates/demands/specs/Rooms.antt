@@ -2,7 +2,8 @@
 -- them are excepted, of which `AddExcepted` is an example. What one code sets is one setting, so that tiling is one.
 use Rattle.std.specs.Prelude.{ℕ, ◌<◌, Bool, false, cond, not, ◌&&◌, ◌||◌, ◌≡◌, eqb, length, get_or}
 use mathlib.Core.List.{List, [], ◌∷◌, ◌++◌, map, Memᴰ}
-use Rattle.codes.specs.declared.Found.{Found}
+use Rattle.std.specs.Prelude.{Some}
+use Rattle.codes.specs.declared.Code.{Code}
 use Rattle.codes.specs.Found.{found_by}
 use Rattle.packet.specs.declared.Edition.{Edition}
 use Rattle.packet.specs.declared.MonitorId.{MonitorId}
@@ -44,7 +45,7 @@ abbrev pub SetWith : Edition → ℕ → List ℕ → Type 0
 SetWith edition code b =
     let r = reading_of edition b in
     (i : MonitorId) × (g : GroupId) × (n : ℕ) × (row : ℕ) × (values : List ℕ)
-    × (r.verdict ≡ Verdict.Intact i g n) × (r.part ≡ code ∷ values) × (found_by code ≡ Found.Set row)
+    × (r.verdict ≡ Verdict.Intact i g n) × (r.part ≡ code ∷ values) × (found_by code ≡ Some (Code.Set row))
 
 abbrev pub OtherCodes : Type 0
 OtherCodes = EitherOrderIf (λ edition w b c. (code : ℕ) × (other : ℕ) × (code ≡ other → ⊥) × SetWith edition code b × SetWith edition other c)

@@ -1,6 +1,6 @@
 -- Salvage of a setup image (02, A7): what the reader and the salvage say of an image, what is kept, and that the lines tell all of
 -- it that is not from the image.
-use Rattle.std.specs.Prelude.{ℕ, ◌≤◌, ◌<◌, Bool, true, false, ◌⊎◌, ◌≡◌, length, get_or, drop, Some}
+use Rattle.std.specs.Prelude.{ℕ, ◌≤◌, ◌<◌, Bool, true, false, ◌⊎◌, ◌≡◌, length, get_or, drop, Some, Ok, IsOk}
 use mathlib.Core.List.{List, [], ◌∷◌, ◌++◌, flatten, Memᴰ}
 use Rattle.settings.specs.declared.Profile.{Profile}
 use Rattle.settings.specs.Settings.{set_code, fresh_values, values_of, row_count}
@@ -11,9 +11,8 @@ use Rattle.image_forms.specs.declared.Form.{Form}
 use Rattle.image_forms.specs.Forms.{head_size, profile_in}
 use Rattle.image_faults.specs.declared.Fault.{Fault}
 use Rattle.image_faults.specs.Lines.{fault_number, line_of}
-use Rattle.refusals.specs.declared.Refusal.{Refusal}
-use Rattle.refusals.specs.Refusals.{is_sound, refusal_number}
-use Rattle.image_frame.specs.Frame.{form_of, frame_refusal, records_in}
+use Rattle.refusals.specs.Refusals.{number_of}
+use Rattle.image_frame.specs.Frame.{form_of, frame_of, records_in}
 use Rattle.image_record.specs.declared.Step.{Step}
 use Rattle.image_record.specs.Head.{headed}
 use Rattle.image_record.specs.Field.{step_at}
@@ -30,17 +29,17 @@ first_fault ((fault ∷ faults) ∷ rest) = fault_number fault
 
 -- Reader and salvage never disagree: what the reader refuses an image by is the first fault that the lines tell.
 abbrev pub SameFault : Type 0
-SameFault = (image : List ℕ) → is_sound (frame_refusal image) ≡ true → refusal_number (read_of image).refusal ≡ first_fault (salvage_of image).faults
+SameFault = (image : List ℕ) → IsOk (frame_of image) → number_of (read_of image) ≡ first_fault (salvage_of image).faults
 
 -- A sound image gives the reader's own table and no lines.
 abbrev pub SoundKept : Type 0
-SoundKept = (image : List ℕ) → (read_of image).refusal ≡ Refusal.Nothing → ((salvage_of image).wall ≡ (read_of image).wall) × (text_of (salvage_of image) ≡ [])
+SoundKept = (image : List ℕ) (w : Wall) → read_of image ≡ Ok w → ((salvage_of image).wall ≡ w) × (text_of (salvage_of image) ≡ [])
 
 -- What is kept is well-formed, and its image reads as just that.
 abbrev pub KeptReads : Type 0
 KeptReads =
     (image : List ℕ) → let w = (salvage_of image).wall in
-    WellFormed (table_of w) × (read_of (setup_of Form.Two w) ≡ record { refusal = Refusal.Nothing; wall = w })
+    WellFormed (table_of w) × (read_of (setup_of Form.Two w) ≡ Ok w)
 
 -- In the header's own numbers: 32 records with at most eleven lines each, and nine bytes for a line.
 abbrev pub LinesFew : Type 0
@@ -80,7 +79,7 @@ pub data Told (form : Form) : List (List ℕ) → List (List Fault) → Wall →
 -- A reader who knows the image and the faults can tell every value that isn't from the image.
 abbrev pub AllTold : Type 0
 AllTold =
-    (image : List ℕ) → is_sound (frame_refusal image) ≡ true → Told (form_of image) (records_in image) (salvage_of image).faults (salvage_of image).wall
+    (image : List ℕ) → IsOk (frame_of image) → Told (form_of image) (records_in image) (salvage_of image).faults (salvage_of image).wall
 
 -- And who knows the lines knows the faults: no line is that of another record or of another fault.
 abbrev pub CodeOf : Fault → Type 0

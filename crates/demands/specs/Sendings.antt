@@ -12,7 +12,7 @@ use Rattle.host.specs.declared.Host.{Host}
 use Rattle.host.specs.declared.End.{End}
 use Rattle.host.specs.declared.Outcome.{Outcome}
 use Rattle.host.specs.Machine.{Happening, start, burst, mark, waiting_for, idle}
-use Rattle.host.specs.Calls.{host_of}
+use Rattle.host.specs.Calls.{host_of, state_of}
 use Rattle.demands.specs.HostCalls.{Call, has_room, answer_to, output_after, given_out, host_after, packets, none_over}
 use Rattle.demands.specs.HostMoves.{data_in, said}
 use Rattle.demands.specs.Numbers.{number_in}
@@ -83,6 +83,7 @@ NotCounted = (host : Host) (cs : List Call) → (host_after host cs ≡ host_aft
 abbrev pub Ignored : Type 0
 Ignored =
     (host : Host) (b lent : List ℕ)
-    → (eqb host.sendings 0 ≡ false → said host.edition host.request b ≡ None)
+    → let s = state_of host in
+    (eqb (length s.given) 0 ≡ false → said s.edition s.request b ≡ None)
     → let c : Call = record { happens = burst b; lent = lent } in
     (host_after host (c ∷ []) ≡ host) × (output_after host c ≡ lent) × (given_out host c ≡ []) × (none_over host (c ∷ []) ≡ true)

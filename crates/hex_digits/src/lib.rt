@@ -18,15 +18,3 @@ pub fn digits(b: u8) -> [u8; 2]
 {
     [digit(b / 16), digit(b % 16)]
 }
-
-pub fn high(b: u8) -> u8
-    ensures { result ≡ digit_of (b / 16) }
-{
-    digits(b)[0]
-}
-
-pub fn low(b: u8) -> u8
-    ensures { result ≡ digit_of (b % 16) }
-{
-    digits(b)[1]
-}

@@ -2,70 +2,83 @@
 use mathlib.Core.Path.{◌≡◌, refl}
 use mathlib.Core.Bool.{true, false}
 use mathlib.Core.List.{List}
-use Prim.Native.Nat.{ℕ, ◌≤◌, ◌<◌}
+use Prim.Native.Nat.{ℕ, suc, ◌≤◌, ◌<◌}
 use native.Mathlib.Omega.{arith}
 use borrow.Author.Tests.{le-leb, lt-leb, lt-ltb, eq-eqb, ne_eqb}
-use lib.ListN.{length, length-replicate}
+use lib.Dec.{ltb}
+use lib.ListN.{length, replicate}
 use Rattle.std.specs.Prelude.{None}
 use Rattle.packet.specs.Packet.{damage_in, longest}
 use Rattle.packet.specs.Reading.{reading_of}
 use Rattle.packet.specs.declared.MonitorId.{MonitorId}
 use Rattle.packet.specs.declared.GroupId.{GroupId}
 use Rattle.packet.specs.declared.Verdict.{Verdict}
+use Rattle.packet.specs.declared.Edition.{Edition}
+use Rattle.host.specs.declared.Asked.{Asked}
+use Rattle.host.specs.declared.Phase.{Phase}
 use Rattle.host.specs.declared.Host.{Host}
 use Rattle.host.specs.declared.Refusal.{Refusal}
 use Rattle.host.specs.declared.Outcome.{Outcome}
 use Rattle.requests.specs.declared.Request.{Request}
-use Rattle.requests.specs.Request.{is_request}
+use Rattle.requests.specs.Request.{request_packet, is_request}
 use Rattle.requests.specs.Said.{word_in}
 use Rattle.host.specs.Heard.{said_by, said_to}
-use Rattle.host.specs.Machine.{Happening, start, burst, mark, State, idle, quiet, unasked, begun, again, ending, heard, telling, step}
-use Rattle.host.specs.Calls.{state_of, call}
+use Rattle.host.specs.Machine.{Happening, start, burst, mark, State, idle, quiet, begun, again, ending, heard, telling, step}
+use Rattle.host.specs.Calls.{asked_state, state_by, state_of, call}
 
 pub no_room : (out : List ℕ) (s : State) (h : Happening) → length out < longest → call out s h ≡ quiet s (Outcome.Refused Refusal.NoRoom)
 unfolding call
 no_room out s h short = rw (lt-leb _ _ short)
 
-some : (n : ℕ) → (n ≡ 0 → ⊥) → 0 < n
-some n h = omega arith
+-- a request that waits was sent
+waits_now : (edition : Edition) (a : Asked) → ltb 0 (suc (length (replicate a.again (request_packet edition a.request)))) ≡ true
+waits_now edition a = lt-ltb _ _ (omega arith)
 
 -- with room for a packet
 module _ (out : List ℕ) (host : Host) (room : longest ≤ length out) where
+  pub idle-burst : host.phase ≡ Phase.Idle → (b : List ℕ) → call out (state_of host) (burst b) ≡ telling (damage_in (reading_of host.edition b).verdict) (quiet (state_of host) Outcome.Idle)
+  unfolding call step
+  idle-burst e b = rw (le-leb _ _ room, e)
+
+  pub not_started : host.phase ≡ Phase.Idle → (r : Request) → is_request host.edition r ≡ false → call out (state_of host) (start r) ≡ quiet (state_of host) (Outcome.Refused Refusal.NotARequest)
+  unfolding call step
+  not_started e r t = rw (le-leb _ _ room, e, t)
+
+  pub started : host.phase ≡ Phase.Idle → (r : Request) → is_request host.edition r ≡ true → call out (state_of host) (start r) ≡ begun host.edition r
+  unfolding call step
+  started e r t = rw (le-leb _ _ room, e, t)
+
+  pub resting-burst : host.phase ≡ Phase.Resting → (b : List ℕ) → call out (state_of host) (burst b) ≡ telling (damage_in (reading_of host.edition b).verdict) (quiet (state_of host) Outcome.Resting)
+  unfolding call step
+  resting-burst e b = rw (le-leb _ _ room, e)
+
+  pub rests : host.phase ≡ Phase.Resting → (r : Request) → call out (state_of host) (start r) ≡ quiet (state_of host) (Outcome.Refused Refusal.Resting)
+  unfolding call step
+  rests e r = rw (le-leb _ _ room, e)
+
   -- nothing waits
-  module _ (e : host.sendings ≡ 0) where
-    pub idle-burst : (b : List ℕ) → call out (state_of host) (burst b) ≡ telling (damage_in (reading_of host.edition b).verdict) (quiet (state_of host) (unasked host.resting))
-    unfolding call step
-    idle-burst b = rw (le-leb _ _ room, length-replicate, e)
-
-    pub idle-mark : call out (state_of host) mark ≡ quiet (idle host.edition) Outcome.Idle
-    unfolding call step
-    idle-mark = rw (le-leb _ _ room, length-replicate, e)
-
-    pub rests : host.resting ≡ true → (r : Request) → call out (state_of host) (start r) ≡ quiet (state_of host) (Outcome.Refused Refusal.Resting)
-    unfolding call step
-    rests t r = rw (le-leb _ _ room, length-replicate, e, t)
-
-    pub not_started : host.resting ≡ false → (r : Request) → is_request host.edition r ≡ false → call out (state_of host) (start r) ≡ quiet (state_of host) (Outcome.Refused Refusal.NotARequest)
-    unfolding call step
-    not_started f r t = rw (le-leb _ _ room, length-replicate, e, f, t)
-
-    pub started : host.resting ≡ false → (r : Request) → is_request host.edition r ≡ true → call out (state_of host) (start r) ≡ begun host.edition r
-    unfolding call step
-    started f r t = rw (le-leb _ _ room, length-replicate, e, f, t)
+  pub free-mark : ((a : Asked) → host.phase ≡ Phase.Waiting a → ⊥) → call out (state_of host) mark ≡ quiet (idle host.edition) Outcome.Idle
+  unfolding call step
+  free-mark ne = rw (le-leb _ _ room) (go host.phase ne)
+    where
+      go : (p : Phase) → ((a : Asked) → p ≡ Phase.Waiting a → ⊥) → step (state_by host.edition p) mark ≡ quiet (idle host.edition) Outcome.Idle
+      go Phase.Idle ne = refl
+      go Phase.Resting ne = refl
+      go (Phase.Waiting a) ne = absurd (ne a refl)
 
   -- a request waits
-  module _ (ne : host.sendings ≡ 0 → ⊥) where
-    pub burst-heard : (b : List ℕ) → call out (state_of host) (burst b) ≡ telling (damage_in (reading_of host.edition b).verdict) (heard (state_of host) (reading_of host.edition b))
+  module _ (a : Asked) (e : host.phase ≡ Phase.Waiting a) where
+    pub burst-heard : (b : List ℕ) → call out (state_of host) (burst b) ≡ telling (damage_in (reading_of host.edition b).verdict) (heard (asked_state host.edition a) (reading_of host.edition b))
     unfolding call step
-    burst-heard b = rw (le-leb _ _ room, length-replicate, lt-ltb _ _ (some _ ne))
+    burst-heard b = rw (le-leb _ _ room, e, waits_now host.edition a)
 
-    pub mark-heard : call out (state_of host) mark ≡ again (state_of host)
+    pub mark-heard : call out (state_of host) mark ≡ again (asked_state host.edition a)
     unfolding call step
-    mark-heard = rw (le-leb _ _ room, length-replicate, lt-ltb _ _ (some _ ne))
+    mark-heard = rw (le-leb _ _ room, e, waits_now host.edition a)
 
     pub busy : (r : Request) → call out (state_of host) (start r) ≡ quiet (state_of host) (Outcome.Refused Refusal.Busy)
     unfolding call step
-    busy r = rw (le-leb _ _ room, length-replicate, lt-ltb _ _ (some _ ne))
+    busy r = rw (le-leb _ _ room, e, waits_now host.edition a)
 
 -- what is heard goes by the burst's verdict and data
 pub heard_is : (s : State) (b d : List ℕ) (v : Verdict) → v ≡ (reading_of s.edition b).verdict → d ≡ (reading_of s.edition b).part

@@ -45,13 +45,11 @@ abbrev pub waiting_for : Edition → Request → List (List ℕ) → State
 waiting_for edition r packets = record { edition = edition; request = r; given = packets; resting = false }
 
 -- nothing waits, and a fixed blank stands in the place of a request; the host rests, or it is idle
+abbrev pub blank : Request
+blank = record { model = record { profile = Profile.General; kind = Kind.FiveByFive }; id = monitor_id 0; group = group_id 0; code = 0; values = replicate most_values 0; count = 0 }
+
 abbrev pub free : Edition → Bool → State
-free edition resting = record {
-  edition = edition;
-  request = record { model = record { profile = Profile.General; kind = Kind.FiveByFive }; id = monitor_id 0; group = group_id 0; code = 0; values = replicate most_values 0; count = 0 };
-  given = [];
-  resting = resting;
-}
+free edition resting = record { edition = edition; request = blank; given = []; resting = resting }
 
 abbrev pub idle : Edition → State
 idle edition = free edition false

@@ -3,36 +3,47 @@
 
 mod hearing;
 mod sending;
+mod words;
 
-ghost use Rattle.std.specs.Prelude.{◌≡◌, ℕ, ◌≤◌, length};
+ghost use Rattle.std.specs.Prelude.{◌≡◌, ℕ, ◌+◌, ◌≤◌, ltb, length};
 ghost use mathlib.Core.List.{List, flatten};
 ghost use Rattle.settings.specs.Settings.{most_values};
-ghost use Rattle.host.specs.Machine.{start, burst, mark, idle, unasked, over};
-ghost use Rattle.host.specs.Calls.{refusal_number, host_of, state_of, step_of, call, Answers};
-ghost use Rattle.host.specs.Private.Steps.{plain_step, telling_step};
+ghost use Rattle.host.specs.Machine.{start, burst, mark, idle, over};
+ghost use Rattle.host.specs.Calls.{refusal_number, rest_after, host_of, asked_state, state_of, step_of, call, Answers};
+ghost use Rattle.host.specs.Private.Steps.{asked_host, plain_step, telling_step};
 
-use models::Model;
-use packet::{Damage, Edition, GroupId, LONGEST, MonitorId};
+use packet::{Damage, Edition, LONGEST};
 use refusals::NO_ROOM;
 use requests::Request;
-use settings::{MOST_VALUES, Profile};
-use tiling::Kind;
+use settings::MOST_VALUES;
 
 // A packet is sent at most so often.
 const MOST_SENDINGS: usize = 3;
 
-// The line's edition, the request that waits, and how often its packet was sent. Nothing waits where that is 0; the host then
-// rests where a mark is due before the next start.
+// A request that waits for its answer, and how often its packet was sent again.
+#[derive(Clone, Copy)]
+struct Asked {
+    request: Request,
+    again: u8,
+}
+
+// What a host does: nothing, or it rests, where a mark is due before the next start, or a request waits.
+#[derive(Clone, Copy)]
+enum Phase {
+    Idle,
+    Resting,
+    Waiting(Asked),
+}
+
+// The line's edition, and what the host does.
 #[derive(Clone, Copy)]
 pub struct Host {
     edition: Edition,
-    request: Request,
-    sendings: usize,
-    resting: bool,
+    phase: Phase,
 }
 
 // Why a call did nothing.
-#[derive(Clone, Copy)]
+#[derive(Clone, Copy, Debug, PartialEq, Eq)]
 pub enum Refusal {
     NoRoom,
     Busy,
@@ -41,7 +52,7 @@ pub enum Refusal {
 }
 
 // How a request ended. A power off that was sent more than once and got NAV has left the panel off, or was refused.
-#[derive(Clone, Copy)]
+#[derive(Clone, Copy, Debug, PartialEq, Eq)]
 pub enum End {
     Unheard,
     Ack,
@@ -52,7 +63,7 @@ pub enum End {
 }
 
 // What has become of the request; where it is over, how it ended and how often its packet was sent.
-#[derive(Clone, Copy)]
+#[derive(Clone, Copy, Debug, PartialEq, Eq)]
 pub enum Outcome {
     Idle,
     Resting,
@@ -74,14 +85,37 @@ pub struct Step {
 }
 
 // The paper's number for a refusal.
-pub fn refusal_number(refusal: Refusal) -> u8
-    ensures { result ≡ refusal_number refusal }
-{
-    match refusal {
-        Refusal::NoRoom => NO_ROOM,
-        Refusal::Busy => 21,
-        Refusal::Resting => 24,
-        Refusal::NotARequest => 22,
+impl From<Refusal> for u8 {
+    ghost from_gives = { λ refusal number. number ≡ refusal_number refusal };
+
+    fn from(refusal: Refusal) -> u8 {
+        match refusal {
+            Refusal::NoRoom => NO_ROOM,
+            Refusal::Busy => 21,
+            Refusal::Resting => 24,
+            Refusal::NotARequest => 22,
+        }
+    }
+}
+
+impl Asked {
+    // How often its packet was sent.
+    fn sendings(self) -> usize
+        ensures { result ≡ self.again + 1 }
+    {
+        usize::from(self.again) + 1
+    }
+
+    // What the host does when it is over: where its packet was sent more than once, an answer may still be under way, and the host
+    // rests.
+    fn rest(self) -> Phase
+        ensures { result ≡ rest_after (ltb 1 (self.again + 1)) }
+    {
+        if self.again == 0 {
+            Phase::Idle
+        } else {
+            Phase::Resting
+        }
     }
 }
 
@@ -100,35 +134,30 @@ fn plain(host: Host, length: usize, outcome: Outcome) -> Step
     }
 }
 
-// The host's request is over. So many bytes were given out, and a report has these values. Where its packet was sent more than
-// once, an answer may still be under way, and the host rests.
-fn over(host: Host, sent: usize, end: End, v: &[u8]) -> Step
-    requires { length v.now ≤ most_values }
-    ensures { (packets : List (List ℕ)) → sent ≡ length (flatten packets) → result ≡ step_of (over (state_of host) packets end v.now) }
+// The request waits, and so many bytes were given out.
+fn waiting(edition: Edition, asked: Asked, length: usize) -> Step
+    ensures { result ≡ plain_step (asked_host edition asked) length Outcome.Waiting }
 {
-    let edition = host.edition;
-    let mut next = Host::open(edition);
-    next.resting = 1 < host.sendings;
+    let phase = Phase::Waiting(asked);
+    plain(Host { edition, phase }, length, Outcome::Waiting)
+}
+
+// The request is over. So many bytes were given out, and a report has these values.
+fn over(edition: Edition, asked: Asked, sent: usize, end: End, v: &[u8]) -> Step
+    requires { length v.now ≤ most_values }
+    ensures { (packets : List (List ℕ)) → sent ≡ length (flatten packets) → result ≡ step_of (over (asked_state edition asked) packets end v.now) }
+{
+    let phase = asked.rest();
     let mut values = [0u8; MOST_VALUES];
     let count = lists::copy(v, &mut values);
     Step {
-        host: next,
+        host: Host { edition, phase },
         length: sent,
-        outcome: Outcome::Over(end, host.sendings),
+        outcome: Outcome::Over(end, asked.sendings()),
         values,
         count,
         damage: None,
     }
-}
-
-// What a host tells while nothing waits, and it rests or not.
-fn unasked(resting: bool) -> Outcome
-    ensures { result ≡ unasked resting }
-{
-    if resting {
-        return Outcome::Resting;
-    }
-    Outcome::Idle
 }
 
 // An answer to a burst with this damage.
@@ -153,24 +182,9 @@ impl Host {
     pub fn open(edition: Edition) -> Self
         ensures { result ≡ host_of (idle edition) }
     {
-        let values = [0u8; MOST_VALUES];
-        let model = Model {
-            profile: Profile::General,
-            kind: Kind::FiveByFive,
-        };
-        let request = Request {
-            model,
-            id: MonitorId(0),
-            group: GroupId(0),
-            code: 0,
-            values,
-            count: 0,
-        };
         Host {
             edition,
-            request,
-            sendings: 0,
-            resting: false,
+            phase: Phase::Idle,
         }
     }
 
@@ -181,17 +195,17 @@ impl Host {
         if out.len() < LONGEST {
             return plain(self, 0, Outcome::Refused(Refusal::NoRoom));
         }
-        if self.sendings != 0 {
-            return plain(self, 0, Outcome::Refused(Refusal::Busy));
-        }
-        if self.resting {
-            return plain(self, 0, Outcome::Refused(Refusal::Resting));
-        }
         let edition = self.edition;
-        if !requests::is_request(edition, request) {
-            return plain(self, 0, Outcome::Refused(Refusal::NotARequest));
+        match self.phase {
+            Phase::Waiting(_) => plain(self, 0, Outcome::Refused(Refusal::Busy)),
+            Phase::Resting => plain(self, 0, Outcome::Refused(Refusal::Resting)),
+            Phase::Idle => {
+                if !requests::is_request(edition, request) {
+                    return plain(self, 0, Outcome::Refused(Refusal::NotARequest));
+                }
+                sending::begin(edition, request, out)
+            }
         }
-        sending::begin(edition, request, out)
     }
 
     // A burst has been heard.
@@ -202,13 +216,15 @@ impl Host {
             return plain(self, 0, Outcome::Refused(Refusal::NoRoom));
         }
         let edition = self.edition;
-        let verdict = packet::verdict_of(edition, b);
-        let damage = packet::damage_in(verdict);
-        if self.sendings == 0 {
-            return telling(damage, plain(self, 0, unasked(self.resting)));
+        let reading = packet::read(edition, b);
+        let damage = reading.verdict.damage();
+        match self.phase {
+            Phase::Idle => telling(damage, plain(self, 0, Outcome::Idle)),
+            Phase::Resting => telling(damage, plain(self, 0, Outcome::Resting)),
+            Phase::Waiting(asked) => {
+                telling(damage, hearing::heeded(edition, asked, reading, out))
+            }
         }
-        let d = packet::data_of(edition, b, verdict);
-        telling(damage, hearing::heeded(self, verdict, d, out))
     }
 
     // 500 ms have passed. A host that rests is idle then.
@@ -218,10 +234,10 @@ impl Host {
         if out.len() < LONGEST {
             return plain(self, 0, Outcome::Refused(Refusal::NoRoom));
         }
-        if self.sendings == 0 {
-            let edition = self.edition;
+        let edition = self.edition;
+        let Phase::Waiting(asked) = self.phase else {
             return plain(Host::open(edition), 0, Outcome::Idle);
-        }
-        sending::send_again(self, out)
+        };
+        sending::send_again(edition, asked, out)
     }
 }

@@ -4,9 +4,9 @@ ghost use Rattle.lists.specs.Lists.{laid_over};
 ghost use Rattle.packet.specs.Packet.{longest};
 ghost use Rattle.requests.specs.Request.{request_packet};
 ghost use Rattle.host.specs.Machine.{begun, again};
-ghost use Rattle.host.specs.Calls.{state_of, Answers};
+ghost use Rattle.host.specs.Calls.{asked_state, Answers};
 
-use crate::{End, Host, MOST_SENDINGS, Outcome, Step};
+use crate::{Asked, End, MOST_SENDINGS, Step};
 use packet::Edition;
 use requests::Request;
 
@@ -25,39 +25,25 @@ pub(crate) fn begin(edition: Edition, request: Request, out: &mut [u8]) -> Step
     ensures { Answers (begun edition request) out.old result out.new }
 {
     let length = send(edition, request, out);
-    let host = Host {
-        edition,
-        request,
-        sendings: 1,
-        resting: false,
-    };
+    let asked = Asked { request, again: 0 };
     if packet::is_heard(request.id, request.group) {
-        crate::plain(host, length, Outcome::Waiting)
+        crate::waiting(edition, asked, length)
     } else {
-        crate::over(host, length, End::Unheard, &[])
+        crate::over(edition, asked, length, End::Unheard, &[])
     }
 }
 
 // The same packet again, or after the third sending given up.
-pub(crate) fn send_again(host: Host, out: &mut [u8]) -> Step
+pub(crate) fn send_again(edition: Edition, asked: Asked, out: &mut [u8]) -> Step
     requires { longest ≤ length out.old }
-    ensures { Answers (again (state_of host)) out.old result out.new }
+    ensures { Answers (again (asked_state edition asked)) out.old result out.new }
 {
-    let sendings = host.sendings;
+    let sendings = asked.sendings();
     if MOST_SENDINGS <= sendings {
-        return crate::over(host, 0, End::GivenUp, &[]);
+        return crate::over(edition, asked, 0, End::GivenUp, &[]);
     }
-    let edition = host.edition;
-    let request = host.request;
+    let request = asked.request;
     let length = send(edition, request, out);
-    crate::plain(
-        Host {
-            edition,
-            request,
-            sendings: sendings + 1,
-            resting: false,
-        },
-        length,
-        Outcome::Waiting,
-    )
+    let again = asked.again + 1;
+    crate::waiting(edition, Asked { request, again }, length)
 }

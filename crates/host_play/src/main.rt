@@ -3,43 +3,18 @@
 
 use host::{End, Host, Outcome, Step};
 use models::Model;
-use packet::{Damage, Edition, LONGEST};
+use packet::{Edition, LONGEST};
 use requests::Request;
 use settings::Profile;
 use std::io;
 use text::Hex;
 use tiling::Kind;
 
-// Prints how a request ended, how often its packet was sent, and a report's values.
-fn print_end(rt: &impl Print, end: End, n: u64, values: &[u8]) -> io::Result<()> {
-    match end {
-        End::Unheard => print!(rt; "unheard {n}"),
-        End::Ack => print!(rt; "ack {n}"),
-        End::Nav => print!(rt; "nav {n}"),
-        End::OffOrRefused => print!(rt; "off-or-refused {n}"),
-        End::Report => print!(rt; "report {n} {}", Hex(values)),
-        End::GivenUp => print!(rt; "given-up {n}"),
-    }
-}
-
+// Prints what has become of the request, and behind it a report's values.
 fn print_outcome(rt: &impl Print, outcome: Outcome, values: &[u8]) -> io::Result<()> {
     match outcome {
-        Outcome::Idle => print!(rt; "idle"),
-        Outcome::Resting => print!(rt; "resting"),
-        Outcome::Waiting => print!(rt; "waiting"),
-        Outcome::Over(end, n) => print_end(rt, end, n as u64, values),
-        Outcome::Refused(refusal) => print!(rt; "refused {}", host::refusal_number(refusal)),
-    }
-}
-
-// Prints a space and what was wrong with a burst, where something was.
-fn print_damage(rt: &impl Print, damage: Option<Damage>) -> io::Result<()> {
-    match damage {
-        None => Ok(()),
-        Some(Damage::TooShort) => print!(rt; " too-short"),
-        Some(Damage::TooLong) => print!(rt; " too-long"),
-        Some(Damage::Size) => print!(rt; " size"),
-        Some(Damage::Checksum) => print!(rt; " checksum"),
+        Outcome::Over(End::Report, _) => print!(rt; "{outcome} {}", Hex(values)),
+        _ => print!(rt; "{outcome}"),
     }
 }
 
@@ -54,8 +29,9 @@ fn show(rt: &impl Print, step: Step, out: &[u8]) -> io::Result<Host> {
     let values = step.values;
     let outcome = step.outcome;
     print_outcome(rt, outcome, text::front(&values, step.count))?;
-    let damage = step.damage;
-    print_damage(rt, damage)?;
+    if let Some(damage) = step.damage {
+        print!(rt; " {damage}")?;
+    }
     println!(rt)?;
     Ok(step.host)
 }

@@ -1,4 +1,4 @@
--- ReadImage what was written gives that table. Assumes nothing.
+-- Reading what was written gives that table. Assumes nothing.
 use mathlib.Core.Path.{◌≡◌, refl, sym, ap, ap₂, ◌∙◌}
 use mathlib.Core.Bool.{Bool, true, false, cond, false≢true}
 use mathlib.Core.List.{List, [], ◌∷◌, ◌++◌, flatten, append-nil}
@@ -7,9 +7,9 @@ use Prim.Native.Nat.{ℕ, zero, suc, ◌+◌, ◌≤◌, ◌<◌}
 use native.Mathlib.Nat.{add-zero, eq-or-lt_of_le}
 use native.Mathlib.Omega.{arith}
 use borrow.Author.Tests.{eq-eqb, ne_eqb}
-use Rattle.std.specs.Prelude.{Ok, None}
 use lib.ListN.{length, get_or, take, length-map}
 use lib.Seq.{append_snoc, take_at}
+use Rattle.std.specs.Prelude.{None, Result, Ok}
 use Rattle.models.specs.declared.Model.{Model}
 use Rattle.settings.specs.Settings.{set_code, fresh_values, values_of, row_count, value_count, kind_row}
 use Rattle.lists.specs.Lists.{each, laid_over}
@@ -24,7 +24,8 @@ use Rattle.image_forms.specs.Forms.{has_field, keeps}
 use Rattle.image_forms.proofs.Laws.{kept_profile, kept_fresh}
 use Rattle.image_write.specs.Written.{field, field_in, fields_of, record_of, records_of, setup_of, size_of, loses_nothing, written_of, output_of}
 use Rattle.image_read.specs.Fields.{fields_in}
-use Rattle.image_read.specs.Read.{ReadImage, record_refusal, panel_in, read_records, read_of}
+use Rattle.image_read.specs.Read.{panel_in, read_records, read_of}
+use Rattle.image_record.specs.Head.{id_in}
 use Rattle.image_read.specs.Entries.{Entry, bytes_of, Without, HasAll, KindFirst, given_or, given}
 use Rattle.image_read.proofs.OnTheWay.{entry_of}
 use Rattle.lists.proofs.Each.{each_alike}
@@ -33,7 +34,7 @@ use Rattle.image_write.proofs.Lengths.{record_at, record_length, record_some, re
 use Rattle.image_write.proofs.Losing.{first_held, is_written, was_written}
 use Rattle.image_read.proofs.Entries.{row_is, Good, GoodEntries}
 use Rattle.image_read.proofs.Order.{codes_apart, without_gives, given_read}
-use Rattle.image_read.proofs.Said.{said_refusal, said_panel, refusal-said, panel-said}
+use Rattle.image_read.proofs.Said.{said_panel, panel-said}
 use Rattle.image_back.proofs.Split.{form_back, whole-sound, records_in_lem}
 
 -- the entries of a panel's n rows from k on, of those that the form has a field for
@@ -118,7 +119,7 @@ module _ (p : Panel) (good : GoodPanel p) (form : Form) (kept : keeps form p.pro
           without_gives (values_of row (fresh_values p.profile)) row (entries_from form p.values 0 row_count) (has_all form p.values row h none)
           ∙ sym (kept_fresh p.profile p.values form kept row none)
 
-  fields_back : fields_in form p.profile (flatten (fields_of form p.values)) ≡ record { refusal = Refusal.Nothing; values = p.values }
+  fields_back : fields_in form p.profile (flatten (fields_of form p.values)) ≡ Ok p.values
   unfolding fields_of
   fields_back =
       let (own, first) = good-from form p.values (model_of p) own_good 0 row_count (omega arith) in
@@ -126,17 +127,11 @@ module _ (p : Panel) (good : GoodPanel p) (form : Form) (kept : keeps form p.pro
       ∙ given_read p.profile form (entries_from form p.values 0 row_count) p.values own first (has_all form p.values) good.full own_given
 
   -- and so its record
-  panel_back : panel_in form (record_of form p) ≡ p
+  panel_back : (w : Wall) → Absent p.id w → panel_in form (id_in w) (record_of form p) ≡ Ok p
   unfolding record_of said_panel
-  panel_back =
-      panel-said form p.id.0 p.group.0 p.profile (flatten (fields_of form p.values)) (kept_profile p.profile p.values form kept)
-      ∙ ap (said_panel p.id.0 p.group.0 p.profile) fields_back
-
-  record_back : (w : Wall) → Absent p.id w → record_refusal form w (record_of form p) ≡ Refusal.Nothing
-  unfolding record_of said_refusal
-  record_back w a =
-      refusal-said form p.id.0 p.group.0 p.profile (flatten (fields_of form p.values)) (kept_profile p.profile p.values form kept) w
-      ∙ ap (said_refusal w p.id.0 p.group.0) fields_back
+  panel_back w a =
+      panel-said form p.id.0 p.group.0 p.profile (flatten (fields_of form p.values)) (kept_profile p.profile p.values form kept) w
+      ∙ ap (said_panel w p.id.0 p.group.0 p.profile) fields_back
       ∙ rw (ne_eqb p.id.0 0 good.named, ne_eqb p.group.0 0 good.grouped, absent_nowhere p.id 0 w a)
 
 -- no panel of the one wall has the ID of a panel of the other
@@ -150,13 +145,13 @@ apart_snoc w (q ∷ v) p (a, apart) (n, b) = (absent_snoc q.id w p a (λ e. n (s
 
 module _ (form : Form) where
   records_back : (w v : Wall) → GoodWall v → loses_nothing form v ≡ true → Apart w v
-      → read_records form w (records_of form v) ≡ record { refusal = Refusal.Nothing; wall = w ++ v }
+      → read_records form w (records_of form v) ≡ Ok (w ++ v)
   unfolding read_records
-  records_back w [] good held a = ap {B = ReadImage} (λ (u : Wall). record { refusal = Refusal.Nothing; wall = u }) (sym (append-nil w))
+  records_back w [] good held a = ap {B = Result Wall Refusal} (λ (u : Wall). Ok u) (sym (append-nil w))
   records_back w (p ∷ v) (g, b, good) held (a, apart) =
       let (here, rest) = first_held form p v held in
-      rw (record_back p g form here w a, panel_back p g form here)
-      (records_back (w ++ p ∷ []) v good rest (apart_snoc w v p apart b) ∙ ap {B = ReadImage} (λ (u : Wall). record { refusal = Refusal.Nothing; wall = u }) (append_snoc w p v))
+      rw (panel_back p g form here w a)
+      (records_back (w ++ p ∷ []) v good rest (apart_snoc w v p apart b) ∙ ap {B = Result Wall Refusal} (λ (u : Wall). Ok u) (append_snoc w p v))
 
   -- The image of a good wall that the form holds is sound and reads as that wall.
   module _ (w : Wall) (good : GoodWall w) (few : length w ≤ most_panels) (held : loses_nothing form w ≡ true) where
@@ -165,7 +160,7 @@ module _ (form : Form) where
         let h' : k < length w = omega (arith, length-map w (record_of form)) in
         rw (record_at form w k h') (omega (arith, record_length form (get_or w k blank) (good_at w good k h').full, record_some form))
 
-    pub reads_back : read_of (setup_of form w) ≡ record { refusal = Refusal.Nothing; wall = w }
+    pub reads_back : read_of (setup_of form w) ≡ Ok w
     unfolding read_of
     reads_back =
         let records = records_of form w in
@@ -187,8 +182,8 @@ module _ (form : Form) where
       let (held, room, size) = was_written form w out n e in
       rw (size, (is_written form w out held room).1) (take_at (setup_of form w) _ (size_of form w) (image_size w good))
 
-  -- ReadImage what was written of a table gives that table.
+  -- Reading what was written of a table gives that table.
   pub written_back : (w : Wall) → GoodWall w → length w ≤ most_panels → (out : List ℕ) (n : ℕ) → written_of form w out ≡ Ok n
-      → read_of (take n (output_of form w out)) ≡ record { refusal = Refusal.Nothing; wall = w }
+      → read_of (take n (output_of form w out)) ≡ Ok w
   written_back w good few out n e =
       ap read_of (front_is_image w good out n e) ∙ reads_back w good few (was_written form w out n e).0

@@ -9,7 +9,7 @@ use native.Mathlib.Omega.{arith}
 use borrow.Author.Tests.{le-ltb, lt-ltb, eq-eqb}
 use lib.ListN.{length, get_or, take, drop, length-append, get_or-append}
 use lib.Seq.{take_at, drop_at, take_all, get_or-append-add}
-use Rattle.std.specs.Prelude.{Some}
+use Rattle.std.specs.Prelude.{Some, Ok}
 use Rattle.panels.specs.Wall.{most_panels}
 use Rattle.lists.specs.Lists.{start_of, each}
 use Rattle.lists.proofs.Flat.{in_flat, flat_more, flat_at}
@@ -18,8 +18,7 @@ use Rattle.image_forms.specs.declared.Form.{Form}
 use Rattle.image_forms.specs.Forms.{form_byte, form_with}
 use Rattle.image_forms.proofs.Laws.{byte_back}
 use Rattle.image_write.specs.Written.{high_low, starts_of, image_of}
-use Rattle.image_frame.specs.Frame.{last_byte, form_of, count_of, starts_at, start_at, edge, rises, starts_fit, frame_refusal, record_in, records_in}
-use Rattle.refusals.specs.Refusals.{is_sound}
+use Rattle.image_frame.specs.Frame.{last_byte, form_of, count_of, starts_at, start_at, edge, rises, starts_fit, frame_of, record_in, records_in}
 use Rattle.image_write.proofs.Lengths.{pairs_before, starts_count, image-length}
 
 module _ (form : Form) (records : List (List ℕ)) where
@@ -105,8 +104,8 @@ module _ (form : Form) (records : List (List ℕ)) where
         rw (eq-eqb (edge (image_of form records) 0) 0 (edge_is 0 (omega arith)))
         (ap (rises (image_of form records) 0) count_is ∙ rises_all (length records) 0 (omega arith))
 
-    pub whole-sound : is_sound (frame_refusal (image_of form records)) ≡ true
-    unfolding frame_refusal
+    pub whole-sound : frame_of (image_of form records) ≡ Ok (image_of form records)
+    unfolding frame_of
     whole-sound =
         let image = image_of form records in
         rw (

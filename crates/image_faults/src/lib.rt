@@ -26,7 +26,7 @@ impl Fault {
     fn number(self) -> u8
         ensures { result ≡ fault_number self }
     {
-        refusals::refusal_number(match self {
+        u8::from(match self {
             Fault::Dropped => Refusal::Record,
             Fault::Broken(_) => Refusal::Field,
             Fault::NotAllowed(_) => Refusal::Value,

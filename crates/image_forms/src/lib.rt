@@ -1,11 +1,11 @@
 // The two forms of a setup image, which differ in the form byte, in a record's head, and in the fields that they have.
 #![tactic(auto)]
 
-ghost use Rattle.std.specs.Prelude.{◌≡◌, ◌<◌, length, ok_or};
-ghost use Rattle.settings.specs.Settings.{row_count, value_count};
+ghost use Rattle.std.specs.Prelude.{◌≡◌, length, ok_or};
+ghost use Rattle.settings.specs.Settings.{value_count};
 ghost use Rattle.image_forms.specs.Forms.{form_byte, form_with, head_size, holds, has_field, is_fresh, keeps};
 
-use settings::{KIND_ROW, Profile, TILING_ROW};
+use settings::{Profile, Row};
 
 #[derive(Clone, Copy, Debug, PartialEq, Eq)]
 pub enum Form {
@@ -66,23 +66,23 @@ pub fn holds(form: Form, profile: Profile) -> bool
 }
 
 // Whether a form has a field for a row. Form 1 has none for the kind and the tiling.
-pub fn has_field(form: Form, row: usize) -> bool
+pub fn has_field(form: Form, row: Row) -> bool
     ensures { result ≡ has_field form row }
 {
     match form {
-        Form::One => row != KIND_ROW && row != TILING_ROW,
+        Form::One => row != Row::KIND && row != Row::TILING,
         Form::Two => true,
     }
 }
 
 // Whether a row has its fresh values.
-fn is_fresh(row: usize, values: &[u8]) -> bool
-    requires { (row < row_count) × (length values.now ≡ value_count) }
+fn is_fresh(row: Row, values: &[u8]) -> bool
+    requires { length values.now ≡ value_count }
     ensures { result ≡ is_fresh row values.now }
 {
     let fresh = settings::fresh(Profile::General);
-    let first = settings::place_of(row);
-    let end = first + settings::byte_count(row);
+    let first = row.place();
+    let end = first + row.byte_count();
     values[first..end] == fresh[first..end]
 }
 
@@ -95,7 +95,7 @@ pub fn keeps(form: Form, profile: Profile, values: &[u8]) -> bool
         return false;
     }
     match form {
-        Form::One => is_fresh(KIND_ROW, values) && is_fresh(TILING_ROW, values),
+        Form::One => is_fresh(Row::KIND, values) && is_fresh(Row::TILING, values),
         Form::Two => true,
     }
 }

@@ -1,5 +1,5 @@
 -- Where the records of an image that is sound as a whole begin and end. Assumes nothing.
-use mathlib.Core.Path.{◌≡◌, refl}
+use mathlib.Core.Path.{◌≡◌, refl, sym, ap, subst, ◌∙◌}
 use mathlib.Core.Bool.{Bool, true, false, cond, false≢true}
 use mathlib.Core.List.{List, [], ◌∷◌}
 use Prim.Native.Nat.{ℕ, zero, suc, ◌+◌, ◌-◌, ◌*◌, ◌≤◌, ◌<◌}
@@ -12,37 +12,38 @@ use lib.Dec.{ltb, eqb}
 use lib.ListN.{length, drop}
 use lib.Seq.{drop-cons}
 use Rattle.image_forms.specs.declared.Form.{Form}
-use Rattle.std.specs.Prelude.{Option, Some, None}
 use Rattle.std.specs.Option.{option_map_or}
 use Rattle.panels.specs.Wall.{most_panels}
 use Rattle.lists.specs.Lists.{each}
 use Rattle.lists.proofs.Both.{both}
 use Rattle.lists.proofs.Each.{in_each, length-each}
+use Rattle.std.specs.Prelude.{Option, Some, None, Result, Ok, Err, is_ok, IsOk}
+use Rattle.std.specs.Result.{result_unwrap_or}
 use Rattle.image_forms.specs.Forms.{form_with}
 use Rattle.refusals.specs.declared.Refusal.{Refusal}
-use Rattle.image_frame.specs.Frame.{last_byte, count_of, starts_at, edge, rises, starts_fit, frame_refusal, record_in, records_in}
-use Rattle.refusals.specs.Refusals.{is_sound}
+use Rattle.image_frame.specs.Frame.{last_byte, count_of, starts_at, edge, rises, starts_fit, frame_of, IsFrame, record_in, records_in}
 
-pub record Fits (image : List ℕ) : Type 0 where
-  pub two : 2 ≤ length image
-  pub few : count_of image ≤ most_panels
-  pub room : 2 * count_of image + 2 ≤ length image
-  pub starts : starts_fit image ≡ true
-
-pub fits : (image : List ℕ) → is_sound (frame_refusal image) ≡ true → Fits image
-unfolding frame_refusal
-fits image e = go _ _ _ _ _ refl refl refl refl refl e
+pub sound : (image : List ℕ) → IsOk (frame_of image) → IsFrame image × (frame_of image ≡ Ok image)
+unfolding frame_of
+sound image e = go _ _ _ _ _ refl refl refl refl refl e
   where
     go : (a : Bool) (b : Option Form) (c d f : Bool) → ltb (length image) 2 ≡ a → form_with (last_byte image) ≡ b → ltb most_panels (count_of image) ≡ c
         → ltb (length image) (2 * count_of image + 2) ≡ d → starts_fit image ≡ f
-        → is_sound (cond a Refusal.TooShort (option_map_or (λ form. cond c Refusal.TooMany (cond d Refusal.NoStarts (cond f Refusal.Nothing Refusal.Starts))) b Refusal.OtherForm)) ≡ true → Fits image
+        → let r = cond a (Err Refusal.TooShort) (option_map_or (λ form. cond c (Err Refusal.TooMany) (cond d (Err Refusal.NoStarts) (cond f (Ok image) (Err Refusal.Starts)))) b (Err Refusal.OtherForm)) in
+        IsOk r → IsFrame image × (r ≡ Ok image)
     go true b c d f ea eb ec ed ef e = absurd (false≢true e)
     go false None c d f ea eb ec ed ef e = absurd (false≢true e)
     go false (Some form) true d f ea eb ec ed ef e = absurd (false≢true e)
     go false (Some form) false true f ea eb ec ed ef e = absurd (false≢true e)
     go false (Some form) false false false ea eb ec ed ef e = absurd (false≢true e)
     go false (Some form) false false true ea eb ec ed ef e =
-        record { two = ltb-false _ _ ea; few = ltb-false _ _ ec; room = ltb-false _ _ ed; starts = ef }
+        (record { two = ltb-false _ _ ea; few = ltb-false _ _ ec; room = ltb-false _ _ ed; starts = ef }, refl)
+
+pub frame_same : (image : List ℕ) {frame : List ℕ} → frame_of image ≡ Ok frame → image ≡ frame
+frame_same image e = ap (λ (r : Result (List ℕ) Refusal). result_unwrap_or r []) (sym (sound image (ap is_ok e)).1 ∙ e)
+
+pub frame_is : (image : List ℕ) {frame : List ℕ} → frame_of image ≡ Ok frame → IsFrame frame
+frame_is image e = subst IsFrame (frame_same image e) (sound image (ap is_ok e)).0
 
 rising : (image : List ℕ) (k m : ℕ) → rises image k m ≡ true → (j : ℕ) → k ≤ j → j < k + m → edge image j < edge image (suc j)
 unfolding rises
@@ -63,7 +64,7 @@ pub record_count : (image : List ℕ) → length (records_in image) ≡ count_of
 unfolding records_in
 record_count image = length-each (record_in image) (count_of image)
 
-module _ {image : List ℕ} (f : Fits image) where
+module _ {image : List ℕ} (f : IsFrame image) where
   pub first_edge : edge image 0 ≡ 0
   unfolding starts_fit
   first_edge = eqb-true _ _ (both (eqb (edge image 0) 0) (rises image 0 (count_of image)) f.starts).0

@@ -1,7 +1,7 @@
 -- A setup image as a whole: its trailer, and where its records begin and end. 01, "Setup image, form 1", refusals 11 to 15;
 -- 02, A2: 12 is neither form.
+use Rattle.std.specs.Prelude.{ℕ, zero, suc, ◌+◌, ◌-◌, ◌*◌, ◌≤◌, ◌≡◌, Bool, true, cond, ◌&&◌, List, ltb, eqb, length, get_or, take, drop, Result, Ok, Err, unwrap_or}
 use Rattle.std.specs.Option.{option_map_or}
-use Rattle.std.specs.Prelude.{ℕ, zero, suc, ◌+◌, ◌-◌, ◌*◌, Bool, true, cond, ◌&&◌, List, ltb, eqb, length, get_or, take, drop, unwrap_or}
 use Rattle.panels.specs.Wall.{most_panels}
 use Rattle.lists.specs.Lists.{each}
 use Rattle.image_forms.specs.declared.Form.{Form}
@@ -41,12 +41,19 @@ rises image k (suc m) = ltb (edge image k) (edge image (suc k)) && rises image (
 unfoldable pub starts_fit : List ℕ → Bool
 starts_fit image = eqb (edge image 0) 0 && rises image 0 (count_of image)
 
--- 11 to 15, in this order
-unfoldable pub frame_refusal : List ℕ → Refusal
-frame_refusal image =
-    cond (ltb (length image) 2) Refusal.TooShort
-    (option_map_or (λ form. cond (ltb most_panels (count_of image)) Refusal.TooMany
-    (cond (ltb (length image) (2 * count_of image + 2)) Refusal.NoStarts (cond (starts_fit image) Refusal.Nothing Refusal.Starts))) (form_with (last_byte image)) Refusal.OtherForm)
+-- the image as it is, where it is sound as a whole; else 11 to 15, in this order
+unfoldable pub frame_of : List ℕ → Result (List ℕ) Refusal
+frame_of image =
+    cond (ltb (length image) 2) (Err Refusal.TooShort)
+    (option_map_or (λ form. cond (ltb most_panels (count_of image)) (Err Refusal.TooMany)
+    (cond (ltb (length image) (2 * count_of image + 2)) (Err Refusal.NoStarts) (cond (starts_fit image) (Ok image) (Err Refusal.Starts)))) (form_with (last_byte image)) (Err Refusal.OtherForm))
+
+-- what is so of an image that is sound as a whole
+pub record IsFrame (image : List ℕ) : Type 0 where
+  pub two : 2 ≤ length image
+  pub few : count_of image ≤ most_panels
+  pub room : 2 * count_of image + 2 ≤ length image
+  pub starts : starts_fit image ≡ true
 
 -- record k runs from its start to the next one, the last to the first byte of the starts
 abbrev pub record_in : List ℕ → ℕ → List ℕ

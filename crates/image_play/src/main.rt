@@ -49,32 +49,22 @@ fn print_reading(rt: &impl Print, bytes: &[u8]) -> io::Result<()> {
     if 4096 < bytes.len() {
         return print!(rt; "too-long");
     }
-    let read = image_read::read_image(bytes);
-    let refusal = read.refusal;
-    let number = refusals::refusal_number(refusal);
-    if number != 0 {
-        return print_refusal(rt, number);
+    match image_read::read_image(bytes) {
+        Ok(table) => {
+            print_image(rt, Form::Two, table)?;
+            print!(rt; " ")?;
+            print_image(rt, Form::One, table)
+        }
+        Err(refusal) => print_refusal(rt, refusal.into()),
     }
-    let table = read.table;
-    print_image(rt, Form::Two, table)?;
-    print!(rt; " ")?;
-    print_image(rt, Form::One, table)
 }
 
 fn run(rt: &(impl Print + Input)) -> io::Result<()> {
-    let mut buffer = [0u8; ROOM];
-    let mut reader = rt.reader();
-    for number in 0..u64::MAX {
-        match read_image(&mut reader, &mut buffer)? {
-            Ok(n) => {
-                print!(rt; "{} ", number + 1)?;
-                print_reading(rt, text::front(&buffer, n))?;
-                println!(rt)?;
-            }
-            Err(stop) => return println!(rt; "{stop} {number}"),
-        }
-    }
-    Ok(())
+    text::each(rt, &mut [0u8; ROOM], read_image, (), |_, number, image| {
+        print!(rt; "{number} ")?;
+        print_reading(rt, image)?;
+        println!(rt)
+    })
 }
 
 fn main(rt: HostRuntime) -> io::Result<()> {

@@ -8,9 +8,11 @@ use borrow.Author.Tests.{ne_eqb, eqb-true, eqb-false}
 use lib.Dec.{eqb}
 use lib.ListN.{length, get_or, length-append, length-set}
 use lib.Seq.{take_at, drop_at, get_or-set_other}
+use Rattle.std.specs.Prelude.{Ok, is_ok, IsOk}
 use Rattle.settings.specs.declared.Profile.{Profile}
 use Rattle.models.specs.declared.Model.{Model}
-use Rattle.codes.specs.declared.Found.{Found}
+use Rattle.std.proofs.Common.{Option, Some, None}
+use Rattle.codes.specs.declared.Code.{Code}
 use Rattle.settings.specs.Settings.{set_code, byte_count, values_of, values_with, row_count, value_count, kind_row, tiling_row}
 use Rattle.codes.specs.Found.{field_by}
 use Rattle.models.specs.Models.{kind_for, allowed_for, model_in}
@@ -19,9 +21,7 @@ use Rattle.models.proofs.Laws.{allowed_many, kind_free}
 use Rattle.image_forms.specs.declared.Form.{Form}
 use Rattle.image_forms.specs.Forms.{has_field}
 use Rattle.panels.proofs.Values.{length_with, other_row}
-use Rattle.refusals.specs.declared.Refusal.{Refusal}
 use Rattle.image_record.specs.declared.Step.{Step}
-use Rattle.image_read.specs.declared.Fields.{Fields}
 use Rattle.image_record.specs.Field.{values_in, misplaced, misfits, field_of, step_at, behind}
 use Rattle.image_read.specs.Fields.{fields_from}
 use Rattle.image_record.proofs.OnTheWay.{seen_with}
@@ -30,10 +30,10 @@ use Rattle.image_record.proofs.Steps.{seen_apart, Free, Stands, stands, stands_i
 use Rattle.image_read.proofs.Steps.{fields-step}
 
 -- the row of an entry's code
-row_found : Found → ℕ
-row_found (Found.Set row) = row
-row_found (Found.Get row) = 0
-row_found Found.Nothing = 0
+row_found : Option Code → ℕ
+row_found (Some (Code.Set row)) = row
+row_found (Some (Code.Get row)) = 0
+row_found None = 0
 
 unfoldable pub row_of : Entry → ℕ
 unfolding row_found
@@ -131,7 +131,7 @@ module _ (form : Form) (profile : Profile) where
       go false t = absurd ((has (row_of e) g.in_table t).0 (sym g.code))
 
   pub all_taken : (es : List Entry) (seen : List Bool) (values : List ℕ) → GoodEntries (model_in profile (stored es values)) es → KindFirst es → HasAll form es
-      → Unseen seen es → length values ≡ value_count → fields_from form profile seen values (bytes_of es) ≡ record { refusal = Refusal.Nothing; values = stored es values }
+      → Unseen seen es → length values ≡ value_count → fields_from form profile seen values (bytes_of es) ≡ Ok (stored es values)
   all_taken [] seen values good first has u full = fields-step form profile seen values (bytes_of []) Step.End (unfold step_at bytes_of flatten in refl)
   all_taken (e ∷ es) seen values (g, without, good) (k, first) has (free, u) full =
       let n = count_of_lem g in
@@ -177,27 +177,27 @@ module _ (form : Form) (profile : Profile) where
       by_tests r false true e = let z : ◌≡◌ {A = ℕ} 0 1 = cc in omega arith
       by_tests r false false e = let z : ◌≡◌ {A = ℕ} 0 1 = cc in omega arith
 
-      by_found : (f : Found) → field_of form profile f seen values left ≡ Step.End → ⊥
-      by_found (Found.Set r) e = by_tests r (misplaced form seen r || misfits r left) (allowed_for (model_in profile values) r (values_in r left)) e
-      by_found (Found.Get r) e = let z : ◌≡◌ {A = ℕ} 0 1 = cc in omega arith
-      by_found Found.Nothing e = let z : ◌≡◌ {A = ℕ} 0 1 = cc in omega arith
+      by_found : (f : Option Code) → field_of form profile f seen values left ≡ Step.End → ⊥
+      by_found (Some (Code.Set r)) e = by_tests r (misplaced form seen r || misfits r left) (allowed_for (model_in profile values) r (values_in r left)) e
+      by_found (Some (Code.Get r)) e = let z : ◌≡◌ {A = ℕ} 0 1 = cc in omega arith
+      by_found None e = let z : ◌≡◌ {A = ℕ} 0 1 = cc in omega arith
 
   pub no_fault : (es : List Entry) (seen : List Bool) (values : List ℕ) → length seen ≡ row_count → length values ≡ value_count
-      → (fields_from form profile seen values (bytes_of es)).refusal ≡ Refusal.Nothing
+      → IsOk (fields_from form profile seen values (bytes_of es))
       → GoodEntries (model_in profile (stored es values)) es × KindFirst es × HasAll form es × Unseen seen es
   no_fault [] seen values n full e = (tt, tt, (λ row h t. tt), tt)
   no_fault (e ∷ es) seen values n full sound = go (step_at form profile seen values left) refl
       (λ row m r. no_fault es (seen_with row seen) (values_with row e.values values) (length-set seen row true ∙ n) (length_with row e.values values m full) r)
-      (ap (λ (b : List ℕ). (fields_from form profile seen values b).refusal) (sym (bytes_cons e es)) ∙ sound)
+      (ap (λ (b : List ℕ). is_ok (fields_from form profile seen values b)) (sym (bytes_cons e es)) ∙ sound)
     where
       left : List ℕ
       left = e.code ∷ length e.values ∷ (e.values ++ bytes_of es)
 
       go : (s : Step) → step_at form profile seen values left ≡ s
           → ((row : ℕ) → length e.values ≡ byte_count row
-          → (fields_from form profile (seen_with row seen) (values_with row e.values values) (bytes_of es)).refusal ≡ Refusal.Nothing
+          → IsOk (fields_from form profile (seen_with row seen) (values_with row e.values values) (bytes_of es))
           → GoodEntries (model_in profile (stored es (values_with row e.values values))) es × KindFirst es × HasAll form es × Unseen (seen_with row seen) es)
-          → (fields_from form profile seen values left).refusal ≡ Refusal.Nothing
+          → IsOk (fields_from form profile seen values left)
           → GoodEntries (model_in profile (stored (e ∷ es) values)) (e ∷ es) × KindFirst (e ∷ es) × HasAll form (e ∷ es) × Unseen seen (e ∷ es)
       go (Step.Field row) st ih sound =
           let t = stands form profile true seen values left row st in
@@ -205,7 +205,7 @@ module _ (form : Form) (profile : Profile) where
           let is_row = row_is e t.in_table (sym t.code) in
           let next = fields-step form profile seen values left (Step.Field row) st
           ∙ ap₂ (λ (v b : List ℕ). fields_from form profile (seen_with row seen) (values_with row v values) b) vs (front_behind e (bytes_of es) row t.count) in
-          let (good, first, has, u) = rw (← is_row) at (ih row t.count (ap (λ (f : Fields). f.refusal) (sym next) ∙ sound)) in
+          let (good, first, has, u) = rw (← is_row) at (ih row t.count (ap is_ok (sym next) ∙ sound)) in
           let (without, k, u') = were_unseen e seen es (rw (is_row, n) t.in_table) u in
           let code : set_code (row_of e) ≡ e.code = rw is_row (sym t.code) in
           let so_far : allowed_for (model_in profile values) (row_of e) e.values ≡ true = rw is_row (rw vs at t.allowed) in
@@ -215,10 +215,6 @@ module _ (form : Form) (profile : Profile) where
             (λ r h none. ((λ c. false≢true (sym none ∙ ap (has_field form) (sym (row_is e h (sym c)) ∙ is_row) ∙ t.has)), has r h none)),
             (rw is_row t.free, u'),
           )
-      go (Step.NotAllowed row) st ih sound =
-          let f = ap (λ (f : Fields). f.refusal) (fields-step form profile seen values left (Step.NotAllowed row) st) in
-          let z : ◌≡◌ {A = ℕ} 0 1 = cc in absurd (omega arith)
-      go Step.Broken st ih sound =
-          let f = ap (λ (f : Fields). f.refusal) (fields-step form profile seen values left Step.Broken st) in
-          let z : ◌≡◌ {A = ℕ} 0 1 = cc in absurd (omega arith)
+      go (Step.NotAllowed row) st ih sound = absurd (false≢true (sym (ap is_ok (fields-step form profile seen values left (Step.NotAllowed row) st)) ∙ sound))
+      go Step.Broken st ih sound = absurd (false≢true (sym (ap is_ok (fields-step form profile seen values left Step.Broken st)) ∙ sound))
       go Step.End st ih sound = absurd (never_end seen values left (omega arith) st)

@@ -1,6 +1,6 @@
--- `OnTheWay` has names for a record on its way through the reader, `Steps` is the walk over its fields, `Marked` the IDs seen
--- before, `Said` what a record comes to by what its head says. The theorems: `Sound` that reading gives only well-formed tables,
--- `Entries`, `ByCode` and `Order` that fields go by code and not by place.
+-- `OnTheWay` is the entry of a row, `Steps` is the walk over a record's fields, `Marked` the IDs seen before, `Said` what a record
+-- comes to by what its head says. The theorems: `Sound` that reading gives only well-formed tables, `Entries`, `ByCode` and `Order`
+-- that fields go by code and not by place.
 pub mod OnTheWay
 pub mod Steps
 pub mod Sound

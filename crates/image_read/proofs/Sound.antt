@@ -1,33 +1,35 @@
 -- Reading gives only well-formed tables, and leaves fresh what the form has no field for. Assumes nothing.
-use mathlib.Core.Path.{◌≡◌, refl}
-use mathlib.Core.Bool.{Bool, true, false, cond, false≢true}
-use mathlib.Core.List.{List, [], ◌∷◌}
+use mathlib.Core.Path.{◌≡◌, refl, ap, subst}
+use mathlib.Core.Bool.{Bool, false, false≢true}
+use mathlib.Core.List.{List, [], ◌∷◌, ◌++◌}
 use Prim.Native.Nat.{ℕ, ◌+◌, ◌≤◌, ◌<◌}
 use native.Mathlib.Omega.{arith}
 use lib.ListN.{length, drop, length-append}
-use Rattle.std.specs.Prelude.{Option, Some, None}
+use Rattle.std.specs.Prelude.{Option, Some, None, Result, Ok, Err, is_ok, IfOk}
+use Rattle.std.specs.Result.{result_unwrap_or}
 use Rattle.std.specs.Option.{option_map_or}
 use Rattle.settings.specs.declared.Profile.{Profile}
 use Rattle.settings.specs.Settings.{fresh_values, values_of}
 use Rattle.lists.specs.Lists.{each}
 use Rattle.lists.proofs.Each.{length-each}
-use Rattle.panels.specs.Wall.{Wall, table_of, most_panels}
+use Rattle.panels.specs.Wall.{Wall, blank, table_of, most_panels}
+use Rattle.panels.specs.declared.Panel.{Panel}
 use Rattle.panels.specs.WellFormed.{GoodWall, WellFormed}
-use Rattle.panels.proofs.Formed.{formed, empty_formed}
+use Rattle.panels.proofs.Formed.{formed}
 use Rattle.panels.proofs.Values.{InRange}
 use Rattle.image_forms.specs.declared.Form.{Form}
-use Rattle.image_forms.specs.Forms.{head_size, profile_in, has_field}
+use Rattle.image_forms.specs.Forms.{head_size, has_field}
 use Rattle.refusals.specs.declared.Refusal.{Refusal}
-use Rattle.refusals.specs.Refusals.{is_sound}
-use Rattle.image_frame.specs.Frame.{form_of, count_of, record_in, records_in, frame_refusal}
-use Rattle.image_frame.proofs.Edges.{fits, record_next}
-use Rattle.image_record.specs.Head.{id_in, head_in}
+use Rattle.refusals.specs.Refusals.{if_sound}
+use Rattle.image_frame.specs.Frame.{form_of, count_of, record_in, records_in, frame_of, IsFrame}
+use Rattle.image_frame.proofs.Edges.{frame_is, record_next}
+use Rattle.image_record.specs.Head.{id_in, head_in, headed}
+use Rattle.image_record.specs.declared.Step.{Step}
 use Rattle.image_record.proofs.Gathering.{Gathering, none_gathered}
 use Rattle.image_record.proofs.Runs.{run_gathers}
-use Rattle.image_record.proofs.Heads.{head-known, headed-good}
-use Rattle.image_read.specs.Fields.{fields_from, fields_in}
-use Rattle.image_read.specs.Read.{record_refusal, panel_with, panel_in, refused, read_records, read_of, in_table}
-use Rattle.image_read.proofs.OnTheWay.{wall_with}
+use Rattle.image_record.proofs.Heads.{headed-good}
+use Rattle.image_read.specs.Fields.{values_at, fields_from, fields_in}
+use Rattle.image_read.specs.Read.{panel_in, read_records, read_of, in_table}
 
 -- what is so of the values of a record's fields
 pub record Gathered (form : Form) (profile : Profile) (values : List ℕ) : Type 0 where
@@ -37,58 +39,80 @@ pub record Gathered (form : Form) (profile : Profile) (values : List ℕ) : Type
 at_last : {form : Form} {profile : Profile} {seen : List Bool} {values : List ℕ} → Gathering form profile seen values → Gathered form profile values
 at_last g = record { in_range = g.in_range; fresh = λ row e. g.fresh row (g.fields row e) }
 
-pub fields_gathered : (form : Form) (profile : Profile) (left : List ℕ) → Gathered form profile (fields_in form profile left).values
+-- only at the end are there values
+taken : (s : Step) (vs : List ℕ) {values : List ℕ} → values_at s vs ≡ Ok values → vs ≡ values
+taken (Step.Field row) vs e = ap (λ (r : Result (List ℕ) Refusal). result_unwrap_or r []) e
+taken (Step.NotAllowed row) vs e = absurd (false≢true (ap is_ok e))
+taken Step.Broken vs e = absurd (false≢true (ap is_ok e))
+taken Step.End vs e = ap (λ (r : Result (List ℕ) Refusal). result_unwrap_or r []) e
+
+pub fields_gathered : (form : Form) (profile : Profile) (left : List ℕ) {values : List ℕ} → fields_in form profile left ≡ Ok values → Gathered form profile values
 unfolding fields_from
-fields_gathered form profile left = at_last (run_gathers form profile _ _ left (none_gathered form profile))
+fields_gathered form profile left e = subst (Gathered form profile) (taken _ _ e) (at_last (run_gathers form profile _ _ left (none_gathered form profile)))
 
--- a record that is not refused has a head that fits and a profile that is known
-pub head_of : (form : Form) (w : Wall) (bytes : List ℕ) → is_sound (record_refusal form w bytes) ≡ true
-    → (profile : Profile) × (head_in form (id_in w) bytes ≡ Some profile) × (profile_in form bytes ≡ Some profile)
-unfolding record_refusal
-head_of form w bytes e = go (head_in form (id_in w) bytes) refl e
-  where
-    go : (n : Option Profile) → head_in form (id_in w) bytes ≡ n
-        → is_sound (option_map_or (λ profile. (fields_in form profile (drop (head_size form) bytes)).refusal) n Refusal.Record) ≡ true
-        → (profile : Profile) × (head_in form (id_in w) bytes ≡ Some profile) × (profile_in form bytes ≡ Some profile)
-    go (Some profile) h e = (profile, h, (head-known form (id_in w) bytes profile h).1)
-    go None h e = absurd (false≢true e)
+-- a record that is read has a head that fits, a profile that is known, and fields without a fault
+pub record PanelOf (form : Form) (seen : ℕ → Bool) (bytes : List ℕ) (p : Panel) : Type 0 where
+  pub profile : Profile
+  pub values : List ℕ
+  pub head : head_in form seen bytes ≡ Some profile
+  pub fields : fields_in form profile (drop (head_size form) bytes) ≡ Ok values
+  pub is : headed bytes profile values ≡ p
 
-pub panel-known : (form : Form) (bytes : List ℕ) (profile : Profile) → profile_in form bytes ≡ Some profile → panel_in form bytes ≡ panel_with form bytes profile
+pub panel_is : (form : Form) (seen : ℕ → Bool) (bytes : List ℕ) {p : Panel} → panel_in form seen bytes ≡ Ok p → PanelOf form seen bytes p
 unfolding panel_in
-panel-known form bytes profile known = rw known
+panel_is form seen bytes {p} e = by_head (head_in form seen bytes) refl e
+  where
+    by_fields : (profile : Profile) → head_in form seen bytes ≡ Some profile → (f : Result (List ℕ) Refusal) → fields_in form profile (drop (head_size form) bytes) ≡ f
+        → ◌≡◌ {A = Result Panel Refusal} (if_sound f (λ values. Ok (headed bytes profile values))) (Ok p) → PanelOf form seen bytes p
+    by_fields profile h (Ok values) f e =
+        record { profile = profile; values = values; head = h; fields = f; is = ap (λ (r : Result Panel Refusal). result_unwrap_or r blank) e }
+    by_fields profile h (Err r) f e = absurd (false≢true (ap is_ok e))
 
-good_with : (form : Form) (w : Wall) (bytes : List ℕ) → GoodWall w → is_sound (record_refusal form w bytes) ≡ true → GoodWall (wall_with form w bytes)
-good_with form w bytes good e =
-    let (profile, head, known) = head_of form w bytes e in
-    rw (panel-known form bytes profile known)
-    (headed-good form w bytes profile head (fields_gathered form profile (drop (head_size form) bytes)).in_range good)
+    by_head : (n : Option Profile) → head_in form seen bytes ≡ n
+        → option_map_or (λ profile. if_sound (fields_in form profile (drop (head_size form) bytes)) (λ values. Ok (headed bytes profile values))) n (Err Refusal.Record) ≡ Ok p
+        → PanelOf form seen bytes p
+    by_head (Some profile) h e = by_fields profile h _ refl e
+    by_head None h e = absurd (false≢true (ap is_ok e))
+
+good_with : (form : Form) (w : Wall) (bytes : List ℕ) {p : Panel} → panel_in form (id_in w) bytes ≡ Ok p → GoodWall w → GoodWall (w ++ p ∷ [])
+good_with form w bytes e good =
+    let p = panel_is form (id_in w) bytes e in
+    subst (λ (p : Panel). GoodWall (w ++ p ∷ [])) p.is
+    (headed-good form w bytes p.profile p.head (fields_gathered form p.profile (drop (head_size form) bytes) p.fields).in_range good)
 
 -- record k of an image
 pub records-step : (form : Form) (image : List ℕ) (w : Wall) (k : ℕ) → k < count_of image
     → read_records form w (drop k (records_in image))
-    ≡ cond (is_sound (record_refusal form w (record_in image k))) (read_records form (wall_with form w (record_in image k)) (drop (k + 1) (records_in image)))
-    (refused (record_refusal form w (record_in image k)))
+    ≡ if_sound (panel_in form (id_in w) (record_in image k)) (λ p. read_records form (w ++ p ∷ []) (drop (k + 1) (records_in image)))
 unfolding read_records
 records-step form image w k h = rw (record_next image k h)
 
-records_formed : (form : Form) (w : Wall) (records : List (List ℕ)) → length w + length records ≤ most_panels → GoodWall w → WellFormed (table_of (read_records form w records).wall)
+abbrev Formed : Result Wall Refusal → Type 0
+Formed r = IfOk r (λ w. WellFormed (table_of w))
+
+records_formed : (form : Form) (w : Wall) (records : List (List ℕ)) → length w + length records ≤ most_panels → GoodWall w → Formed (read_records form w records)
 unfolding read_records
 records_formed form w [] few good = formed w (omega arith) good
 records_formed form w (bytes ∷ records) few good =
-    go (is_sound (record_refusal form w bytes)) refl (λ e. records_formed form (wall_with form w bytes) records (simp length-append (omega arith)) (good_with form w bytes good e))
+    go (panel_in form (id_in w) bytes) (λ p e. records_formed form (w ++ p ∷ []) records (simp length-append (omega arith)) (good_with form w bytes e good))
   where
-    go : (t : Bool) → is_sound (record_refusal form w bytes) ≡ t
-        → (is_sound (record_refusal form w bytes) ≡ true → WellFormed (table_of (read_records form (wall_with form w bytes) records).wall))
-        → WellFormed (table_of (cond t (read_records form (wall_with form w bytes) records) (refused (record_refusal form w bytes))).wall)
-    go true e ih = ih e
-    go false e ih = empty_formed
+    go : (r : Result Panel Refusal) → ((p : Panel) → r ≡ Ok p → Formed (read_records form (w ++ p ∷ []) records))
+        → Formed (if_sound r (λ p. read_records form (w ++ p ∷ []) records))
+    go (Ok p) ih = ih p refl
+    go (Err r) ih = tt
 
 -- Whatever the image, the table read is well-formed.
-pub read_formed : (image : List ℕ) → WellFormed (in_table (read_of image)).table
+pub read_formed : (image : List ℕ) → IfOk (in_table (read_of image)) WellFormed
 unfolding read_of records_in
-read_formed image = go (is_sound (frame_refusal image)) refl
+read_formed image = go (frame_of image) (λ frame e. frame_is image e)
   where
-    go : (t : Bool) → is_sound (frame_refusal image) ≡ t
-        → WellFormed (table_of (cond t (read_records (form_of image) [] (each (record_in image) (count_of image))) (refused (frame_refusal image))).wall)
-    go true e = records_formed (form_of image) [] _ (omega (arith, length-each (record_in image) (count_of image), (fits image e).few)) tt
-    go false e = empty_formed
+    in_a_table : (r : Result Wall Refusal) → Formed r → IfOk (in_table r) WellFormed
+    in_a_table (Ok w) f = f
+    in_a_table (Err r) f = tt
+
+    go : (r : Result (List ℕ) Refusal) → ((frame : List ℕ) → r ≡ Ok frame → IsFrame frame)
+        → IfOk (in_table (if_sound r (λ frame. read_records (form_of frame) [] (each (record_in frame) (count_of frame))))) WellFormed
+    go (Ok frame) is =
+        in_a_table (read_records (form_of frame) [] (each (record_in frame) (count_of frame)))
+        (records_formed (form_of frame) [] _ (omega (arith, length-each (record_in frame) (count_of frame), (is frame refl).few)) tt)
+    go (Err r) is = tt

@@ -1,13 +1,12 @@
 -- The fields of a record as they were meant, whatever their order: for the statements that fields go by code and not by
 -- place. 01, "Setup image, form 1": reading takes fields in any order; a code not there means its fresh value, and 02, A2: that
 -- of the record's own profile; A6: but a kind never stands behind a tiling, and form 1 has no field for either.
-use Rattle.std.specs.Prelude.{ℕ, ◌<◌, ◌≡◌, true, false, cond, eqb, length}
+use Rattle.std.specs.Prelude.{ℕ, ◌<◌, ◌≡◌, true, false, cond, eqb, length, IsOk}
 use mathlib.Core.List.{List, [], ◌∷◌, ◌++◌, map, flatten}
 use Rattle.settings.specs.declared.Profile.{Profile}
 use Rattle.settings.specs.Settings.{set_code, fresh_values, values_of, row_count, kind_row, tiling_row}
 use Rattle.image_forms.specs.declared.Form.{Form}
 use Rattle.image_forms.specs.Forms.{head_of, holds, has_field}
-use Rattle.refusals.specs.declared.Refusal.{Refusal}
 use Rattle.image_read.specs.Fields.{fields_in}
 
 -- a code, and the values behind it
@@ -57,7 +56,7 @@ given profile row es = given_or (values_of row (fresh_values profile)) row es
 
 -- the second fields have no fault in a record of the form, and give each row what the first give it
 pub record GiveAlike (form : Form) (profile : Profile) (these those : List Entry) : Type 0 where
-  pub sound : (fields_in form profile (bytes_of those)).refusal ≡ Refusal.Nothing
+  pub sound : IsOk (fields_in form profile (bytes_of those))
   pub rows : (row : ℕ) → row < row_count → given profile row those ≡ given profile row these
 
 -- a record of a form, whose head says ID, group and profile

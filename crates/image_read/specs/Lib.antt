@@ -3,4 +3,3 @@
 pub mod Fields
 pub mod Read
 pub mod Entries
-pub mod Private

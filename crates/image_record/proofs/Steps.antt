@@ -9,7 +9,8 @@ use lib.Dec.{ltb, eqb}
 use lib.ListN.{length, get_or, replicate, length-drop}
 use lib.Seq.{get_or-set_same, get_or-set_other}
 use Rattle.settings.specs.declared.Profile.{Profile}
-use Rattle.codes.specs.declared.Found.{Found}
+use Rattle.std.proofs.Common.{Option, Some, None}
+use Rattle.codes.specs.declared.Code.{Code}
 use Rattle.settings.specs.Settings.{set_code, byte_count, row_count, kind_row, tiling_row}
 use Rattle.codes.specs.Found.{field_by}
 use Rattle.models.specs.Models.{allowed_for, model_in}
@@ -75,7 +76,7 @@ module _ (form : Form) (profile : Profile) where
   unfolding step_at
   stands t seen values left row e = by_length (eqb (length left) 0) t e
     where
-      found_so : (r : ℕ) → field_by (get_or left 0 0) ≡ Found.Set r → (t : Bool) → misplaced form seen r ≡ false → ltb (length left) (2 + byte_count r) ≡ false
+      found_so : (r : ℕ) → field_by (get_or left 0 0) ≡ Some (Code.Set r) → (t : Bool) → misplaced form seen r ≡ false → ltb (length left) (2 + byte_count r) ≡ false
           → eqb (get_or left 1 0) (byte_count r) ≡ true → allowed_for (model_in profile values) r (values_in r left) ≡ t → r ≡ row
           → Stands t form profile seen values left row
       found_so r found t ea eb ed eg same =
@@ -84,7 +85,7 @@ module _ (form : Form) (profile : Profile) where
           subst (Stands t form profile seen values left) same
           (record { in_table = h; code = sym code; has = has; free = new; whole = ltb-false _ _ eb; count = eqb-true _ _ ed; allowed = eg })
 
-      by_tests : (r : ℕ) → field_by (get_or left 0 0) ≡ Found.Set r → (a b d g t : Bool) → misplaced form seen r ≡ a → ltb (length left) (2 + byte_count r) ≡ b
+      by_tests : (r : ℕ) → field_by (get_or left 0 0) ≡ Some (Code.Set r) → (a b d g t : Bool) → misplaced form seen r ≡ a → ltb (length left) (2 + byte_count r) ≡ b
           → eqb (get_or left 1 0) (byte_count r) ≡ d → allowed_for (model_in profile values) r (values_in r left) ≡ g
           → cond (a || (b || not d)) Step.Broken (cond g (Step.Field r) (Step.NotAllowed r)) ≡ field_step t row → Stands t form profile seen values left row
       by_tests r found true b d g true ea eb ed eg e = let z : ◌≡◌ {A = ℕ} 0 1 = cc in absurd (omega arith)
@@ -98,12 +99,12 @@ module _ (form : Form) (profile : Profile) where
       by_tests r found false false true true true ea eb ed eg e = found_so r found true ea eb ed eg cc
       by_tests r found false false true false false ea eb ed eg e = found_so r found false ea eb ed eg cc
 
-      by_found : (f : Found) (t : Bool) → field_by (get_or left 0 0) ≡ f → field_of form profile f seen values left ≡ field_step t row → Stands t form profile seen values left row
-      by_found (Found.Set r) t found e = by_tests r found _ _ _ _ t refl refl refl refl e
-      by_found (Found.Get r) true found e = let z : ◌≡◌ {A = ℕ} 0 1 = cc in absurd (omega arith)
-      by_found (Found.Get r) false found e = let z : ◌≡◌ {A = ℕ} 0 1 = cc in absurd (omega arith)
-      by_found Found.Nothing true found e = let z : ◌≡◌ {A = ℕ} 0 1 = cc in absurd (omega arith)
-      by_found Found.Nothing false found e = let z : ◌≡◌ {A = ℕ} 0 1 = cc in absurd (omega arith)
+      by_found : (f : Option Code) (t : Bool) → field_by (get_or left 0 0) ≡ f → field_of form profile f seen values left ≡ field_step t row → Stands t form profile seen values left row
+      by_found (Some (Code.Set r)) t found e = by_tests r found _ _ _ _ t refl refl refl refl e
+      by_found (Some (Code.Get r)) true found e = let z : ◌≡◌ {A = ℕ} 0 1 = cc in absurd (omega arith)
+      by_found (Some (Code.Get r)) false found e = let z : ◌≡◌ {A = ℕ} 0 1 = cc in absurd (omega arith)
+      by_found None true found e = let z : ◌≡◌ {A = ℕ} 0 1 = cc in absurd (omega arith)
+      by_found None false found e = let z : ◌≡◌ {A = ℕ} 0 1 = cc in absurd (omega arith)
 
       by_length : (n t : Bool) → cond n Step.End (field_of form profile (field_by (get_or left 0 0)) seen values left) ≡ field_step t row → Stands t form profile seen values left row
       by_length true true e = let z : ◌≡◌ {A = ℕ} 0 1 = cc in absurd (omega arith)

@@ -2,7 +2,8 @@
 -- 02, A2 and A6: the kind is a field too, by which a tiling behind it is judged.
 use Rattle.std.specs.Prelude.{ℕ, ◌+◌, Bool, false, cond, not, ◌&&◌, ◌||◌, List, ltb, eqb, length, get_or, take, drop}
 use Rattle.settings.specs.declared.Profile.{Profile}
-use Rattle.codes.specs.declared.Found.{Found}
+use Rattle.std.specs.Prelude.{Option, Some, None}
+use Rattle.codes.specs.declared.Code.{Code}
 use Rattle.settings.specs.Settings.{byte_count, kind_row, tiling_row}
 use Rattle.codes.specs.Found.{field_by}
 use Rattle.models.specs.Models.{allowed_for, model_in}
@@ -27,12 +28,12 @@ abbrev pub misplaced : Form → List Bool → ℕ → Bool
 misplaced form seen row = not (has_field form row) || (get_or seen row false || (eqb row kind_row && get_or seen tiling_row false))
 
 -- the field of a code that was found: 17, then 18, by the profile and by the kind among the values so far
-abbrev pub field_of : Form → Profile → Found → List Bool → List ℕ → List ℕ → Step
-field_of form profile (Found.Set row) seen values left =
+abbrev pub field_of : Form → Profile → Option Code → List Bool → List ℕ → List ℕ → Step
+field_of form profile (Some (Code.Set row)) seen values left =
     cond (misplaced form seen row || misfits row left) Step.Broken
     (cond (allowed_for (model_in profile values) row (values_in row left)) (Step.Field row) (Step.NotAllowed row))
-field_of form profile (Found.Get row) seen values left = Step.Broken
-field_of form profile Found.Nothing seen values left = Step.Broken
+field_of form profile (Some (Code.Get row)) seen values left = Step.Broken
+field_of form profile None seen values left = Step.Broken
 
 -- what stands at the front of the bytes that are left
 unfoldable pub step_at : Form → Profile → List Bool → List ℕ → List ℕ → Step

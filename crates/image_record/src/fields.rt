@@ -1,34 +1,31 @@
 // The field at the front of a record's bytes.
-ghost use Rattle.std.specs.Prelude.{◌≡◌, ◌+◌, ◌<◌};
-ghost use Rattle.settings.specs.Settings.{row_count};
+ghost use Rattle.std.specs.Prelude.{◌≡◌};
 ghost use Rattle.models.specs.Models.{allowed_for, model_in};
 ghost use Rattle.image_record.specs.Field.{misplaced, step_at};
 
 use crate::Step;
-use codes::Found;
+use codes::Code;
 use image_forms::Form;
-use settings::{KIND_ROW, Profile, ROW_COUNT, TILING_ROW, VALUE_COUNT};
+use settings::{Profile, ROW_COUNT, Row, VALUE_COUNT};
 
 // Whether a row has no field here: none in this form, or it was seen before, or it is a kind behind the tiling.
-fn is_misplaced(form: Form, row: usize, seen: &[bool; ROW_COUNT]) -> bool
-    requires { row < row_count }
+fn is_misplaced(form: Form, row: Row, seen: &[bool; ROW_COUNT]) -> bool
     ensures { result ≡ misplaced form seen.now row }
 {
     if !image_forms::has_field(form, row) {
         return true;
     }
-    if seen[row] {
+    if seen[row.index()] {
         return true;
     }
-    row == KIND_ROW && seen[TILING_ROW]
+    row == Row::KIND && seen[Row::TILING.index()]
 }
 
 // Whether a field's values are allowed, by the profile and by the kind among the values gathered; only a tiling goes by the kind.
-fn is_allowed(profile: Profile, row: usize, vs: &[u8], values: &[u8; VALUE_COUNT]) -> bool
-    requires { row < row_count }
+fn is_allowed(profile: Profile, row: Row, vs: &[u8], values: &[u8; VALUE_COUNT]) -> bool
     ensures { result ≡ allowed_for (model_in profile values.now) row vs.now }
 {
-    if row != TILING_ROW {
+    if row != Row::TILING {
         return settings::in_ranges(profile, row, vs);
     }
     let model = models::model_in(profile, values);
@@ -50,10 +47,13 @@ pub fn step_at(
         return Step::End;
     }
     let found = codes::field_by(left[0]);
-    let Found::Set(row) = found else {
+    let Some(code) = found else {
         return Step::Broken;
     };
-    let count = settings::byte_count(row);
+    let Code::Set(row) = code else {
+        return Step::Broken;
+    };
+    let count = row.byte_count();
     if is_misplaced(form, row, seen) {
         return Step::Broken;
     }

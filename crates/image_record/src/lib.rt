@@ -10,13 +10,14 @@ ghost use Rattle.image_record.specs.Run.{run_from, stop_of};
 
 use image_forms::Form;
 use panels::ID_COUNT;
-use settings::{Profile, ROW_COUNT, VALUE_COUNT};
+use settings::{Profile, ROW_COUNT, Row, VALUE_COUNT};
 
+// Four states, and not a Result of an Option: both callers go by each of the four in one match.
 // What stands at the front of a record's bytes: a field of a row, one whose values are not allowed, a broken one, or the end.
 #[derive(Clone, Copy)]
 pub enum Step {
-    Field(usize),
-    NotAllowed(usize),
+    Field(Row),
+    NotAllowed(Row),
     Broken,
     End,
 }
@@ -66,6 +67,7 @@ pub fn head_in(form: Form, bytes: &[u8], seen: &[bool; ID_COUNT]) -> Option<Prof
     profile_in(form, bytes)
 }
 
+// A loop, since where a step ends is known only from the step.
 // Takes the fields at the front of the bytes that are left, as long as they can be: each one's row is seen, and its values are
 // among those gathered.
 pub fn take_fields(
@@ -86,9 +88,9 @@ pub fn take_fields(
             return Stop { step, taken: at };
         };
         let first = at + 2;
-        let end = first + settings::byte_count(row);
-        settings::store(row, &left[first..end], values);
-        seen[row] = true;
+        let end = first + row.byte_count();
+        row.store(&left[first..end], values);
+        seen[row.index()] = true;
         at = end;
     }
 }

@@ -8,7 +8,7 @@ use native.Mathlib.Numerals.{add-one}
 use native.Mathlib.Omega.{arith}
 use lib.ListN.{length, take, drop, set, replicate, length-set}
 use lib.Seq.{drop-length}
-use Rattle.std.specs.Prelude.{Option, Some, None}
+use Rattle.std.specs.Prelude.{Option, Some, None, is_some, unwrap_or, option_map}
 use Rattle.std.specs.Option.{option_map_or}
 use Rattle.settings.specs.declared.Profile.{Profile}
 use Rattle.settings.specs.Settings.{fresh_values, row_count}
@@ -22,7 +22,7 @@ use Rattle.image_forms.specs.Forms.{head_size}
 use Rattle.image_faults.specs.declared.Fault.{Fault}
 use Rattle.image_faults.specs.Lines.{longest_line}
 use Rattle.image_frame.specs.Frame.{form_of, count_of, record_in, records_in}
-use Rattle.image_frame.proofs.Edges.{Fits, record_next, record_count}
+use Rattle.image_frame.proofs.Edges.{record_next, record_count}
 use Rattle.image_record.specs.Head.{marked, head_in, headed}
 use Rattle.image_record.proofs.Heads.{Marks, none-marked, one_more as one-marked, head_alike}
 use Rattle.image_salvage.specs.declared.KeptRecord.{KeptRecord}
@@ -35,20 +35,26 @@ use Rattle.image_salvage.proofs.Sound.{record_dropped, record_kept}
 
 module _ (form : Form) (number from : ℕ) (seen : List Bool) (bytes : List ℕ) where
   -- a record is kept where its head fits, and else dropped
-  kept_by : (record_by form number from seen bytes).kept ≡ true → (profile : Profile) × (head_in form (marked seen) bytes ≡ Some profile)
+  kept_by : {p : Panel} → (record_by form number from seen bytes).panel ≡ Some p
+      → (profile : Profile) × (head_in form (marked seen) bytes ≡ Some profile) × (headed bytes profile (kept_of form profile (drop (head_size form) bytes)).values ≡ p)
   unfolding record_by
-  kept_by e = go (head_in form (marked seen) bytes) refl e
+  kept_by {p} e = go (head_in form (marked seen) bytes) refl e
     where
-      go : (n : Option Profile) → head_in form (marked seen) bytes ≡ n → option_map_or (λ (p : Profile). true) n false ≡ true → (profile : Profile) × (head_in form (marked seen) bytes ≡ Some profile)
-      go (Some profile) h e = (profile, h)
-      go None h e = absurd (false≢true e)
+      panel : Profile → Panel
+      panel profile = headed bytes profile (kept_of form profile (drop (head_size form) bytes)).values
 
-  dropped_by : (record_by form number from seen bytes).kept ≡ false → head_in form (marked seen) bytes ≡ None
+      go : (n : Option Profile) → head_in form (marked seen) bytes ≡ n → option_map panel n ≡ Some p
+          → (profile : Profile) × (head_in form (marked seen) bytes ≡ Some profile) × (panel profile ≡ p)
+      go (Some profile) h e = (profile, h, ap (λ (o : Option Panel). unwrap_or o blank) e)
+      go None h e = absurd (false≢true (ap is_some e))
+
+  dropped_by : (record_by form number from seen bytes).panel ≡ None → head_in form (marked seen) bytes ≡ None
   unfolding record_by
   dropped_by e = go (head_in form (marked seen) bytes) refl e
     where
-      go : (n : Option Profile) → head_in form (marked seen) bytes ≡ n → option_map_or (λ (p : Profile). true) n false ≡ false → head_in form (marked seen) bytes ≡ None
-      go (Some profile) h e = absurd (false≢true (sym e))
+      go : (n : Option Profile) → head_in form (marked seen) bytes ≡ n
+          → option_map (λ profile. headed bytes profile (kept_of form profile (drop (head_size form) bytes)).values) n ≡ None → head_in form (marked seen) bytes ≡ None
+      go (Some profile) h e = absurd (false≢true (sym (ap is_some e)))
       go None h e = h
 
   -- its faults are few, and so its lines are short
@@ -119,7 +125,7 @@ module _ (image first : List ℕ) where
           laid = l ∙ laid_over_lem (text_of whole) first;
         }
 
-    module _ (f : Fits image) (enough : lines_cap ≤ length first) (more : k < count_of image) where
+    module _ (most : count_of image ≤ most_panels) (enough : lines_cap ≤ length first) (more : k < count_of image) where
       abbrev bytes : List ℕ
       bytes = record_in image k
 
@@ -130,7 +136,7 @@ module _ (image first : List ℕ) where
       piece = lines_of (k + 1) (faults_by form seen bytes)
 
       pub piece_room : next + most_faults * longest_line ≤ length lines
-      piece_room = omega (arith, r.room, r.laying.long, f.few)
+      piece_room = omega (arith, r.room, r.laying.long, most)
 
       -- a record's lines are laid, and its faults were the next
       told_on : (v : Wall) → (left wall k).faults ≡ faults_by form seen bytes ∷ (left v (k + 1)).faults → {after : List ℕ} {place : ℕ}
@@ -140,7 +146,7 @@ module _ (image first : List ℕ) where
       told_on v e {after} {place} laid placed =
           let rest = text_from (k + 1 + 1) (left v (k + 1)).faults in
           let text : text_from (k + 1) (left wall k).faults ≡ piece ++ rest = rw e (rw (← add-one (k + 1))) in
-          let l = one_more piece (subst (Laying 0 first (text_of whole) lines next) text r.laying) (omega (arith, r.room, f.few, lines_few form (k + 1) next seen bytes)) in
+          let l = one_more piece (subst (Laying 0 first (text_of whole) lines next) text r.laying) (omega (arith, r.room, most, lines_few form (k + 1) next seen bytes)) in
           subst (λ (s : List ℕ). Laying 0 first (text_of whole) s place rest) (sym laid)
           (subst (λ (n : ℕ). Laying 0 first (text_of whole) (laid_at next piece lines) n rest) (sym placed) l)
 
@@ -152,7 +158,7 @@ module _ (image first : List ℕ) where
       here = ap (salvaged_from form wall) (record_next image k more)
 
       -- one record more, where what the code has is what it should have: dropped
-      pub dropped_on : {after : List ℕ} {place : ℕ} → read.kept ≡ false → after ≡ laid_at next piece lines → place ≡ read.next
+      pub dropped_on : {after : List ℕ} {place : ℕ} → read.panel ≡ None → after ≡ laid_at next piece lines → place ≡ read.next
           → Round after places count seen place (k + 1)
       unfolding faults_by
       dropped_on e laid placed =
@@ -174,21 +180,20 @@ module _ (image first : List ℕ) where
           more_suc = omega arith
 
       -- or kept
-      pub kept_on : {after : List ℕ} {place : ℕ} → read.kept ≡ true → after ≡ laid_at next piece lines → place ≡ read.next
-          → {panel : Panel} → panel ≡ read.panel → panel.id.0 < id_count
+      pub kept_on : {after : List ℕ} {place : ℕ} {panel : Panel} → read.panel ≡ Some panel → after ≡ laid_at next piece lines → place ≡ read.next → panel.id.0 < id_count
           → Round after (set places count panel) (count + 1) (set seen panel.id.0 true) place (k + 1)
-      unfolding faults_by record_by
-      kept_on e laid placed {panel} panel-is small =
-          let (profile, known) = kept_by form (k + 1) next seen bytes e in
+      unfolding faults_by
+      kept_on {panel} e laid placed small =
+          let (profile, known, is_panel) = kept_by form (k + 1) next seen bytes e in
           let kept = kept_of form profile (drop (head_size form) bytes) in
           let fits = sym (head_alike r.marks form bytes) ∙ known in
-          let same : panel ≡ headed bytes profile kept.values = panel-is ∙ rw known in
+          let same : panel ≡ headed bytes profile kept.values = sym is_panel in
           let v = wall ++ panel ∷ [] in
           let with : wall ++ headed bytes profile kept.values ∷ [] ≡ v = ap (λ (p : Panel). wall ++ p ∷ []) (sym same) in
           let is : left wall k ≡ behind_faults kept.faults (left v (k + 1)) =
           here ∙ record_kept form wall bytes _ profile fits ∙ ap (λ (v : Wall). behind_faults kept.faults (salvaged_from form v (drop (k + 1) (records_in image)))) with in
           let faults : faults_by form seen bytes ≡ kept.faults = rw known in
-          let (held, on) = one-held places count panel (omega (arith, r.panels, f.few)) r.held in
+          let (held, on) = one-held places count panel (omega (arith, r.panels, most)) r.held in
           record {
             few = omega arith;
             room = place_on placed;

@@ -1,11 +1,15 @@
 -- What is kept is in range, and each panel that is kept is good behind the wall. Assumes nothing.
-use mathlib.Core.Path.{◌≡◌, refl, sym, subst}
-use mathlib.Core.Bool.{Bool, true, false, cond}
+use mathlib.Core.Path.{◌≡◌, refl, sym, ap, subst}
+use mathlib.Core.Bool.{Bool, true, false, cond, false≢true}
 use mathlib.Core.List.{List, [], ◌∷◌, ◌++◌}
 use Prim.Native.Nat.{ℕ, zero, suc, ◌+◌, ◌≤◌}
 use native.Mathlib.Omega.{arith}
 use lib.ListN.{length, drop, length-append}
-use Rattle.std.specs.Prelude.{Option, Some, None}
+use Rattle.std.specs.Prelude.{Option, Some, None, Result, Ok, Err, is_ok}
+use Rattle.std.specs.Result.{result_unwrap_or}
+use Rattle.refusals.specs.declared.Refusal.{Refusal}
+use Rattle.refusals.specs.Refusals.{if_sound}
+use Rattle.image_salvage.specs.declared.Salvaged.{Salvaged}
 use Rattle.settings.specs.declared.Profile.{Profile}
 use Rattle.panels.specs.Wall.{Wall, table_of, most_panels}
 use Rattle.panels.specs.WellFormed.{GoodWall, WellFormed}
@@ -14,9 +18,8 @@ use Rattle.panels.proofs.Values.{InRange}
 use Rattle.image_forms.specs.declared.Form.{Form}
 use Rattle.image_forms.specs.Forms.{head_size}
 use Rattle.image_faults.specs.declared.Fault.{Fault}
-use Rattle.refusals.specs.Refusals.{is_sound}
-use Rattle.image_frame.specs.Frame.{form_of, records_in, frame_refusal}
-use Rattle.image_frame.proofs.Edges.{fits, record_count}
+use Rattle.image_frame.specs.Frame.{form_of, records_in, frame_of}
+use Rattle.image_frame.proofs.Edges.{sound, record_count}
 use Rattle.image_record.specs.declared.Step.{Step}
 use Rattle.image_record.specs.Head.{id_in, head_in, headed}
 use Rattle.image_record.specs.Run.{run_from}
@@ -24,7 +27,7 @@ use Rattle.image_record.proofs.Gathering.{Gathering, none_gathered, passed_on}
 use Rattle.image_record.proofs.Runs.{run_gathers}
 use Rattle.image_record.proofs.Heads.{headed-good}
 use Rattle.image_salvage.specs.Kept.{Kept, kept_from, kept_of, most_faults}
-use Rattle.image_salvage.specs.Salvaged.{Salvage, behind_faults, salvaged_from, salvage_of}
+use Rattle.image_salvage.specs.Salvaged.{Salvage, behind_faults, salvaged_from, salvage_of, told_as, salvaged_as}
 use Rattle.image_salvage.proofs.Walk.{kept_step, kept_passed, behind_run}
 
 module _ (form : Form) (profile : Profile) where
@@ -90,8 +93,19 @@ from_formed form w (bytes ∷ records) few good = go (head_in form (id_in w) byt
 -- Whatever the image, what is kept of it is well-formed.
 pub salvage_formed : (image : List ℕ) → WellFormed (table_of (salvage_of image).wall)
 unfolding salvage_of
-salvage_formed image = go (is_sound (frame_refusal image)) refl
+salvage_formed image = go (is_ok (frame_of image)) refl
   where
-    go : (t : Bool) → is_sound (frame_refusal image) ≡ t → WellFormed (table_of (cond t (salvaged_from (form_of image) [] (records_in image)) (record { wall = []; faults = [] })).wall)
-    go true e = from_formed (form_of image) [] (records_in image) (omega (arith, record_count image, (fits image e).few)) tt
+    go : (t : Bool) → is_ok (frame_of image) ≡ t → WellFormed (table_of (cond t (salvaged_from (form_of image) [] (records_in image)) (record { wall = []; faults = [] })).wall)
+    go true e = from_formed (form_of image) [] (records_in image) (omega (arith, record_count image, (sound image e).0.few)) tt
     go false e = empty_formed
+
+-- what is told of an image that is not refused
+pub salvaged_is : (image : List ℕ) {s : Salvaged} → salvaged_as image ≡ Ok s → s ≡ told_as (salvage_of image)
+salvaged_is image {s} e = go (frame_of image) e
+  where
+    go : (f : Result (List ℕ) Refusal) → if_sound f (λ frame. Ok (told_as (salvage_of image))) ≡ Ok s → s ≡ told_as (salvage_of image)
+    go (Ok frame) e = sym (ap (λ (r : Result Salvaged Refusal). result_unwrap_or r s) e)
+    go (Err r) e = absurd (false≢true (ap is_ok e))
+
+pub table_formed : (image : List ℕ) {s : Salvaged} → salvaged_as image ≡ Ok s → WellFormed s.table
+table_formed image e = subst WellFormed (sym (ap (λ (r : Salvaged). r.table) (salvaged_is image e))) (salvage_formed image)

@@ -6,16 +6,15 @@ use Prim.Native.Nat.{ℕ, suc, ◌*◌, ◌≤◌}
 use native.Mathlib.Omega.{arith}
 use lib.ListN.{length, drop, replicate, length-append}
 use Rattle.settings.specs.declared.Profile.{Profile}
-use Rattle.std.specs.Prelude.{Option, Some, None}
+use Rattle.std.specs.Prelude.{Option, Some, None, is_ok}
 use Rattle.settings.specs.Settings.{fresh_values, row_count}
 use Rattle.panels.specs.Wall.{Wall, most_panels}
 use Rattle.image_forms.specs.declared.Form.{Form}
 use Rattle.image_forms.specs.Forms.{head_size}
 use Rattle.image_faults.specs.declared.Fault.{Fault}
 use Rattle.image_faults.specs.Lines.{longest_line}
-use Rattle.refusals.specs.Refusals.{is_sound}
-use Rattle.image_frame.specs.Frame.{form_of, records_in, frame_refusal}
-use Rattle.image_frame.proofs.Edges.{fits, record_count}
+use Rattle.image_frame.specs.Frame.{form_of, records_in, frame_of}
+use Rattle.image_frame.proofs.Edges.{sound, record_count}
 use Rattle.image_record.specs.Head.{id_in, head_in}
 use Rattle.image_salvage.specs.Kept.{most_faults}
 use Rattle.image_salvage.specs.Salvaged.{Salvage, salvaged_from, salvage_of, lines_of, text_from, text_of, lines_cap}
@@ -65,11 +64,11 @@ all_lines (faults ∷ rest) (few, more) = simp length-append (omega (arith, all_
 
 salvage-each : (image : List ℕ) → (n : ℕ) × (n ≤ most_panels) × Each n (salvage_of image).faults
 unfolding salvage_of
-salvage-each image = go (is_sound (frame_refusal image)) refl
+salvage-each image = go (is_ok (frame_of image)) refl
   where
-    go : (t : Bool) → is_sound (frame_refusal image) ≡ t
+    go : (t : Bool) → is_ok (frame_of image) ≡ t
         → (n : ℕ) × (n ≤ most_panels) × Each n (cond t (salvaged_from (form_of image) [] (records_in image)) (record { wall = []; faults = [] })).faults
-    go true e = (length (records_in image), omega (arith, record_count image, (fits image e).few), from_each (form_of image) [] (records_in image))
+    go true e = (length (records_in image), omega (arith, record_count image, (sound image e).0.few), from_each (form_of image) [] (records_in image))
     go false e = (0, omega arith, record { as_many = refl; few = tt })
 
 -- whatever the image

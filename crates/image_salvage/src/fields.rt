@@ -49,8 +49,8 @@ pub fn kept(
         match step {
             Step::NotAllowed(row) => {
                 next = tell(number, Fault::NotAllowed(bytes[at]), lines, next);
-                seen[row] = true;
-                at = at + 2 + settings::byte_count(row);
+                seen[row.index()] = true;
+                at = at + 2 + row.byte_count();
             }
             Step::Broken => {
                 next = tell(number, Fault::Broken(bytes[at]), lines, next);

@@ -9,6 +9,7 @@ ghost use Rattle.lists.specs.Lists.{laid_over};
 ghost use Rattle.image_salvage.specs.Salvaged.{salvage_of, text_of, salvaged_as};
 
 use image_faults::LONGEST_LINE;
+use image_frame::Frame;
 use panels::{MOST_PANELS, Panel, Table};
 use refusals::Refusal;
 use settings::{ROW_COUNT, VALUE_COUNT};
@@ -19,14 +20,14 @@ pub const MOST_FAULTS: usize = ROW_COUNT + 1;
 // Room for the lines of any image.
 pub const LINES_CAP: usize = MOST_PANELS * MOST_FAULTS * LONGEST_LINE;
 
-// The table that is kept, and how many bytes of text its lines have; or why the image as a whole was refused, and neither.
+// The table that is kept, and how many bytes of text its lines have.
 #[derive(Clone, Copy)]
 pub struct Salvaged {
-    pub refusal: Refusal,
     pub table: Table,
     pub told: usize,
 }
 
+// The place of the next line is handed on: the text lies in the caller's array, since nothing here is allocated.
 // What is kept of a record's fields, and where the next line begins.
 #[derive(Clone, Copy)]
 struct KeptFields {
@@ -37,24 +38,16 @@ struct KeptFields {
 // What is kept of a record, if anything, and where the next line begins.
 #[derive(Clone, Copy)]
 struct KeptRecord {
-    kept: bool,
-    panel: Panel,
+    panel: Option<Panel>,
     next: usize,
 }
 
-// What can be kept of an image that passes 11 to 15, with the text of its lines at the front of lines.
-pub fn salvage(image: &[u8], lines: &mut [u8; LINES_CAP]) -> Salvaged
+// What can be kept of an image that passes 11 to 15, with the text of its lines at the front of lines; or why the image as a whole
+// is refused, and then there is no text.
+pub fn salvage(image: &[u8], lines: &mut [u8; LINES_CAP]) -> Result<Salvaged, Refusal>
     ensures value { result ≡ salvaged_as image.now }
     ensures lines_after { lines.new ≡ laid_over (text_of (salvage_of image.now)) lines.old }
 {
-    let refusal = image_frame::frame_refusal(image);
-    if refusals::refusal_number(refusal) != 0 {
-        let table = panels::empty_table();
-        return Salvaged {
-            refusal,
-            table,
-            told: 0,
-        };
-    }
-    records::all(image, lines)
+    let frame = Frame::of(image)?;
+    Ok(records::all(&frame, lines))
 }

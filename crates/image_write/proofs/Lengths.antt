@@ -1,11 +1,12 @@
 -- How long a record and its parts are. Assumes nothing.
-use mathlib.Core.Path.{◌≡◌, refl, sym, ap, ap₂, ◌∙◌}
-use mathlib.Core.Bool.{Bool, true, false, cond}
-use mathlib.Core.List.{List, [], ◌++◌, flatten}
+use mathlib.Core.Path.{◌≡◌, refl, sym, ap, ◌∙◌}
+use mathlib.Core.Bool.{true, cond}
+use mathlib.Core.List.{List, [], flatten}
 use Prim.Native.Nat.{ℕ, zero, suc, ◌+◌, ◌*◌, ◌≤◌, ◌<◌}
 use native.Mathlib.Omega.{arith}
 use lib.ListN.{length, get_or, take, replicate, length-append, length-map, length-replicate}
 use lib.Seq.{take_all}
+use Rattle.std.proofs.lemmas.List.{get_or-map}
 use Rattle.panels.proofs.Values.{length-values}
 use Rattle.settings.specs.Settings.{settings, byte_count, value_count, row_count, values_of}
 use Rattle.image_forms.specs.declared.Form.{Form}
@@ -16,19 +17,17 @@ use Rattle.lists.proofs.Each.{in_each, length-each, each_alike}
 use Rattle.panels.specs.declared.Panel.{Panel}
 use Rattle.panels.specs.Wall.{Wall, blank}
 use Rattle.panels.specs.WellFormed.{GoodWall}
-use Rattle.lists.proofs.Mapped.{at_map}
 use Rattle.panels.proofs.Formed.{good_at}
 use Rattle.image_write.specs.Written.{field, field_in, fields_of, record_of, records_of, high_low, starts_of, image_of, record_size}
 use Rattle.image_write.specs.Private.Sizes.{fields_size}
 use Rattle.lists.proofs.Flat.{alike_long}
+use Rattle.std.proofs.lemmas.Grind.{common_steps}
 
 -- lists as long as others, one behind the other
 as_long : (f g : ℕ → List ℕ) (n : ℕ) → ((k : ℕ) → k < n → length (f k) ≡ length (g k)) → length (flatten (each f n)) ≡ length (flatten (each g n))
 unfolding flatten
 as_long f g zero h = refl
-as_long f g (suc n) h =
-    let rest = as_long (λ k. f (suc k)) (λ k. g (suc k)) n (λ k l. h (suc k) (omega arith)) in
-    rw (length-append (f 0) _, length-append (g 0) _, h 0 (omega arith), rest)
+as_long f g (suc n) h = grind (arith, common_steps, as_long (λ k. f (suc k)) (λ k. g (suc k)) n (λ k l. h (suc k) (omega arith)), length-append)
 
 -- how many bytes a form has for a row's field
 abbrev pub field_bytes : Form → ℕ → ℕ
@@ -53,14 +52,10 @@ module _ (form : Form) (values : List ℕ) where
   fields_all = take_all row_count (fields_of form values) (omega (arith, fields-count))
 
   pub field-length : length values ≡ value_count → (row : ℕ) → length (field_in form values row) ≡ field_bytes form row
-  field-length full row = go (has_field form row)
-    where
-      go : (t : Bool) → length (cond t (field row (values_of row values)) []) ≡ cond t (2 + byte_count row) 0
-      go true = omega (arith, length-values row values full)
-      go false = refl
+  field-length full row = grind (arith, common_steps, has_field, field, values_of, byte_count, length-values)
 
   pub field_has : length values ≡ value_count → (row : ℕ) → has_field form row ≡ true → length (field_in form values row) ≡ 2 + byte_count row
-  field_has full row has = field-length full row ∙ ap (λ (t : Bool). cond t (2 + byte_count row) 0) has
+  field_has full row has = grind (arith, common_steps, field-length, byte_count)
 
   pub fields-length : length values ≡ value_count → length (flatten (fields_of form values)) ≡ fields_size form
   unfolding fields_of
@@ -70,10 +65,7 @@ module _ (form : Form) (values : List ℕ) where
 
 -- n starts of two bytes
 pub pairs_before : (f : ℕ → ℕ) (n k : ℕ) → k ≤ n → length (flatten (take k (each (λ j. high_low (f j)) n))) ≡ 2 * k
-pairs_before f n k h =
-    let ls = each (λ j. high_low (f j)) n in
-    let count = length-each (λ j. high_low (f j)) n in
-    alike_long 2 ls (λ j g. ap length (in_each (λ j. high_low (f j)) n [] (omega arith))) k (omega arith)
+pairs_before f n k h = grind (arith, common_steps, high_low, length-each, alike_long, in_each)
 
 -- an image made of records
 pub starts_count : (records : List (List ℕ)) → length (flatten (starts_of records)) ≡ 2 * length records
@@ -91,30 +83,22 @@ record_parts Form.Two = refl
 module _ (form : Form) where
   pub image-length : (records : List (List ℕ)) → length (image_of form records) ≡ length (flatten records) + 2 * length records + 2
   unfolding image_of
-  image-length records = rw (length-append (flatten records ++ flatten (starts_of records)), length-append (flatten records), starts_count records)
+  image-length records = grind (arith, common_steps, length-append, starts_count)
 
   -- a record has as many bytes as its form says
   pub record_length : (p : Panel) → length p.values ≡ value_count → length (record_of form p) ≡ record_size form
   unfolding record_of
-  record_length p full =
-      let h = head_of form p.id.0 p.group.0 p.profile in
-      length-append h (flatten (fields_of form p.values))
-      ∙ ap₂ (λ (a b : ℕ). a + b) (head-length p.id.0 p.group.0 p.profile form) (fields-length form p.values full)
-      ∙ sym (record_parts form)
+  record_length p full = grind (arith, common_steps, head_of, length-append, head-length, fields-length, record_parts)
 
   pub record_some : 0 < record_size form
   record_some = omega (arith, record_parts form, head_some form)
 
   -- so that each record of a wall starts that much behind the one before it
   pub record_at : (w : Wall) (k : ℕ) → k < length w → get_or (records_of form w) k [] ≡ record_of form (get_or w k blank)
-  record_at w k h = at_map (record_of form) w k blank [] h
+  record_at w k h = get_or-map (record_of form) w k blank [] h
 
   pub records-before : (w : Wall) → GoodWall w → (k : ℕ) → k ≤ length w → length (flatten (take k (records_of form w))) ≡ record_size form * k
-  records-before w good k h =
-      let n = length-map w (record_of form) in
-      alike_long (record_size form) (records_of form w)
-      (λ j g. let g' : j < length w = omega arith in rw (record_at w j g') (record_length (get_or w j blank) (good_at w good j g').full))
-      k (omega arith)
+  records-before w good k h = grind (arith, common_steps, length-map, alike_long, record_size, records_of, record_at, record_length, blank, good_at)
 
   pub records_long : (w : Wall) → GoodWall w → length (flatten (records_of form w)) ≡ record_size form * length w
   records_long w good =
@@ -123,15 +107,12 @@ module _ (form : Form) where
 
   pub starts_are : (w : Wall) → GoodWall w → starts_of (records_of form w) ≡ each (λ k. high_low (record_size form * k)) (length w)
   unfolding starts_of flatten
-  starts_are w good =
-      rw (length-map w (record_of form))
-      (each_alike (λ k. high_low (start_of (records_of form w) k)) (λ k. high_low (record_size form * k)) (length w)
-      (λ k h. ap high_low (records-before w good k (omega arith))))
+  starts_are w good = grind (arith, common_steps, length-map, each_alike, high_low, start_of, records_of, record_size, records-before)
 
 -- The products with a record's size that bounds need, which each form has for itself.
 abbrev pub Products : ℕ → ℕ → ℕ → Type 0
 Products size k n = ((size + 2) * n ≡ size * n + 2 * n) × (k < n → size * k + size ≤ size * n) × (k ≤ n → size * k ≤ size * n) × (size * n ≤ 43 * n) × (size ≤ 43)
 
 pub products : (form : Form) (k n : ℕ) → Products (record_size form) k n
-products Form.One k n = (omega arith, (λ h. omega arith), (λ h. omega arith), omega arith, omega arith)
-products Form.Two k n = (omega arith, (λ h. omega arith), (λ h. omega arith), omega arith, omega arith)
+products Form.One k n = grind (arith, common_steps)
+products Form.Two k n = grind (arith, common_steps)

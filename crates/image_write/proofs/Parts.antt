@@ -1,15 +1,15 @@
 -- Bytes that are put into a part of the output: they are laid over its front, behind what is there already. Assumes nothing.
 use mathlib.Core.Path.{◌≡◌, refl, sym, ap, ◌∙◌}
-use mathlib.Core.List.{List, [], ◌∷◌, ◌++◌, append_assoc, flatten}
+use mathlib.Core.List.{List, [], ◌∷◌, ◌++◌, flatten}
 use Prim.Native.Nat.{ℕ, ◌+◌, ◌-◌, ◌≤◌, ◌<◌}
 use native.Mathlib.Numerals.{add-one}
 use native.Mathlib.Omega.{arith}
 use borrow.Rule.Slice.PartMut.{mid_of, put_mid}
 use lib.ListN.{length, get_or, take, set}
-use lib.Seq.{drop-drop}
 use Rattle.lists.specs.Lists.{start_of, laid_at, laid_over}
 use Rattle.lists.proofs.Flat.{flat_more, flat_fits}
 use Rattle.lists.proofs.Laid.{laid_copy, laid_then, laid_over_lem, length_laid}
+use Rattle.std.proofs.lemmas.Grind.{common_steps}
 
 pub length_over : (b l : List ℕ) → length b ≤ length l → length (laid_over b l) ≡ length l
 length_over b l h = ap length (sym (laid_over_lem b l)) ∙ length_laid 0 b l (omega arith)
@@ -30,7 +30,7 @@ headed a b k s (x ∷ y ∷ l) h e = rw e
 -- a piece in the place of as many bytes
 laid_piece : (at n : ℕ) (s l : List ℕ) → n ≡ length s → put_mid at n l s ≡ laid_at at s l
 unfolding laid_at
-laid_piece at n s l e = rw (e, drop-drop (length s) at l) (sym (append_assoc (take at l) s _))
+laid_piece at n s l e = grind (arith, common_steps)
 
 pub behind : (m : ℕ) (a b l : List ℕ) → m ≡ length a → m + length b ≤ length l → laid_at m b (laid_over a l) ≡ laid_over (a ++ b) l
 behind m a b l e h = ap (laid_at m b) (sym (laid_over_lem a l)) ∙ laid_then 0 m a b l (omega arith) h ∙ laid_over_lem (a ++ b) l
@@ -42,9 +42,7 @@ laid_rest m b l h = laid_copy m b l h
 
 pub laid_next : (m : ℕ) (a b l h last : List ℕ) → h ≡ laid_over a l → m ≡ length a → m + length b ≤ length l
     → last ≡ laid_over b (mid_of m (length h - m) h) → put_mid m (length h - m) h last ≡ laid_over (a ++ b) l
-laid_next m a b l h last so_far e room is =
-    let long = ap length so_far ∙ length_over a l (omega arith) in
-    ap (put_mid m (length h - m) h) is ∙ laid_rest m b h (omega arith) ∙ ap (laid_at m b) so_far ∙ behind m a b l e room
+laid_next m a b l h last so_far e room is = grind (arith, common_steps, length_over, put_mid, laid_rest, behind)
 
 -- of some pieces one more, laid over the front of the rest or put in the place of as many bytes
 module _ (ls : List (List ℕ)) (k m : ℕ) (l out last : List ℕ) (here : k < length ls) (at : m ≡ start_of ls k)

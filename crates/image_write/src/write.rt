@@ -1,7 +1,7 @@
 // An image's parts, each laid over the front of the output that it is lent.
 ghost use Rattle.std.specs.Prelude.{◌≡◌, ◌+◌, ◌*◌, ◌≤◌, ◌<◌, length};
 ghost use mathlib.Core.List.{flatten};
-ghost use Rattle.settings.specs.Settings.{byte_count, values_of, row_count, value_count};
+ghost use Rattle.settings.specs.Settings.{byte_count, values_of, value_count};
 ghost use Rattle.lists.specs.Lists.{each, laid_over};
 ghost use Rattle.panels.specs.Wall.{panels_of, most_panels};
 ghost use Rattle.panels.specs.WellFormed.{WellFormed};
@@ -12,23 +12,23 @@ ghost use Rattle.image_forms.specs.Forms.{head_size, head_of};
 use crate::{FIELD_HEAD, START_SIZE};
 use image_forms::Form;
 use panels::{Panel, Table};
-use settings::{ROW_COUNT, VALUE_COUNT};
+use settings::{Row, VALUE_COUNT};
 
 // A row's field: set code, length, values.
-fn one_field(out: &mut [u8], row: usize, values: &[u8; VALUE_COUNT])
-    requires { (row < row_count) × (field_head + byte_count row ≤ length out.old) }
+fn one_field(out: &mut [u8], row: Row, values: &[u8; VALUE_COUNT])
+    requires { field_head + byte_count row ≤ length out.old }
     ensures { out.new ≡ laid_over (field row (values_of row values.now)) out.old }
 {
-    let count = settings::byte_count(row);
-    let first = settings::place_of(row);
-    out[0] = settings::set_code(row);
+    let count = row.byte_count();
+    let first = row.place();
+    out[0] = row.set_code();
     out[1] = count as u8;
     out[FIELD_HEAD..FIELD_HEAD + count].copy_from_slice(&values[first..first + count]);
 }
 
 // A row's field where the form has one, and how many bytes it has.
-fn field_in(form: Form, out: &mut [u8], row: usize, values: &[u8; VALUE_COUNT]) -> usize
-    requires { (row < row_count) × (length (field_in form values.now row) ≤ length out.old) }
+fn field_in(form: Form, out: &mut [u8], row: Row, values: &[u8; VALUE_COUNT]) -> usize
+    requires { length (field_in form values.now row) ≤ length out.old }
     ensures value { result ≡ length (field_in form values.now row) }
     ensures out_after { out.new ≡ laid_over (field_in form values.now row) out.old }
 {
@@ -36,7 +36,7 @@ fn field_in(form: Form, out: &mut [u8], row: usize, values: &[u8; VALUE_COUNT]) 
         return 0;
     }
     one_field(out, row, values);
-    FIELD_HEAD + settings::byte_count(row)
+    FIELD_HEAD + row.byte_count()
 }
 
 // All fields that the form has, by rising code.
@@ -45,7 +45,7 @@ fn all_fields(form: Form, out: &mut [u8], values: &[u8; VALUE_COUNT])
     ensures { out.new ≡ laid_over (flatten (fields_of form values.now)) out.old }
 {
     let mut next = 0;
-    for row in 0..ROW_COUNT {
+    for row in Row::ALL {
         next += field_in(form, &mut out[next..], row, values);
     }
 }

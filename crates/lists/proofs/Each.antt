@@ -6,6 +6,7 @@ use native.Mathlib.Nat.{le_of_suc-le-suc, not-suc-le-zero}
 use native.Mathlib.Omega.{arith}
 use lib.ListN.{length, get_or, set, replicate}
 use Rattle.lists.specs.Lists.{each}
+use Rattle.std.proofs.lemmas.Grind.{common_steps}
 
 pub in_each : {A : Type 0} (f : ℕ → A) (n : ℕ) {k : ℕ} (d : A) → k < n → get_or (each f n) k d ≡ f k
 in_each f zero d h = absurd (not-suc-le-zero h)
@@ -36,7 +37,6 @@ each_get_d (l ∷ ls) d = ap (λ r. l ∷ r) (each_get_d ls d)
 -- a list made by one rule, with another value stored at a place, is made by a rule that differs there alone
 pub set-each : {A : Type 0} (f g : ℕ → A) (n j : ℕ) → j < n → ((k : ℕ) → (k ≡ j → ⊥) → f k ≡ g k) → set (each f n) j (g j) ≡ each g n
 set-each f g zero j h same = absurd (not-suc-le-zero h)
-set-each {A} f g (suc n) zero h same =
-    ap (λ (l : List A). g 0 ∷ l) (each_alike (λ k. f (suc k)) (λ k. g (suc k)) n (λ k l. same (suc k) (λ e. omega arith)))
+set-each {A} f g (suc n) zero h same = grind (arith, common_steps)
 set-each f g (suc n) (suc j) h same =
     rw (same 0 (λ e. omega arith), set-each (λ k. f (suc k)) (λ k. g (suc k)) n j (le_of_suc-le-suc h) (λ k ne. same (suc k) (λ e. ne (omega arith))))

@@ -2,11 +2,11 @@
 use mathlib.Core.Path.{◌≡◌, refl, sym, ap}
 use mathlib.Core.List.{List, [], ◌∷◌, ◌++◌, append_assoc, append-nil, flatten}
 use Prim.Native.Nat.{ℕ, zero, suc, ◌+◌, ◌*◌, ◌≤◌, ◌<◌}
-use native.Mathlib.Nat.{add_assoc, zero-add, mul-zero, mul-suc, not-suc-le-zero, le_of_suc-le-suc}
+use native.Mathlib.Nat.{zero-add, mul-zero, mul-suc, not-suc-le-zero, le_of_suc-le-suc}
 use native.Mathlib.Omega.{arith}
 use lib.ListN.{length, get_or, take, drop, length-append, get_or-append}
-use lib.Seq.{get_or-append-add}
 use Rattle.lists.specs.Lists.{start_of}
+use Rattle.std.proofs.lemmas.Grind.{common_steps}
 
 module _ {A : Type 0} where
   -- element k of list j
@@ -15,7 +15,7 @@ module _ {A : Type 0} where
   unfolding flatten
   in_flat [] j k d h = absurd (not-suc-le-zero h)
   in_flat (l ∷ ls) zero k d h = rw zero-add (get_or-append l _ d k h)
-  in_flat (l ∷ ls) (suc j) k d h = rw (length-append, add_assoc, get_or-append-add) (in_flat ls j k d h)
+  in_flat (l ∷ ls) (suc j) k d h = grind (arith, common_steps, in_flat ls j k d h)
 
   -- each list is among them, and no two overlap
   pub flat_fits : (ls : List (List A)) (j : ℕ) → start_of ls j + length (get_or ls j []) ≤ length (flatten ls)
@@ -52,6 +52,4 @@ module _ {A : Type 0} where
       → (k : ℕ) → k ≤ length ls → length (flatten (take k ls)) ≡ m * k
   unfolding flatten
   alike_long m ls each-is zero h = sym (mul-zero m)
-  alike_long m ls each-is (suc k) h =
-      rw (flat_more ls k h, length-append (flatten (take k ls)) (get_or ls k []), alike_long m ls each-is k (omega arith), each-is k h)
-      (sym (mul-suc m k))
+  alike_long m ls each-is (suc k) h = grind (arith, common_steps, alike_long m ls each-is k (omega arith), flat_more, length-append, mul-suc)

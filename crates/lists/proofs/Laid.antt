@@ -1,34 +1,33 @@
 -- Bytes laid over others: what stands before them, they themselves, what stands behind them, and one piece behind the other.
 -- Assumes nothing.
 use mathlib.Core.Path.{◌≡◌, refl, sym, ap, ◌∙◌}
-use mathlib.Core.List.{List, [], ◌∷◌, ◌++◌, append_assoc, append-nil, flatten}
+use mathlib.Core.List.{List, [], ◌∷◌, ◌++◌, append_assoc}
 use Prim.Native.Nat.{ℕ, zero, suc, ◌+◌, ◌-◌, ◌≤◌, ◌<◌}
-use native.Mathlib.Nat.{add_assoc, zero-add, add-zero}
+use native.Mathlib.Nat.{add_assoc, zero-add}
 use native.Mathlib.Numerals.{add-one}
 use native.Mathlib.Omega.{arith}
 use borrow.Rule.Slice.PartMut.{mid_of, put_mid}
-use lib.ListN.{length, get_or, take, drop, set, length-append, length-drop, take-append-drop}
-use lib.Seq.{length-take-le, take_all, take-suc, drop-length, take_at, drop_at, take-take, take-add, drop-drop, set_at, set_split, append_snoc, drop-append-add}
+use lib.ListN.{length, get_or, take, drop, set, length-append, take-append-drop}
+use lib.Seq.{length-take-le, take-suc, take_at, drop_at, take-take, take-add, drop-drop, set_at, set_split, append_snoc, drop-append-add}
 use Rattle.lists.specs.Lists.{laid_at, laid_over}
-use Rattle.lists.proofs.Flat.{flat_more}
+use Rattle.std.proofs.lemmas.Grind.{common_steps}
 
 -- the part before the seam
 pub front : (at : ℕ) (b l : List ℕ) → at ≤ length l → length (take at l ++ b) ≡ at + length b
-front at b l h = rw (length-append (take at l) b, length-take-le at l h)
+front at b l h = grind (arith, common_steps)
 
 pub length_laid : (at : ℕ) (b l : List ℕ) → at + length b ≤ length l → length (laid_at at b l) ≡ length l
 unfolding laid_at
-length_laid at b l h =
-    rw (length-append (take at l ++ b) (drop (at + length b) l), front at b l (omega arith), length-drop) (omega arith)
+length_laid at b l h = grind (arith, common_steps)
 
 module _ (at : ℕ) (b l : List ℕ) (h : at + length b ≤ length l) where
-  pub before_laid : take at (laid_at at b l) ≡ take at l
+  before_laid : take at (laid_at at b l) ≡ take at l
   unfolding laid_at
-  before_laid = rw append_assoc (take_at (take at l) _ at (length-take-le at l (omega arith)))
+  before_laid = grind (arith, common_steps)
 
   from_laid : drop at (laid_at at b l) ≡ b ++ drop (at + length b) l
   unfolding laid_at
-  from_laid = rw append_assoc (drop_at (take at l) _ at (length-take-le at l (omega arith)))
+  from_laid = grind (arith, common_steps)
 
   pub laid_itself : take (length b) (drop at (laid_at at b l)) ≡ b
   laid_itself = rw from_laid (take_at b _ (length b) refl)
@@ -71,27 +70,18 @@ ahead_of_laid at a n b l h g =
 pub laid_copy : (at : ℕ) (s l : List ℕ) → at + length s ≤ length l
     → put_mid at (length l - at) l (s ++ drop (length s) (mid_of at (length l - at) l)) ≡ laid_at at s l
 unfolding laid_at
-laid_copy at s l h =
-    let d = drop at l in
-    let short : length d ≤ length l - at = rw length-drop (omega arith) in
-    let all : mid_of at (length l - at) l ≡ d = take_all (length l - at) d short in
-    let none : drop (length l - at) d ≡ [] = rw (drop-drop (length l - at) at l) (let e : at + (length l - at) ≡ length l = omega arith in rw e (drop-length l)) in
-    rw (all, none, append-nil, drop-drop (length s) at l) (sym (append_assoc (take at l) s _))
+laid_copy at s l h = grind (arith, common_steps)
 
 -- and into a part that is as long
 pub laid_part : (at : ℕ) (s l : List ℕ) → at + length s ≤ length l
     → put_mid at (length s) l (s ++ drop (length s) (mid_of at (length s) l)) ≡ laid_at at s l
 unfolding laid_at
-laid_part at s l h =
-    let mid = mid_of at (length s) l in
-    let many : length mid ≡ length s = length-take-le (length s) (drop at l) (rw length-drop (omega arith)) in
-    let none : drop (length s) mid ≡ [] = ap (λ (n : ℕ). drop n mid) (sym many) ∙ drop-length mid in
-    rw (none, append-nil, drop-drop (length s) at l) (sym (append_assoc (take at l) s _))
+laid_part at s l h = grind (arith, common_steps)
 
 -- nothing laid, and bytes laid over the front
 pub laid_none : (at : ℕ) (l : List ℕ) → laid_at at [] l ≡ l
 unfolding laid_at
-laid_none at l = rw (append-nil, add-zero) (take-append-drop at l)
+laid_none at l = grind (arith, common_steps)
 
 pub laid_over_lem : (b l : List ℕ) → laid_at 0 b l ≡ laid_over b l
 unfolding laid_at laid_over
@@ -106,14 +96,7 @@ behind-over b l = drop_at b _ _ refl
 pub laid_then : (at m : ℕ) (a b l : List ℕ) → m ≡ at + length a → m + length b ≤ length l
     → laid_at m b (laid_at at a l) ≡ laid_at at (a ++ b) l
 unfolding laid_at
-laid_then at m a b l e h =
-    let p = take at l ++ a in
-    let n : length p ≡ m = front at a l (omega arith) ∙ sym e in
-    let rest = drop (at + length a) l in
-    let taken : take m (p ++ rest) ≡ p = take_at p rest m n in
-    let dropped : drop (m + length b) (p ++ rest) ≡ drop (at + length (a ++ b)) l =
-    rw (← n, drop-append-add p rest (length b), drop-drop (length b) (at + length a) l, length-append a b, add_assoc) in
-    rw (taken, dropped, append_assoc (take at l) a b)
+laid_then at m a b l e h = grind (arith, common_steps, front, take_at, drop-append-add, drop-drop, length-append, add_assoc, append_assoc)
 
 pub laid_set : (at v : ℕ) (l : List ℕ) → at < length l → set l at v ≡ laid_at at (v ∷ []) l
 unfolding laid_at
@@ -132,12 +115,4 @@ laid_before at v s l h =
     (set_at front x (s ++ rest) v at (length-take-le at l (omega arith)))
 
 pub laid_two : (at a b : ℕ) (l : List ℕ) → at + 1 < length l → set (set l at a) (at + 1) b ≡ laid_at at (a ∷ b ∷ []) l
-laid_two at a b l h =
-    let first = laid_set at a l (omega arith) in
-    let n = length_laid at (a ∷ []) l (omega arith) in
-    rw first (laid_set (at + 1) b (laid_at at (a ∷ []) l) (rw n h) ∙ laid_then at (at + 1) (a ∷ []) (b ∷ []) l refl (omega arith))
-
-pub laid_more : (at m k : ℕ) (ls : List (List ℕ)) (l : List ℕ) → k < length ls → m ≡ at + length (flatten (take k ls))
-    → m + length (get_or ls k []) ≤ length l
-    → laid_at m (get_or ls k []) (laid_at at (flatten (take k ls)) l) ≡ laid_at at (flatten (take (k + 1) ls)) l
-laid_more at m k ls l h e r = rw (add-one, flat_more ls k h) (laid_then at m (flatten (take k ls)) (get_or ls k []) l e r)
+laid_two at a b l h = grind (arith, common_steps, laid_set, length_laid, laid_then)

@@ -1,11 +1,10 @@
 -- A rule applied to every element. Assumes nothing.
-use mathlib.Core.Path.{◌≡◌, refl, sym, ap, ap₂, ◌∙◌}
+use mathlib.Core.Path.{◌≡◌, refl, sym, ap, ap₂}
 use mathlib.Core.List.{List, [], ◌∷◌, ◌++◌, map}
 use Prim.Native.Nat.{ℕ, zero, suc, ◌≤◌, ◌<◌}
 use native.Mathlib.Nat.{not-suc-le-zero, le_of_suc-le-suc}
 use native.Mathlib.Omega.{arith}
-use lib.ListN.{length, get_or, take, drop, length-map, get_or-map}
-use Rattle.lists.proofs.Places.{get_d_inside}
+use lib.ListN.{length, get_or, take, drop}
 
 module _ {A : Type 0} (f : A → A) (d : A) where
   -- it changes nothing
@@ -17,15 +16,6 @@ module _ {A : Type 0} (f : A → A) (d : A) where
 pub map_alike : {A B : Type 0} (f g : A → B) (d : A) (l : List A) → ((j : ℕ) → j < length l → f (get_or l j d) ≡ g (get_or l j d)) → map f l ≡ map g l
 map_alike f g d [] h = refl
 map_alike {B} f g d (x ∷ l) h = ap₂ (λ (y : B) (m : List B). y ∷ m) (h 0 (omega arith)) (map_alike f g d l (λ j s. h (suc j) (omega arith)))
-
--- an element of the list that it makes
-pub at_map : {A B : Type 0} (f : A → B) (l : List A) (k : ℕ) (d : A) (e : B) → k < length l → get_or (map f l) k e ≡ f (get_or l k d)
-at_map f l k d e h = get_d_inside (map f l) k e (f d) (rw (length-map l f) h) ∙ get_or-map f l k d
-
-pub take-map : {A B : Type 0} (f : A → B) (n : ℕ) (l : List A) → take n (map f l) ≡ map f (take n l)
-take-map f zero l = refl
-take-map f (suc n) [] = refl
-take-map {B} f (suc n) (x ∷ l) = ap (λ (m : List B). f x ∷ m) (take-map f n l)
 
 -- A list of which the first elements are turned: the seam may go on over elements that would not change.
 pub seam_on : {A : Type 0} (f : A → A) (d : A) (l : List A) (a b : ℕ) → a ≤ b → b ≤ length l → ((k : ℕ) → a ≤ k → k < b → f (get_or l k d) ≡ get_or l k d)

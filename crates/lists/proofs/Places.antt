@@ -1,18 +1,11 @@
 -- Lists that are changed place by place. Assumes nothing.
-use mathlib.Core.Path.{◌≡◌, refl, sym, ap, ◌∙◌}
+use mathlib.Core.Path.{◌≡◌, refl, ap}
 use mathlib.Core.List.{List, [], ◌∷◌, ◌++◌}
-use Prim.Native.Nat.{ℕ, zero, suc, ◌-◌, ◌≤◌, ◌<◌}
-use native.Mathlib.Nat.{le_of_suc-le-suc, not-suc-le-zero, sub-zero, zero-sub, suc-sub-suc}
-use native.Mathlib.Omega.{arith}
-use lib.ListN.{length, get_or, take, drop, set, replicate, length-drop}
-use lib.Seq.{take_all}
+use Prim.Native.Nat.{ℕ, zero, suc, ◌≤◌, ◌<◌}
+use native.Mathlib.Nat.{le_of_suc-le-suc, not-suc-le-zero}
+use lib.ListN.{length, get_or, take, drop, set}
 
 module _ {A : Type 0} where
-  pub get_d_inside : (l : List A) (k : ℕ) (d e : A) → k < length l → get_or l k d ≡ get_or l k e
-  get_d_inside [] k d e h = absurd (not-suc-le-zero h)
-  get_d_inside (x ∷ l) zero d e h = refl
-  get_d_inside (x ∷ l) (suc k) d e h = get_d_inside l k d e (le_of_suc-le-suc h)
-
   -- the first j elements are those of src, the rest those of dst: one more is copied
   pub store : (src dst : List A) (j : ℕ) (d : A) → j < length src → j < length dst
       → set (take j src ++ drop j dst) j (get_or src j d) ≡ take (suc j) src ++ drop (suc j) dst
@@ -29,20 +22,3 @@ module _ {A : Type 0} where
   from_seam (x ∷ src) [] (suc k) j d h m l = absurd (not-suc-le-zero m)
   from_seam (x ∷ src) (y ∷ dst) (suc k) zero d h m l = absurd (not-suc-le-zero l)
   from_seam (x ∷ src) (y ∷ dst) (suc k) (suc j) d h m l = from_seam src dst k j d (le_of_suc-le-suc h) (le_of_suc-le-suc m) (le_of_suc-le-suc l)
-
-  -- where one element is gone, the later ones stand one place further up
-  pub moved_up : (l : List A) (k j : ℕ) (d : A) → k ≤ j → get_or (take k l ++ drop (suc k) l) j d ≡ get_or l (suc j) d
-  moved_up [] zero j d h = refl
-  moved_up [] (suc k) j d h = refl
-  moved_up (x ∷ l) zero j d h = refl
-  moved_up (x ∷ l) (suc k) zero d h = absurd (not-suc-le-zero h)
-  moved_up (x ∷ l) (suc k) (suc j) d h = moved_up l k j d (le_of_suc-le-suc h)
-
-  -- all elements but the first
-  pub rest : (l : List A) → take (length l - 1) (drop 1 l) ≡ drop 1 l
-  rest l = take_all (length l - 1) (drop 1 l) (simp length-drop (omega arith))
-
-  pub drop-replicate : (n m : ℕ) (a : A) → drop n (replicate m a) ≡ replicate (m - n) a
-  drop-replicate zero m a = ap (λ (k : ℕ). replicate k a) (sym (sub-zero m))
-  drop-replicate (suc n) zero a = ap (λ (k : ℕ). replicate k a) (sym (zero-sub (suc n)))
-  drop-replicate (suc n) (suc m) a = drop-replicate n m a ∙ ap (λ (k : ℕ). replicate k a) (sym (suc-sub-suc m n))

@@ -1,6 +1,6 @@
 -- Bytes compared. Assumes nothing.
 use mathlib.Core.Path.{◌≡◌, refl, ap₂}
-use mathlib.Core.Bool.{Bool, true, false, false≢true, and-true, and-false}
+use mathlib.Core.Bool.{true, false, false≢true, and-true, and-false}
 use mathlib.Core.List.{List, [], ◌∷◌}
 use Prim.Native.Nat.{ℕ, ◌<◌}
 use native.Mathlib.Nat.{not-suc-le-zero}
@@ -10,6 +10,8 @@ use lib.ListN.{length, get_or, take}
 use lib.Pointwise.{pointwise}
 use Rattle.lists.specs.Lists.{same}
 use Rattle.lists.proofs.Both.{both}
+use Rattle.std.proofs.Common.{arith}
+use Rattle.std.proofs.lemmas.Grind.{common_steps}
 
 pub same_is : (a b : List ℕ) → same a b ≡ true → a ≡ b
 unfolding same
@@ -32,11 +34,7 @@ eq_same (x ∷ a) [] = refl
 eq_same (x ∷ a) (y ∷ b) = rw (eq_same a b)
 
 pub not_same : (a b : List ℕ) → (a ≡ b → ⊥) → same a b ≡ false
-not_same a b ne = go (same a b) refl
-  where
-    go : (t : Bool) → same a b ≡ t → t ≡ false
-    go true e = absurd (ne (same_is a b e))
-    go false e = refl
+not_same a b ne = grind (arith, common_steps, same_is)
 
 -- with one byte: the first of them, or another number of bytes
 pub same_first : (l : List ℕ) (v : ℕ) → 0 < length l → same (take 1 l) (v ∷ []) ≡ eqb (get_or l 0 0) v

@@ -15,7 +15,7 @@ use panels::{Panel, Table};
 use profiles::Video;
 use requests::Request;
 use sample::{Answer, Shown};
-use settings::{Profile, TILING_ROW};
+use settings::{Profile, Row};
 use std::io;
 use tiling::Kind;
 
@@ -81,40 +81,28 @@ fn set_place(rt: &impl Print, t: Table, position: u8, height: u8, width: u8) -> 
         model,
         id: MonitorId(2),
         group: GroupId(0),
-        code: settings::set_code(TILING_ROW),
+        code: Row::TILING.set_code(),
         values: [1, 0, position, byte, 0, 0, 0],
-        count: settings::byte_count(TILING_ROW),
+        count: Row::TILING.byte_count(),
     };
     send_request(rt, t, request)
 }
 
-fn print_tint(rt: &impl Print, tint: i8) -> io::Result<()> {
-    println!(rt; "panel 2: tint {tint}")
-}
-
+// Panel 2's tint.
 fn show_tint(rt: &impl Print, p: Panel) -> io::Result<()> {
     if let Some(video) = panels::video_of(p) {
-        print_tint(rt, video.tint)?;
+        println!(rt; "panel 2: tint {}", video.tint)?;
     }
     Ok(())
 }
 
-fn wide(x: u8) -> u64
-    ensures { (result ≡ x) × (result < 256) }
-{
-    x as u64
-}
-
 // The column and the row of a position in a wall of this width.
 fn print_place(rt: &impl Print, position: u8, width: u8) -> io::Result<()> {
-    if position == 0 {
+    if position == 0 || width == 0 {
         return Ok(());
     }
-    if width == 0 {
-        return Ok(());
-    }
-    let before = wide(position) - 1;
-    let w = wide(width);
+    let before = u64::from(position) - 1;
+    let w = u64::from(width);
     println!(rt;
         "panel 2: column {}, row {}",
         before % w + 1,
@@ -122,9 +110,11 @@ fn print_place(rt: &impl Print, position: u8, width: u8) -> io::Result<()> {
     )
 }
 
+// Panel 2's place in the wall.
+#[tactic(auto, using(crate::proofs::Places::third))]
 fn show_place(rt: &impl Print, p: Panel) -> io::Result<()> {
     let values = p.values;
-    let first = settings::place_of(TILING_ROW);
+    let first = Row::TILING.place();
     if let Some(wall) = tiling::size_in(Kind::FifteenByTen, values[first + 3]) {
         print_place(rt, values[first + 2], wall.width)?;
     }

@@ -1,11 +1,11 @@
 // What a panel may hold, by its profile and its kind.
 #![tactic(auto)]
 
-ghost use Rattle.std.specs.Prelude.{◌≡◌, ◌<◌, length};
-ghost use Rattle.settings.specs.Settings.{row_count, value_count};
+ghost use Rattle.std.specs.Prelude.{◌≡◌, length};
+ghost use Rattle.settings.specs.Settings.{value_count};
 ghost use Rattle.models.specs.Models.{kind_for, model_in, allowed_for, filled};
 
-use settings::{KIND_ROW, Profile, TILING_ROW};
+use settings::{Profile, Row};
 use tiling::Kind;
 
 // What a panel's ranges go by.
@@ -27,17 +27,16 @@ pub fn model_in(profile: Profile, values: &[u8]) -> Model
     requires { length values.now ≡ value_count }
     ensures { result ≡ model_in profile values.now }
 {
-    let kind = kind_for(values[settings::place_of(KIND_ROW)]);
+    let kind = kind_for(values[Row::KIND.place()]);
     Model { profile, kind }
 }
 
 // Whether these bytes may be held in a row of a panel of this model: in the row's ranges, and a tiling in a wall of the kind.
-pub fn allowed(model: Model, row: usize, values: &[u8]) -> bool
-    requires { row < row_count }
+pub fn allowed(model: Model, row: Row, values: &[u8]) -> bool
     ensures { result ≡ allowed_for model row values.now }
 {
     let profile = model.profile;
-    if row != TILING_ROW {
+    if row != Row::TILING {
         return settings::in_ranges(profile, row, values);
     }
     let kind = model.kind;
@@ -48,10 +47,10 @@ pub fn allowed(model: Model, row: usize, values: &[u8]) -> bool
 }
 
 // The values of a set, in which the byte of a wall stands where a tiling has 0, which means don't care.
-pub fn fill(row: usize, wall: u8, vs: &mut [u8])
+pub fn fill(row: Row, wall: u8, vs: &mut [u8])
     ensures { vs.new ≡ filled row wall vs.old }
 {
-    if row != TILING_ROW {
+    if row != Row::TILING {
         return;
     }
     if vs.len() < 4 {

@@ -2,11 +2,11 @@
 // whole burst is its own front.
 ghost use Rattle.std.specs.Prelude.{◌≡◌, ℕ, ◌<◌, ◌≤◌, get_or, IsNone};
 ghost use Rattle.packet.specs.Edition.{group_on};
-ghost use Rattle.packet.specs.Packet.{shortest, damage_by, verdict_by, verdict_of, data_of};
+ghost use Rattle.packet.specs.Packet.{shortest, damage_by, verdict_by};
 ghost use Rattle.packet.specs.Front.{data_by, reading_by};
 ghost use Rattle.packet.specs.Reading.{seems_for, reading_in, reading_of};
 
-use crate::{Damage, Edition, GroupId, LONGEST, MonitorId, Reading, Verdict, editions};
+use crate::{Damage, Edition, GroupId, LONGEST, MonitorId, Reading, Verdict};
 
 // The byte at a place, 0 where there is none.
 fn byte_at(bytes: &[u8], k: usize) -> u8
@@ -19,7 +19,7 @@ fn byte_at(bytes: &[u8], k: usize) -> u8
 fn group_in(edition: Edition, front: &[u8]) -> u8
     ensures { result ≡ group_on edition (get_or front.now 2 0) }
 {
-    editions::group_on(edition, byte_at(front, 2))
+    edition.group_on(byte_at(front, 2))
 }
 
 // What is wrong with a burst that is not empty, by its first byte and the count of its bytes: the first damage that holds. The XOR of
@@ -29,7 +29,7 @@ fn damage_by<S: FnOnce() -> u8>(edition: Edition, first: u8, count: usize, sum: 
     ensures damage { (total : ℕ) → ((x : ℕ) → S.post sum x → x ≡ total) → result ≡ damage_by edition first count total }
     ensures least { IsNone result → shortest edition ≤ count }
 {
-    if count <= editions::head_size(edition) {
+    if count <= edition.head_size() {
         return Some(Damage::TooShort);
     }
     if LONGEST < count {
@@ -45,7 +45,7 @@ fn damage_by<S: FnOnce() -> u8>(edition: Edition, first: u8, count: usize, sum: 
 }
 
 // The verdict on a burst by its front, the count of its bytes and, where it matters, the XOR of all.
-fn verdict_with<S: FnOnce() -> u8>(edition: Edition, front: &[u8], count: usize, sum: S) -> Verdict
+fn verdict_by<S: FnOnce() -> u8>(edition: Edition, front: &[u8], count: usize, sum: S) -> Verdict
     requires { S.IsAlwaysCallable sum }
     ensures { (total : ℕ) → ((x : ℕ) → S.post sum x → x ≡ total) → result ≡ verdict_by edition front.now count total }
 {
@@ -58,43 +58,19 @@ fn verdict_with<S: FnOnce() -> u8>(edition: Edition, front: &[u8], count: usize,
     Verdict::Intact {
         id: MonitorId(byte_at(front, 1)),
         group: GroupId(group_in(edition, front)),
-        count: count - editions::head_size(edition) - 1,
+        count: count - edition.head_size() - 1,
     }
 }
 
-// The verdict on a burst by its front, which has at least its first three bytes where there are so many, the count of its bytes
-// and the XOR of all.
-pub fn verdict_by(edition: Edition, front: &[u8], count: usize, sum: u8) -> Verdict
-    ensures { result ≡ verdict_by edition front.now count sum }
-{
-    verdict_with(edition, front, count, || sum)
-}
-
-// The verdict on a whole burst.
-pub fn verdict_of(edition: Edition, burst: &[u8]) -> Verdict
-    ensures { result ≡ verdict_of edition burst.now }
-{
-    verdict_with(edition, burst, burst.len(), || xor::xor_all(burst))
-}
-
 // The data bytes of a burst with any verdict, as far as its first bytes have them.
-pub fn data_by(edition: Edition, front: &[u8], verdict: Verdict) -> &[u8]
+fn data_by(edition: Edition, front: &[u8], verdict: Verdict) -> &[u8]
     ensures { result.now ≡ data_by edition front.now verdict }
 {
     let Verdict::Intact { count, .. } = verdict else {
         return &[];
     };
-    let behind = front.get(editions::head_size(edition)..).unwrap_or(&[]);
+    let behind = front.get(edition.head_size()..).unwrap_or(&[]);
     &behind[..behind.len().min(count)]
-}
-
-// The data bytes of a burst whose verdict this is, from behind the head to the one before the checksum; none unless it is
-// intact.
-pub fn data_of(edition: Edition, burst: &[u8], verdict: Verdict) -> &[u8]
-    requires { verdict ≡ verdict_of edition burst.now }
-    ensures { result.now ≡ data_of edition burst.now }
-{
-    data_by(edition, burst, verdict)
 }
 
 // Whom a burst seems to be for, if it is damaged.
@@ -102,13 +78,14 @@ pub fn data_of(edition: Edition, burst: &[u8], verdict: Verdict) -> &[u8]
 pub fn seems_for(edition: Edition, burst: &[u8]) -> Option<MonitorId>
     ensures { result ≡ seems_for edition burst.now }
 {
-    let named = editions::head_size(edition) <= burst.len() && group_in(edition, burst) == 0;
+    let named = edition.head_size() <= burst.len() && group_in(edition, burst) == 0;
     named.then_some(MonitorId(byte_at(burst, 1)))
 }
 
-// What a burst says by its front, the count of its bytes and the XOR of all.
-pub fn read_by(edition: Edition, front: &[u8], count: usize, sum: u8) -> Reading<'_>
-    ensures { reading_in result ≡ reading_by edition front.now count sum }
+// What a burst says by its front, the count of its bytes and, where it matters, the XOR of all.
+fn read_with<S: FnOnce() -> u8>(edition: Edition, front: &[u8], count: usize, sum: S) -> Reading<'_>
+    requires { S.IsAlwaysCallable sum }
+    ensures { (total : ℕ) → ((x : ℕ) → S.post sum x → x ≡ total) → reading_in result ≡ reading_by edition front.now count total }
 {
     let verdict = verdict_by(edition, front, count, sum);
     let data = data_by(edition, front, verdict);
@@ -120,16 +97,17 @@ pub fn read_by(edition: Edition, front: &[u8], count: usize, sum: u8) -> Reading
     }
 }
 
+// What a burst says by its front, which has at least its first three bytes where there are so many, the count of its bytes and the
+// XOR of all.
+pub fn read_by(edition: Edition, front: &[u8], count: usize, sum: u8) -> Reading<'_>
+    ensures { reading_in result ≡ reading_by edition front.now count sum }
+{
+    read_with(edition, front, count, || sum)
+}
+
 // What a whole burst says.
 pub fn read(edition: Edition, burst: &[u8]) -> Reading<'_>
     ensures { reading_in result ≡ reading_of edition burst.now }
 {
-    let verdict = verdict_of(edition, burst);
-    let data = data_of(edition, burst, verdict);
-    let seems = seems_for(edition, burst);
-    Reading {
-        verdict,
-        data,
-        seems,
-    }
+    read_with(edition, burst, burst.len(), || xor::xor_all(burst))
 }

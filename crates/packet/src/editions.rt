@@ -54,29 +54,31 @@ impl From<UnknownEdition> for u8 {
     }
 }
 
-// The group of a packet whose third byte this is.
-pub(crate) fn group_on(edition: Edition, third: u8) -> u8
-    ensures { result ≡ group_on edition third }
-{
-    match edition {
-        Edition::Sicp185 => 0,
-        Edition::Sicp201 => third,
+impl Edition {
+    // The group of a packet whose third byte this is.
+    pub(crate) fn group_on(self, third: u8) -> u8
+        ensures { result ≡ group_on self third }
+    {
+        match self {
+            Edition::Sicp185 => 0,
+            Edition::Sicp201 => third,
+        }
     }
-}
 
-// Whether a packet can say this group.
-pub fn carries(edition: Edition, group: GroupId) -> bool
-    ensures { result ≡ carries edition group }
-{
-    group_on(edition, group.0) == group.0
-}
+    // Whether a packet can say this group.
+    pub fn carries(self, group: GroupId) -> bool
+        ensures { result ≡ carries self group }
+    {
+        self.group_on(group.0) == group.0
+    }
 
-// The bytes before the data.
-pub(crate) fn head_size(edition: Edition) -> usize
-    ensures { result ≡ head_size edition }
-{
-    match edition {
-        Edition::Sicp185 => 2,
-        Edition::Sicp201 => HEAD_201,
+    // The bytes before the data.
+    pub(crate) fn head_size(self) -> usize
+        ensures { result ≡ head_size self }
+    {
+        match self {
+            Edition::Sicp185 => 2,
+            Edition::Sicp201 => HEAD_201,
+        }
     }
 }

@@ -3,14 +3,15 @@
 
 mod by_front;
 mod editions;
+mod words;
 
 ghost use Rattle.std.specs.Prelude.{◌≡◌, Some};
 ghost use Rattle.packet.specs.Control.{control_byte};
 ghost use Rattle.packet.specs.Answered.{is_heard};
 ghost use Rattle.packet.specs.Packet.{damage_number, damage_in, written_of, output_of};
 
-pub use by_front::{data_by, data_of, read, read_by, seems_for, verdict_by, verdict_of};
-pub use editions::{HEAD_201, SICP_201, UnknownEdition, carries};
+pub use by_front::{read, read_by, seems_for};
+pub use editions::{HEAD_201, SICP_201, UnknownEdition};
 
 // The bytes of the longest packet.
 pub const LONGEST: usize = 40;
@@ -113,13 +114,15 @@ pub fn damage_number(damage: Option<Damage>) -> u8
     damage.map_or(0, u8::from)
 }
 
-// What is wrong with a burst that has this verdict.
-pub fn damage_in(verdict: Verdict) -> Option<Damage>
-    ensures { result ≡ damage_in verdict }
-{
-    match verdict {
-        Verdict::Damaged(damage) => Some(damage),
-        Verdict::Empty | Verdict::Intact { .. } => None,
+impl Verdict {
+    // What is wrong with a burst that has this verdict.
+    pub fn damage(self) -> Option<Damage>
+        ensures { result ≡ damage_in self }
+    {
+        match self {
+            Verdict::Damaged(damage) => Some(damage),
+            Verdict::Empty | Verdict::Intact { .. } => None,
+        }
     }
 }
 
@@ -138,13 +141,13 @@ pub fn write_packet(
     if out.len() < LONGEST {
         return Err(WriteError::NoRoom);
     }
-    let head = editions::head_size(edition);
+    let head = edition.head_size();
     let n = d.len();
     if LONGEST - head <= n {
         return Err(WriteError::TooLong);
     }
     let size = (n + head + 1) as u8;
-    let third = editions::group_on(edition, group.0);
+    let third = edition.group_on(group.0);
     out[0] = size;
     out[1] = id.0;
     out[2] = third;

@@ -9,14 +9,13 @@ use borrow.Author.Tests.{eqb-true, eqb-false}
 use lib.Dec.{eqb}
 use lib.ListN.{length, get_or, take, drop, set, replicate, length-append, length-take, length-replicate, length-map, get_or-replicate}
 use lib.Seq.{length-take-le, take-append_seam, drop-append_seam, get_or-take, set-append_seam, append_snoc}
+use Rattle.std.proofs.lemmas.List.{get_or_default, take-map}
 use Rattle.std.specs.Prelude.{Option, Some, None}
 use Rattle.packet.specs.declared.MonitorId.{MonitorId}
 use Rattle.panels.specs.declared.Panel.{Panel}
 use Rattle.panels.specs.declared.Table.{Table}
 use Rattle.panels.specs.Wall.{Wall, blank, in_places, table_of, panels_of, place_from, most_panels}
 use Rattle.panels.specs.WellFormed.{WellFormed}
-use Rattle.lists.proofs.Places.{get_d_inside}
-use Rattle.lists.proofs.Mapped.{take-map}
 
 -- A wall in its places. They begin with it, and are as many as a table has.
 taken : (w : Wall) → take (length w) (in_places w) ≡ w
@@ -89,7 +88,7 @@ count_is f = ap (λ (t : Table). t.count) f.held
 
 -- of the first of some places each has its panel
 pub in_first : (l : List Panel) (n k : ℕ) (d : Panel) → length (take n l) ≡ n → k < n → get_or l k d ≡ get_or (take n l) k blank
-in_first l n k d m h = sym (get_or-take n l k d h) ∙ get_d_inside (take n l) k d blank (omega arith)
+in_first l n k d m h = sym (get_or-take n l k d h) ∙ get_or_default (take n l) k d blank (omega arith)
 
 -- a place below the count is the wall's
 pub in_wall_lem : {t : Table} → WellFormed t → (k : ℕ) (d : Panel) → k < t.count → get_or t.panels k d ≡ get_or (panels_of t) k blank

@@ -5,7 +5,7 @@ ghost use Rattle.qx.specs.Asked.{is_carried, picture_of, asked_by, asked_of, cod
 use crate::Asked;
 use packet::Edition;
 use requests::Request;
-use settings::{MOST_VALUES, POWER_ROW, Profile, VIDEO_ROW};
+use settings::{MOST_VALUES, Profile, Row};
 
 pub(crate) const POWER_GET: u8 = 0x19;
 
@@ -45,13 +45,13 @@ fn asked_by(request: Request) -> Option<Asked>
 {
     let code = request.code;
     let values = request.values;
-    if code == settings::get_code(POWER_ROW) {
+    if code == Row::POWER.get_code() {
         return Some(Asked::GetPower);
     }
-    if code == settings::set_code(POWER_ROW) {
+    if code == Row::POWER.set_code() {
         return Some(Asked::SetPower(values[0]));
     }
-    if code == settings::set_code(VIDEO_ROW) {
+    if code == Row::VIDEO.set_code() {
         let model = request.model;
         let profile = model.profile;
         return picture_of(profile, values);

@@ -13,10 +13,9 @@ pub const UNKNOWN_EDITION: u8 = 23;
 // Form 1 would lose something.
 pub const WOULD_LOSE: u8 = 31;
 
-// Why an image was refused, if it was: as a whole, or for a record, a field or a value.
-#[derive(Clone, Copy)]
+// Why an image was refused: as a whole, or for a record, a field or a value.
+#[derive(Clone, Copy, Debug, PartialEq, Eq)]
 pub enum Refusal {
-    Nothing,
     TooShort,
     OtherForm,
     TooMany,
@@ -27,19 +26,20 @@ pub enum Refusal {
     Value,
 }
 
-// 01's number for a refusal, 0 where there was none.
-pub fn refusal_number(r: Refusal) -> u8
-    ensures { result ≡ refusal_number r }
-{
-    match r {
-        Refusal::Nothing => 0,
-        Refusal::TooShort => 11,
-        Refusal::OtherForm => 12,
-        Refusal::TooMany => 13,
-        Refusal::NoStarts => 14,
-        Refusal::Starts => 15,
-        Refusal::Record => 16,
-        Refusal::Field => 17,
-        Refusal::Value => 18,
+// 01's number for a refusal.
+impl From<Refusal> for u8 {
+    ghost from_gives = { λ r n. n ≡ refusal_number r };
+
+    fn from(r: Refusal) -> u8 {
+        match r {
+            Refusal::TooShort => 11,
+            Refusal::OtherForm => 12,
+            Refusal::TooMany => 13,
+            Refusal::NoStarts => 14,
+            Refusal::Starts => 15,
+            Refusal::Record => 16,
+            Refusal::Field => 17,
+            Refusal::Value => 18,
+        }
     }
 }

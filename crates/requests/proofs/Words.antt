@@ -11,7 +11,8 @@ use Rattle.models.specs.declared.Model.{Model}
 use Rattle.settings.specs.Settings.{get_code, row_count, most_values}
 use Rattle.codes.specs.Found.{found_by}
 use Rattle.models.specs.Models.{allowed_for}
-use Rattle.codes.specs.declared.Found.{Found}
+use Rattle.std.proofs.Common.{Option, Some, None}
+use Rattle.codes.specs.declared.Code.{Code}
 use Rattle.lists.proofs.Both.{both}
 use Rattle.settings.proofs.Laws.{byte-count-few}
 use Rattle.codes.proofs.Laws.{IsFound, found_right}
@@ -26,7 +27,7 @@ unfolding is_report
 report_some model k [] h = absurd (omega arith)
 report_some model k (c ∷ values) h = refl
 
-pub word_found : (model : Model) (code : ℕ) (d : List ℕ) (f : Found)
+pub word_found : (model : Model) (code : ℕ) (d : List ℕ) (f : Option Code)
     → is_control Control.Nack d ≡ false → is_control Control.Nav d ≡ false → found_by code ≡ f → word_in model code d ≡ ended_by model f d
 unfolding word_in
 word_found model code d f nack nav e = rw (nack, nav, e)
@@ -61,7 +62,7 @@ report_length model code d e =
     no_ack true e = let z : ◌≡◌ {A = ℕ} 0 1 = cc in omega arith
     no_ack false e = let z : ◌≡◌ {A = ℕ} 0 1 = cc in omega arith
 
-    by_found : (f : Found) → IsFound code f → ended_by model f d ≡ Some Said.Report → Fits d
-    by_found (Found.Set row) h e = absurd (no_ack (is_control Control.Ack d) e)
-    by_found (Found.Get row) h e = report_fits model row d h.0 (only_report (is_report model row d) e)
-    by_found Found.Nothing h e = let z : ◌≡◌ {A = ℕ} 0 1 = cc in absurd (omega arith)
+    by_found : (f : Option Code) → IsFound code f → ended_by model f d ≡ Some Said.Report → Fits d
+    by_found (Some (Code.Set row)) h e = absurd (no_ack (is_control Control.Ack d) e)
+    by_found (Some (Code.Get row)) h e = report_fits model row d h.0 (only_report (is_report model row d) e)
+    by_found None h e = let z : ◌≡◌ {A = ℕ} 0 1 = cc in absurd (omega arith)

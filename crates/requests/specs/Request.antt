@@ -11,7 +11,8 @@ use Rattle.models.specs.Models.{allowed_for, filled}
 use Rattle.models.specs.declared.Model.{Model}
 use Rattle.profiles.specs.declared.Video.{Video}
 use Rattle.profiles.specs.Video.{bytes_of}
-use Rattle.codes.specs.declared.Found.{Found}
+use Rattle.std.specs.Prelude.{Option, Some, None}
+use Rattle.codes.specs.declared.Code.{Code}
 use Rattle.packet.specs.declared.Edition.{Edition}
 use Rattle.packet.specs.declared.MonitorId.{MonitorId}
 use Rattle.packet.specs.declared.GroupId.{GroupId}
@@ -44,10 +45,10 @@ abbrev pub may_set : Model → ℕ → List ℕ → Bool
 may_set model row vs = allowed_for model row (filled row (largest model.kind) vs)
 
 -- a set to a group 0 to 254 with allowed values; a get, which has no values, where an answer is due
-unfoldable pub is_taken : Request → Found → Bool
-is_taken r (Found.Set row) = not (eqb r.group.0 255) && may_set r.model row (values_of r)
-is_taken r (Found.Get row) = eqb r.count 0 && is_heard r.id r.group
-is_taken r Found.Nothing = false
+unfoldable pub is_taken : Request → Option Code → Bool
+is_taken r (Some (Code.Set row)) = not (eqb r.group.0 255) && may_set r.model row (values_of r)
+is_taken r (Some (Code.Get row)) = eqb r.count 0 && is_heard r.id r.group
+is_taken r None = false
 
 -- a request from the table: no more values than any row has, a group that the line's packets can say, and one of these two
 unfoldable pub is_request : Edition → Request → Bool

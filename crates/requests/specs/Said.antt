@@ -6,7 +6,8 @@ use Rattle.models.specs.declared.Model.{Model}
 use Rattle.settings.specs.Settings.{get_code}
 use Rattle.codes.specs.Found.{found_by}
 use Rattle.models.specs.Models.{allowed_for}
-use Rattle.codes.specs.declared.Found.{Found}
+use Rattle.std.specs.Prelude.{Option, Some, None}
+use Rattle.codes.specs.declared.Code.{Code}
 use Rattle.packet.specs.Control.{control_data}
 use Rattle.packet.specs.declared.Control.{Control}
 use Rattle.requests.specs.declared.Said.{Said}
@@ -21,10 +22,10 @@ is_report model k [] = false
 is_report model k (c ∷ values) = eqb c (get_code k) && allowed_for model k values
 
 -- an ACK ends a set, a report a get
-unfoldable pub ended_by : Model → Found → List ℕ → Option Said
-ended_by model (Found.Set row) d = cond (is_control Control.Ack d) (Some Said.Ack) None
-ended_by model (Found.Get row) d = cond (is_report model row d) (Some Said.Report) None
-ended_by model Found.Nothing d = None
+unfoldable pub ended_by : Model → Option Code → List ℕ → Option Said
+ended_by model (Some (Code.Set row)) d = cond (is_control Control.Ack d) (Some Said.Ack) None
+ended_by model (Some (Code.Get row)) d = cond (is_report model row d) (Some Said.Report) None
+ended_by model None d = None
 
 -- what data says to a host that asked a panel of this model with this code
 unfoldable pub word_in : Model → ℕ → List ℕ → Option Said

@@ -1,17 +1,17 @@
 // A request of the host, its packet, and what data says in answer to it.
 #![tactic(auto)]
 
-ghost use Rattle.std.specs.Prelude.{◌≡◌, ◌≤◌, ◌<◌, min, ◌∷◌, take};
-ghost use Rattle.settings.specs.Settings.{row_count, most_values};
+ghost use Rattle.std.specs.Prelude.{◌≡◌, ◌≤◌, min, ◌∷◌, take};
+ghost use Rattle.settings.specs.Settings.{most_values};
 ghost use Rattle.packet.specs.Packet.{written_of, output_of};
 ghost use Rattle.requests.specs.Request.{is_request, request_data, may_set, video_request, is_power_off};
 ghost use Rattle.requests.specs.Said.{is_control, is_report, word_in};
 
-use codes::Found;
+use codes::Code;
 use models::Model;
 use packet::{Control, Edition, GroupId, MonitorId, WriteError};
 use profiles::Video;
-use settings::{MOST_VALUES, OFF, POWER_ROW, Profile, VIDEO_ROW};
+use settings::{MOST_VALUES, OFF, Profile, Row};
 use tiling::Kind;
 
 // A set with its values or a get, and the profile and kind of the panel that it is for, by the caller's word. The first count of the
@@ -36,8 +36,8 @@ pub enum Said {
 }
 
 // Whether the first count of these values may be set in a row; where a tiling leaves the wall open, in the kind's largest.
-fn may_set(model: Model, row: usize, v: [u8; MOST_VALUES], count: usize) -> bool
-    requires { (row < row_count) × (count ≤ most_values) }
+fn may_set(model: Model, row: Row, v: [u8; MOST_VALUES], count: usize) -> bool
+    requires { count ≤ most_values }
     ensures { result ≡ may_set model row (take count v) }
 {
     let kind = model.kind;
@@ -55,12 +55,15 @@ pub fn is_request(edition: Edition, request: Request) -> bool
         return false;
     }
     let group = request.group;
-    if !packet::carries(edition, group) {
+    if !edition.carries(group) {
         return false;
     }
     let found = codes::found_by(request.code);
-    match found {
-        Found::Set(row) => {
+    let Some(code) = found else {
+        return false;
+    };
+    match code {
+        Code::Set(row) => {
             if group.0 == 255 {
                 return false;
             }
@@ -68,13 +71,12 @@ pub fn is_request(edition: Edition, request: Request) -> bool
             let values = request.values;
             may_set(model, row, values, count)
         }
-        Found::Get(_) => {
+        Code::Get(_) => {
             if count != 0 {
                 return false;
             }
             packet::is_heard(request.id, group)
         }
-        Found::Nothing => false,
     }
 }
 
@@ -82,7 +84,7 @@ pub fn is_request(edition: Edition, request: Request) -> bool
 pub fn is_power_off(request: Request) -> bool
     ensures { result ≡ is_power_off request }
 {
-    if request.code != settings::set_code(POWER_ROW) {
+    if request.code != Row::POWER.set_code() {
         return false;
     }
     let values = request.values;
@@ -102,9 +104,9 @@ pub fn video_request(id: MonitorId, group: GroupId, video: Video) -> Request
         model,
         id,
         group,
-        code: settings::set_code(VIDEO_ROW),
+        code: Row::VIDEO.set_code(),
         values,
-        count: settings::byte_count(VIDEO_ROW),
+        count: Row::VIDEO.byte_count(),
     }
 }
 
@@ -141,14 +143,13 @@ fn is_control(d: &[u8], word: Control) -> bool
 }
 
 // Whether the data is a report of this row: its get code, and behind it values that it allows.
-fn is_report(model: Model, row: usize, d: &[u8]) -> bool
-    requires { row < row_count }
+fn is_report(model: Model, row: Row, d: &[u8]) -> bool
     ensures { result ≡ is_report model row d.now }
 {
     let [code, values @ ..] = d else {
         return false;
     };
-    *code == settings::get_code(row) && models::allowed(model, row, values)
+    *code == row.get_code() && models::allowed(model, row, values)
 }
 
 // What the data of a burst from the panel that was asked says: an ACK to a set, a report to a get, NACK or NAV to either.
@@ -162,9 +163,12 @@ pub fn word_in(model: Model, code: u8, d: &[u8]) -> Option<Said>
         return Some(Said::Nav);
     }
     let found = codes::found_by(code);
-    match found {
-        Found::Set(_) if is_control(d, Control::Ack) => Some(Said::Ack),
-        Found::Get(row) if is_report(model, row, d) => Some(Said::Report),
+    let Some(asked) = found else {
+        return None;
+    };
+    match asked {
+        Code::Set(_) if is_control(d, Control::Ack) => Some(Said::Ack),
+        Code::Get(row) if is_report(model, row, d) => Some(Said::Report),
         _ => None,
     }
 }

@@ -15,7 +15,7 @@ use std::fmt::Display;
 use std::fs::{File, OpenFile};
 use std::io::Write;
 use std::rt::{Env, Files};
-use std::{env, fs, io};
+use std::{env, fmt, fs, io};
 
 // The longest image that is taken, and room for one byte more, which tells that the input is longer.
 const LONGEST: usize = 4096;
@@ -25,37 +25,34 @@ const ROOM: usize = LONGEST + 1;
 // The longest name of a file that is taken.
 const LONGEST_NAME: usize = 4096;
 
-// A file's name; or none is given; or the arguments are not what the program takes.
-#[derive(Drop)]
-enum Name {
-    Given(String),
-    Missing,
-    Wrong,
+// The arguments are not what the program takes, which it prints.
+#[derive(Clone, Copy, Debug, PartialEq, Eq)]
+struct Usage;
+
+impl fmt::Display for Usage {
+    fn fmt<W: fmt::Write>(&self, f: &mut fmt::Formatter<W>) -> fmt::Result {
+        f.write_str("usage: salvage [FILE] < IMAGE\n")?;
+        f.write_str("The faults of the setup image go to standard output, ")?;
+        f.write_str("and what is kept goes to FILE, which must not exist.")
+    }
 }
 
-// What the program takes.
-fn print_usage(rt: &impl Eprint) -> io::Result<()> {
-    eprintln!(rt; "usage: salvage [FILE] < IMAGE")?;
-    eprint!(rt; "The faults of the setup image go to standard output, ")?;
-    eprintln!(rt; "and what is kept goes to FILE, which must not exist.")
-}
-
-// The name is the one argument behind the program's own.
-fn read_name(rt: &(impl Env + AllocGlobal)) -> io::Result<Name> {
+// The file's name, where one is given: the one argument behind the program's own.
+fn read_name(rt: &(impl Env + AllocGlobal)) -> io::Result<Result<Option<String>, Usage>> {
     let mut arguments = match env::args(rt) {
         Ok(arguments) => arguments,
         // One of them is not text, and a file's name is.
-        Err(error) if error.kind() == io::ErrorKind::InvalidData => return Ok(Name::Wrong),
+        Err(error) if error.kind() == io::ErrorKind::InvalidData => return Ok(Err(Usage)),
         Err(error) => return Err(error),
     };
     let _program = arguments.next();
     let Some(name) = arguments.next() else {
-        return Ok(Name::Missing);
+        return Ok(Ok(None));
     };
     if arguments.next().is_some() || LONGEST_NAME < name.len() {
-        return Ok(Name::Wrong);
+        return Ok(Err(Usage));
     }
-    Ok(Name::Given(name))
+    Ok(Ok(Some(name)))
 }
 
 // What the system says of an error, without the error's number, which stands behind it.
@@ -72,24 +69,12 @@ fn tell(rt: &(impl Eprint + AllocGlobal), what: &str, error: &io::Error) -> io::
     eprintln!(rt; "{what}: {}", reason(text.as_str()))
 }
 
-// Answers whether standard output took all that was written, and says why where it did not.
-fn is_printed(rt: &(impl Eprint + AllocGlobal), written: io::Result<()>) -> io::Result<bool> {
-    match written {
-        Ok(()) => Ok(true),
-        Err(error) => {
-            tell(rt, "standard output", &error)?;
-            Ok(false)
-        }
+// Tells on standard error where something failed, if it did.
+fn or_tell(rt: &(impl Eprint + AllocGlobal), what: &str, done: io::Result<()>) -> io::Result<()> {
+    match done {
+        Ok(()) => Ok(()),
+        Err(error) => tell(rt, what, &error),
     }
-}
-
-// The text of the lines, at the front of its room; answers whether standard output took it.
-fn print_lines(
-    rt: &(impl Print + Eprint + AllocGlobal),
-    lines: &[u8; LINES_CAP],
-    told: usize,
-) -> io::Result<bool> {
-    is_printed(rt, rt.write_all(text::front(lines, told)))
 }
 
 // A line of its own, as a refusal's number.
@@ -97,8 +82,7 @@ fn print_line(
     rt: &(impl Print + Eprint + AllocGlobal),
     line: impl Display + Drop,
 ) -> io::Result<()> {
-    is_printed(rt, rt.println(line))?;
-    Ok(())
+    or_tell(rt, "standard output", rt.println(line))
 }
 
 // The image of what was kept, at the front of out, which has room for any.
@@ -128,10 +112,7 @@ fn make_file(rt: &(impl Files + Eprint + AllocGlobal), path: &str, bytes: &[u8])
     let told = tell(rt, path, &error);
     let removed = fs::remove_file(rt, path);
     told?;
-    match removed {
-        Ok(()) => Ok(()),
-        Err(error) => tell(rt, path, &error),
-    }
+    or_tell(rt, path, removed)
 }
 
 // Keeps a table in a new file.
@@ -147,31 +128,29 @@ fn keep(rt: &(impl Files + Eprint + AllocGlobal), t: Table, path: &str) -> io::R
 fn salvage(
     rt: &(impl Files + Print + Eprint + AllocGlobal),
     image: &[u8],
-    name: Name,
+    name: Option<String>,
 ) -> io::Result<()> {
     let mut lines = [0u8; LINES_CAP];
-    let salvaged = image_salvage::salvage(image, &mut lines);
-    let refusal = salvaged.refusal;
-    let number = refusals::refusal_number(refusal);
-    if number != 0 {
-        return print_line(rt, number);
-    }
-    if !print_lines(rt, &lines, salvaged.told)? {
-        return Ok(());
+    let salvaged = match image_salvage::salvage(image, &mut lines) {
+        Ok(salvaged) => salvaged,
+        Err(refusal) => return print_line(rt, u8::from(refusal)),
+    };
+    if let Err(error) = rt.write_all(text::front(&lines, salvaged.told)) {
+        return tell(rt, "standard output", &error);
     }
     let table = salvaged.table;
     match name {
-        Name::Given(path) => keep(rt, table, path.as_str()),
-        _ => Ok(()),
+        Some(path) => keep(rt, table, path.as_str()),
+        None => Ok(()),
     }
 }
 
 // The arguments are judged before anything is read. A part of an image that could not be read whole is never taken for one.
 fn run(rt: &(impl Files + Env + Input + Print + Eprint + AllocGlobal)) -> io::Result<()> {
-    let name = read_name(rt)?;
-    if let Name::Wrong = &name {
-        return print_usage(rt);
-    }
+    let name = match read_name(rt)? {
+        Ok(name) => name,
+        Err(usage) => return eprintln!(rt; "{usage}"),
+    };
     let mut image = [0u8; ROOM];
     let mut reader = rt.reader();
     match text::read_full(&mut reader, &mut image) {

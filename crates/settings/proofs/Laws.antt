@@ -1,12 +1,15 @@
 -- What callers cite of the settings. Assumes nothing.
 use mathlib.Core.Path.{◌≡◌, refl, sym, ap, ◌∙◌}
-use mathlib.Core.Bool.{Bool, true, false, cond, false≢true, and-false, ◌&&◌, ◌||◌}
+use mathlib.Core.Bool.{Bool, true, false, cond, not, false≢true, and-false, ◌&&◌, ◌||◌}
 use mathlib.Core.List.{List, [], ◌∷◌, flatten}
 use Prim.Native.Nat.{ℕ, suc, ◌+◌, ◌-◌, ◌≤◌, ◌<◌}
 use native.Mathlib.Numerals.{add-one}
 use native.Mathlib.Omega.{arith}
-use borrow.Author.Tests.{leb-true, ltb-true, ne_eqb}
+use borrow.Author.Tests.{leb-true, ltb-true, ne_eqb, eqb-true}
 use lib.Dec.{eqb, leb, ltb}
+use mathlib.Core.Logic.{◌⊎◌, inl, inr}
+use Rattle.std.proofs.lemmas.Bool.{cases_lt, eqb-false}
+use Rattle.std.proofs.lemmas.List.{get_or_past}
 use lib.ListN.{length, get_or, drop, get_or-map}
 use lib.Seq.{drop-cons, drop-length, get_or-drop, get_or-take}
 use Rattle.settings.specs.declared.Profile.{Profile}
@@ -20,6 +23,27 @@ use Rattle.lists.proofs.Flat.{in_flat, flat_fits, flat_apart}
 -- what stands past the last row
 abbrev pub no_setting : Setting
 no_setting = row 0 0 [] []
+
+-- What `==` and `!=` of two rows say.
+pub eq_same : {b : Bool} {j k : ℕ} → b ≡ eqb j k → b ≡ true → j ≡ k
+eq_same {j = j} {k = k} e t = eqb-true j k (sym e ∙ t)
+
+pub eq_other : {b : Bool} {j k : ℕ} → b ≡ eqb j k → b ≡ false → j ≡ k → ⊥
+eq_other {j = j} {k = k} e f = eqb-false j k (sym e ∙ f)
+
+pub ne_same : {b : Bool} {j k : ℕ} → b ≡ not (eqb j k) → b ≡ false → j ≡ k
+ne_same {j = j} {k = k} e f = go (eqb j k) refl (sym e ∙ f)
+  where
+    go : (t : Bool) → eqb j k ≡ t → not t ≡ false → j ≡ k
+    go true is n = eqb-true j k is
+    go false is n = absurd (false≢true (sym n))
+
+pub ne_other : {b : Bool} {j k : ℕ} → b ≡ not (eqb j k) → b ≡ true → j ≡ k → ⊥
+ne_other {j = j} {k = k} e t = go (eqb j k) refl (sym e ∙ t)
+  where
+    go : (t : Bool) → eqb j k ≡ t → not t ≡ true → j ≡ k → ⊥
+    go true is n = absurd (false≢true n)
+    go false is n = eqb-false j k is
 
 -- Set codes rise with the rows.
 pub codes_rise : {row : ℕ} → suc row < row_count → set_code row < set_code (suc row)
@@ -96,11 +120,15 @@ unfolding settings allowed_by_row allowed_values flatten
 first_and_more h = alike ranges_of (λ p. first_range p ∷ drop 1 (ranges_of p)) value_count refl h
 
 -- But for the video, a Phoenix panel's rows are a general panel's.
-pub all_else : {row : ℕ} → row < row_count → (row ≡ video_row → ⊥) → (setting row).allowed Profile.Phoenix ≡ (setting row).allowed Profile.General
+pub all_else : (row : ℕ) → (row ≡ video_row → ⊥) → (setting row).allowed Profile.Phoenix ≡ (setting row).allowed Profile.General
 unfolding settings
-all_else {row} h ne =
-    rw (ne_eqb row video_row ne) at
-    (alike (λ k. cond (eqb k video_row) [] ((setting k).allowed Profile.Phoenix)) (λ k. cond (eqb k video_row) [] ((setting k).allowed Profile.General)) row_count refl h)
+all_else row ne = go (cases_lt row row_count)
+  where
+    go : (row < row_count) ⊎ (row_count ≤ row) → (setting row).allowed Profile.Phoenix ≡ (setting row).allowed Profile.General
+    go (inl h) =
+        rw (ne_eqb row video_row ne) at
+        (alike (λ k. cond (eqb k video_row) [] ((setting k).allowed Profile.Phoenix)) (λ k. cond (eqb k video_row) [] ((setting k).allowed Profile.General)) row_count refl h)
+    go (inr h) = rw (get_or_past settings row no_setting h) refl
 
 -- Values are allowed only where there are as many as the row has.
 other-count : (rs : List (List Range)) (vs : List ℕ) → (length vs ≡ length rs → ⊥) → all_allowed rs vs ≡ false

@@ -4,33 +4,14 @@
 mod by_number;
 mod numbers;
 mod ranges;
+mod rows;
 
-ghost use Rattle.std.specs.Prelude.{◌≡◌, ◌<◌, length};
-ghost use Rattle.settings.specs.Settings.{set_code, get_code, byte_count, place, fresh_values, values_with, row_count, value_count};
+ghost use Rattle.std.specs.Prelude.{◌≡◌};
+ghost use Rattle.settings.specs.Settings.{fresh_values};
 
 pub use by_number::UnknownProfile;
 pub use ranges::in_ranges;
-
-// The rows of the kind and of the settings, by rising code.
-pub const KIND_ROW: usize = 0;
-
-pub const POWER_ROW: usize = 1;
-
-pub const TILING_ROW: usize = 2;
-
-pub const VIDEO_ROW: usize = 3;
-
-pub const COLOUR_TEMPERATURE_ROW: usize = 4;
-
-pub const AUDIO_ROW: usize = 5;
-
-pub const FAN_ROW: usize = 6;
-
-pub const COLD_START_ROW: usize = 7;
-
-pub const APM_ROW: usize = 8;
-
-pub const POWER_SAVING_ROW: usize = 9;
+pub use rows::Row;
 
 // How many rows there are: the kind's and those of the settings.
 pub const ROW_COUNT: usize = 10;
@@ -97,72 +78,6 @@ struct Table {
     phoenix: Video,
 }
 
-fn codes_at(k: usize) -> Codes
-    requires { k < row_count }
-    ensures { (result.0 ≡ set_code k) × (result.1 ≡ get_code k) }
-{
-    let codes = numbers::the_table().codes;
-    codes[k]
-}
-
-fn values_at(k: usize) -> Values
-    requires { k < row_count }
-    ensures { (result.0 ≡ byte_count k) × (result.1 ≡ place k) }
-{
-    let values = numbers::the_table().values;
-    values[k]
-}
-
-// A row's set code, with which its field in a setup image begins.
-pub fn set_code(row: usize) -> u8
-    requires { row < row_count }
-    ensures { result ≡ set_code row }
-{
-    codes_at(row).0
-}
-
-// A row's get code, with which its report begins.
-pub fn get_code(row: usize) -> u8
-    requires { row < row_count }
-    ensures { result ≡ get_code row }
-{
-    codes_at(row).1
-}
-
-// How many value bytes a row has.
-pub fn byte_count(row: usize) -> usize
-    requires { row < row_count }
-    ensures { result ≡ byte_count row }
-{
-    values_at(row).0 as usize
-}
-
-// The place of a row's first value among a panel's.
-pub fn place_of(row: usize) -> usize
-    requires { row < row_count }
-    ensures { result ≡ place row }
-{
-    values_at(row).1 as usize
-}
-
-// A row's values stored at their place among a panel's. Most rows have one, for which a copy is long-winded; that of the longest
-// row is short where its length is known.
-pub fn store(row: usize, vs: &[u8], values: &mut [u8])
-    requires { (row < row_count) × (length vs.now ≡ byte_count row) × (length values.old ≡ value_count) }
-    ensures { values.new ≡ values_with row vs.now values.old }
-{
-    let at = place_of(row);
-    if vs.len() == 1 {
-        values[at] = vs[0];
-        return;
-    }
-    if vs.len() == MOST_VALUES {
-        lists::copy(vs, &mut values[at..at + MOST_VALUES]);
-        return;
-    }
-    lists::copy(vs, &mut values[at..]);
-}
-
 // A panel's values before anything is set.
 pub fn fresh(profile: Profile) -> [u8; VALUE_COUNT]
     ensures { result ≡ fresh_values profile }
@@ -170,7 +85,7 @@ pub fn fresh(profile: Profile) -> [u8; VALUE_COUNT]
     let mut values = numbers::the_table().fresh;
     if let Profile::Phoenix = profile {
         let video = numbers::the_table().phoenix.fresh;
-        store(VIDEO_ROW, &video, &mut values);
+        Row::VIDEO.store(&video, &mut values);
     }
     values
 }

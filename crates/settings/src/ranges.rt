@@ -1,10 +1,11 @@
 // Which values are allowed.
 ghost use Rattle.std.specs.Prelude.{◌≡◌, ◌<◌, drop, ◌||◌};
+ghost use Rattle.std.specs.List.{list_any};
 ghost use Rattle.settings.specs.declared.Profile.{Profile};
-ghost use Rattle.settings.specs.Settings.{within, in_ranges, row_count, value_count, video_row};
+ghost use Rattle.settings.specs.Settings.{within, in_ranges, value_count, video_row};
 ghost use Rattle.settings.specs.Private.Numbers.{in_range, range_of, ranges_of, first_range, is_more};
 
-use crate::{MORE_COUNT, MOST_VALUES, More, Profile, Span, VIDEO_ROW};
+use crate::{MOST_VALUES, More, Profile, Row, Span};
 
 fn in_range(range: Span, v: u8) -> bool
     ensures { result ≡ in_range (range_of range) v }
@@ -21,20 +22,19 @@ fn is_more(more: More, p: usize, v: u8) -> bool
     in_range(Span(more.1, more.2), v)
 }
 
+// Whether v is in one of these ranges, which is of place p.
+fn is_any(more: &[More], p: usize, v: u8) -> bool
+    ensures { result ≡ list_any (is_more p v) more.now }
+{
+    more.iter().any(|range| is_more(*range, p, v))
+}
+
 // Whether v is in a range of place p behind the first.
 fn in_more(p: usize, v: u8) -> bool
     requires { p < value_count }
     ensures { result ≡ within (drop 1 (ranges_of p)) v }
 {
-    let more = crate::numbers::the_table().more;
-    let mut k = 0;
-    while k < MORE_COUNT {
-        if is_more(more[k], p, v) {
-            return true;
-        }
-        k += 1;
-    }
-    false
+    is_any(&crate::numbers::the_table().more, p, v)
 }
 
 // Whether v may stand at place p, whose first range is given.
@@ -50,26 +50,22 @@ fn allowed_at(p: usize, range: Span, v: u8) -> bool
 
 // Whether these bytes may be set in a row of a general panel: as many as it has, and each of them allowed. The first is tried
 // by itself: most rows have no other.
-fn general_allowed(row: usize, values: &[u8]) -> bool
-    requires { row < row_count }
+fn general_allowed(row: Row, values: &[u8]) -> bool
     ensures { result ≡ in_ranges Profile.General row values.now }
 {
-    let at = crate::values_at(row);
-    let first = at.1 as usize;
-    if values.len() != at.0 as usize {
+    let first = row.place();
+    if values.len() != row.byte_count() {
         return false;
     }
     let ranges = crate::numbers::the_table().ranges;
     if !allowed_at(first, ranges[first], values[0]) {
         return false;
     }
-    let mut k = 1;
-    while k < values.len() {
+    for k in 1..values.len() {
         let p = first + k;
         if !allowed_at(p, ranges[p], values[k]) {
             return false;
         }
-        k += 1;
     }
     true
 }
@@ -93,23 +89,20 @@ fn video_allowed(values: &[u8]) -> bool
     }
     let ranges = crate::numbers::the_table().phoenix.ranges;
     let below = crate::numbers::the_table().phoenix.below;
-    let mut k = 0;
-    while k < MOST_VALUES {
-        if !video_allowed_at(k, ranges[k], below, values[k]) {
+    for (k, v) in values.iter().enumerate() {
+        if !video_allowed_at(k, ranges[k], below, *v) {
             return false;
         }
-        k += 1;
     }
     true
 }
 
 // Whether these bytes are in a row's ranges, for this profile. All but the video of a Phoenix panel is as general.
-pub fn in_ranges(profile: Profile, row: usize, values: &[u8]) -> bool
-    requires { row < row_count }
+pub fn in_ranges(profile: Profile, row: Row, values: &[u8]) -> bool
     ensures { result ≡ in_ranges profile row values.now }
 {
     if let Profile::Phoenix = profile {
-        if row == VIDEO_ROW {
+        if row == Row::VIDEO {
             return video_allowed(values);
         }
     }

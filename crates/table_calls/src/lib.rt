@@ -9,7 +9,7 @@ ghost use Rattle.table_calls.specs.declared.Refusal.{Refusal};
 
 use packet::{GroupId, MonitorId};
 use panels::{MOST_PANELS, Panel, Table};
-use settings::{KIND_ROW, Profile, UnknownProfile};
+use settings::{Profile, Row, UnknownProfile};
 use tiling::{Kind, UnknownKind};
 
 // Why a table call is refused.
@@ -62,7 +62,7 @@ fn fresh_panel(id: MonitorId, group: GroupId, profile: Profile, kind: Kind) -> P
 {
     let mut values = settings::fresh(profile);
     let number = [u8::from(kind)];
-    settings::store(KIND_ROW, &number, &mut values);
+    Row::KIND.store(&number, &mut values);
     Panel {
         id,
         group,

@@ -3,7 +3,7 @@
 
 ghost use Rattle.std.specs.Prelude.{◌≡◌, ◌+◌, ◌≤◌, ◌<◌, ℕ, List, Some, IfOk, OnErr, length, take, drop};
 ghost use Rattle.std.specs.Io.KnownBytes.{Consumes, IsAtEnd};
-ghost use denote.Ref.{Bor};
+ghost use denote.Ref.{Bor, MutBor};
 ghost use Rattle.text.specs.Counts.{IsPrefixLen};
 ghost use Rattle.text.specs.Hex.{hex_of};
 ghost use Rattle.text.specs.Runs.{RunsTo};
@@ -93,9 +93,38 @@ pub fn read_step<R: io::Read>(reader: &mut R, buf: &mut [u8]) -> io::Result<Resu
     Ok(Ok(size))
 }
 
-// Calls step for each step of standard input, with what the one before it left, its number, from 1 on, and its bytes. Prints at the
-// end where the input stopped and how many steps came, and hands out what the last left. The loop counts its turns, since a proved
-// loop has to end and nothing says that the input does.
+// Reads one thing after another into the buffer by next, and calls step for each, with what the one before it left, its number,
+// from 1 on, and its bytes. Prints at the end where the input stopped and how many came, and hands out what the last left. The
+// loop counts its turns, since a proved loop has to end and nothing says that the input does.
+pub fn each<I: Print + Input, S: Drop, N, F>(
+    rt: &I,
+    buffer: &mut [u8],
+    next: N,
+    first: S,
+    step: F,
+) -> io::Result<S>
+where
+    N: Fn(&mut I::Reader, &mut [u8]) -> io::Result<Result<usize, Stop>>,
+    F: Fn(S, u64, &[u8]) -> io::Result<S>,
+    requires read { (reader : _) (room : MutBor (List ℕ)) → length room.now ≡ length buffer.old → N.pre next reader room }
+    requires step { (n : ℕ) (s : S) → RunsTo F.Fn step first n s → (bytes : Bor (List ℕ)) → length bytes.now ≤ length buffer.old → F.pre step s (n + 1) bytes }
+    ensures { IfOk result (λ last. (n : ℕ) × RunsTo F.Fn step first n last) }
+{
+    let mut state = first;
+    let mut reader = rt.reader();
+    for number in 0..u64::MAX {
+        match next(&mut reader, buffer)? {
+            Ok(n) => state = step(state, number + 1, front(buffer, n))?,
+            Err(stop) => {
+                println!(rt; "{stop} {number}")?;
+                return Ok(state);
+            }
+        }
+    }
+    Ok(state)
+}
+
+// The same for each step of standard input.
 pub fn each_step<S: Drop, F: Fn(S, u64, &[u8]) -> io::Result<S>>(
     rt: &(impl Print + Input),
     first: S,
@@ -104,17 +133,5 @@ pub fn each_step<S: Drop, F: Fn(S, u64, &[u8]) -> io::Result<S>>(
     requires { (n : ℕ) (s : S) → RunsTo F.Fn step first n s → (bytes : Bor (List ℕ)) → length bytes.now ≤ longest_step → F.pre step s (n + 1) bytes }
     ensures { IfOk result (λ last. (n : ℕ) × RunsTo F.Fn step first n last) }
 {
-    let mut state = first;
-    let mut reader = rt.reader();
-    for number in 0..u64::MAX {
-        let mut buffer = [0u8; LONGEST_STEP];
-        match read_step(&mut reader, &mut buffer)? {
-            Ok(n) => state = step(state, number + 1, front(&buffer, n))?,
-            Err(stop) => {
-                println!(rt; "{stop} {number}")?;
-                return Ok(state);
-            }
-        }
-    }
-    Ok(state)
+    each(rt, &mut [0u8; LONGEST_STEP], read_step, first, step)
 }

@@ -2,7 +2,7 @@
 -- back writes form 1; A3: play tells what is wrong with the burst; A7; A9: a list is played; A11: play takes the number of the
 -- line's edition.
 use Rattle.std.specs.Option.{option_map_or}
-use Rattle.std.specs.Prelude.{ℕ, Bool, true, cond, ◌&&◌, List, [], leb, eqb, length, None, Option}
+use Rattle.std.specs.Prelude.{ℕ, cond, ◌&&◌, List, [], leb, eqb, length, None, Option, Result, Ok, Err}
 use Rattle.packet.specs.declared.Damage.{Damage}
 use Rattle.packet.specs.declared.Edition.{Edition}
 use Rattle.packet.specs.Edition.{edition_number, edition_with}
@@ -16,9 +16,9 @@ use Rattle.batch.specs.Scene.{scene_of, refusal_number as list_number}
 use Rattle.refusals.specs.declared.Refusal.{Refusal}
 use Rattle.image_forms.specs.declared.Form.{Form}
 use Rattle.image_write.specs.Written.{setup_of, size_of, loses_nothing}
-use Rattle.refusals.specs.Refusals.{is_sound, refusal_number, no_room, unknown_edition, would_lose}
+use Rattle.refusals.specs.Refusals.{refusal_number, no_room, unknown_edition, would_lose}
 use Rattle.image_read.specs.Read.{read_of}
-use Rattle.image_frame.specs.Frame.{frame_refusal}
+use Rattle.image_frame.specs.Frame.{frame_of}
 use Rattle.image_salvage.specs.Salvaged.{salvage_of, text_of, lines_cap}
 use Rattle.undivarro.specs.declared.Outcome.{Outcome}
 
@@ -46,18 +46,18 @@ after_burst edition w burst answer out =
     let o = answered w reading in
     given (sent_bytes edition o.reply) (setup_of Form.Two o.wall) (damage_in reading.verdict) answer out
 
--- reading faults are 11 to 18; then 31 where the form would lose something; then 19 where there is no room
-unfoldable pub refusal_for : Refusal → Bool → Bool → ℕ
-refusal_for read held room = cond (is_sound read) (cond held (cond room 0 no_room) would_lose) (refusal_number read)
+-- what comes of a setup that was read; else a refusal of 11 to 18, before all others
+abbrev pub unless_refused : {A : Type 0} → Result A Refusal → (A → After) → List ℕ → List ℕ → After
+unless_refused (Ok x) then answer out = then x
+unless_refused (Err r) then answer out = refused (refusal_number r) answer out
 
--- What comes of a setup that is written in a form, where nothing is refused. There is room where the answer buffer has at least so
--- many bytes, and the output has it for the image.
+-- What comes of a setup that is written in a form, where nothing is refused: then 31 where the form would lose something; then 19
+-- where there is no room. There is where the answer buffer has at least so many bytes, and the output has it for the image.
 unfoldable pub after_setup : Form → ℕ → List ℕ → (Wall → After) → List ℕ → List ℕ → After
 after_setup form least image then answer out =
-    let r = read_of image in
-    let room = leb least (length answer) && leb (size_of form r.wall) (length out) in
-    let n = refusal_for r.refusal (loses_nothing form r.wall) room in
-    cond (eqb n 0) (then r.wall) (refused n answer out)
+    unless_refused (read_of image) (λ w.
+    let room = leb least (length answer) && leb (size_of form w) (length out) in
+    cond (loses_nothing form w) (cond room (then w) (refused no_room answer out)) (refused would_lose answer out)) answer out
 
 -- it is written again, and nothing is answered
 unfoldable pub after_move : Form → List ℕ → List ℕ → After
@@ -100,5 +100,4 @@ unfoldable pub after_salvage : List ℕ → List ℕ → List ℕ → After
 after_salvage image lines out =
     let s = salvage_of image in
     let room = leb lines_cap (length lines) && leb (size_of Form.Two s.wall) (length out) in
-    let n = refusal_for (frame_refusal image) true room in
-    cond (eqb n 0) (given (text_of s) (setup_of Form.Two s.wall) None lines out) (refused n lines out)
+    unless_refused (frame_of image) (λ frame. cond room (given (text_of s) (setup_of Form.Two s.wall) None lines out) (refused no_room lines out)) lines out

@@ -1,2 +1,2 @@
--- What only this crate's contracts cite: `Opened` is a line that is opened for a call.
-pub mod Opened
+-- What only this crate's contracts cite: `Refused` is what a call is refused by.
+pub mod Refused

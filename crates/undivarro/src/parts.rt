@@ -4,12 +4,11 @@ ghost use Rattle.lists.specs.Lists.{laid_over};
 ghost use Rattle.panels.specs.Wall.{panels_of};
 ghost use Rattle.panels.specs.WellFormed.{WellFormed};
 ghost use Rattle.image_write.specs.Written.{size_of, setup_of, loses_nothing};
-ghost use Rattle.undivarro.specs.Calls.{refused, refusal_for};
-ghost use Rattle.undivarro.specs.Private.Opened.{opened_as};
+ghost use Rattle.undivarro.specs.Calls.{refused};
+ghost use Rattle.undivarro.specs.Private.Refused.{outcome_of};
 
-use crate::{Opened, Outcome};
+use crate::{Outcome, Refused};
 use image_forms::Form;
-use packet::Edition;
 use panels::Table;
 use refusals::{NO_ROOM, Refusal, UNKNOWN_EDITION, WOULD_LOSE};
 
@@ -24,36 +23,56 @@ pub(crate) fn has_room(form: Form, t: Table, least: usize, answer: usize, out: u
     image_write::size_of(form, t) <= out
 }
 
-// 11 to 18 for what was read, then 31 where something would be lost, then 19 where there is no room, else 0.
-pub(crate) fn refusal_for(read: Refusal, held: bool, room: bool) -> u32
-    ensures { result ≡ refusal_for read held room }
-{
-    let number = refusals::refusal_number(read);
-    if number != 0 {
-        return number as u32;
+// What a setup is refused by, a call is.
+impl From<Refusal> for Refused {
+    ghost use Rattle.std.specs.Prelude.{◌≡◌};
+    ghost use Rattle.undivarro.specs.declared.Refused.{Refused};
+
+    ghost from_gives = { λ r call. call ≡ Refused.Setup r };
+
+    fn from(r: Refusal) -> Refused {
+        Refused::Setup(r)
     }
-    if !held {
-        return WOULD_LOSE as u32;
-    }
-    if room { 0 } else { NO_ROOM as u32 }
 }
 
-// A line opened with an edition's number: refused for what was read and for the room, and then for the number.
-pub(crate) fn opened(number: u32, read: Refusal, room: bool) -> Opened
-    ensures { result ≡ opened_as number read room }
+// And what a list of bursts is refused by.
+impl From<batch::Refusal> for Refused {
+    ghost use Rattle.std.specs.Prelude.{◌≡◌};
+    ghost use Rattle.undivarro.specs.declared.Refused.{Refused};
+
+    ghost from_gives = { λ r call. call ≡ Refused.List r };
+
+    fn from(r: batch::Refusal) -> Refused {
+        Refused::List(r)
+    }
+}
+
+// 11 to 18 for the setup, 31, 19 and 23, and 32 and 33 for the list.
+impl From<Refused> for u32 {
+    ghost use Rattle.std.specs.Prelude.{◌≡◌};
+    ghost use Rattle.undivarro.specs.Private.Refused.{refused_number};
+
+    ghost from_gives = { λ r number. number ≡ refused_number r };
+
+    fn from(r: Refused) -> u32 {
+        match r {
+            Refused::Setup(r) => u8::from(r) as u32,
+            Refused::WouldLose => WOULD_LOSE as u32,
+            Refused::NoRoom => NO_ROOM as u32,
+            Refused::UnknownEdition => UNKNOWN_EDITION as u32,
+            Refused::List(r) => u8::from(r) as u32,
+        }
+    }
+}
+
+// What comes back of a call, refused or not.
+pub(crate) fn outcome_of(r: Result<Outcome, Refused>) -> Outcome
+    ensures { result ≡ outcome_of r }
 {
-    let refusal = refusal_for(read, true, room);
-    let Ok(edition) = Edition::try_from(number) else {
-        return Opened {
-            refusal: if refusal == 0 {
-                UNKNOWN_EDITION as u32
-            } else {
-                refusal
-            },
-            edition: Edition::Sicp201,
-        };
-    };
-    Opened { refusal, edition }
+    match r {
+        Ok(outcome) => outcome,
+        Err(why) => refused(why.into()),
+    }
 }
 
 // A refusal: both lengths are 0, and no damage is told.

@@ -16,10 +16,9 @@ use panels::Table;
 fn given(answered: usize, written: usize, verdict: Verdict) -> Outcome
     ensures { result ≡ record { refusal = 0; answered = answered; written = written; damage = damage_number (damage_in verdict) } }
 {
-    let damage = packet::damage_in(verdict);
     Outcome {
         refusal: 0,
-        damage: packet::damage_number(damage) as u32,
+        damage: packet::damage_number(verdict.damage()) as u32,
         answered,
         written,
     }
@@ -41,8 +40,8 @@ pub(crate) fn played(
 {
     let reading = packet::read(edition, burst);
     let heard = answers::hear(edition, &t, reading, answer);
-    if let Some(change) = heard.change {
-        answers::store(&mut t, change, reading.data);
+    if let Some(change) = &heard.change {
+        answers::store(&mut t, *change, reading.data);
     }
     let written = parts::put_setup(Form::Two, t, out);
     given(heard.sent, written, reading.verdict)

@@ -4,11 +4,10 @@ use mathlib.Core.List.{List, [], ◌∷◌}
 use Prim.Native.Nat.{ℕ, ◌<◌}
 use borrow.Author.Tests.{ne_eqb}
 use Rattle.lists.proofs.Each.{alike}
-use Rattle.codes.specs.declared.Found.{Found}
 use Rattle.settings.specs.Settings.{settings}
 use Rattle.codes.specs.Found.{found_from, found_by}
 use Rattle.settings.proofs.Laws.{listed}
-use Rattle.std.proofs.Common.{rules}
+use Rattle.std.proofs.Common.{rules, None}
 use Rattle.codes.proofs.found_by.Goals as goal
 
 -- Each arm says what `found_by` computes of its code, and `found_by` finds no code that is in no arm. Assumes nothing.
@@ -30,9 +29,9 @@ none_listed code [] none = refl
 none_listed code (k ∷ ks) none = rw (ne_eqb k code (λ e. none.1 (sym e))) (none_listed code ks none.0)
 
 -- `found_by` tried on every byte
-no_more : {code : ℕ} → code < 256 → NoneOf code codes → Found.Nothing ≡ found_by code
+no_more : {code : ℕ} → code < 256 → NoneOf code codes → None ≡ found_by code
 unfolding settings found_from listed
-no_more {code} h none = sym (rw (none_listed code codes none) at (alike (λ k. cond (listed k codes) Found.Nothing (found_by k)) (λ k. Found.Nothing) 256 refl h))
+no_more {code} h none = sym (rw (none_listed code codes none) at (alike (λ k. cond (listed k codes) None (found_by k)) (λ k. None) 256 refl h))
 
 pub returns-in-25 : goal.returns-in-25
 unfolding settings found_from

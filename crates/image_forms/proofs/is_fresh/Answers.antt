@@ -31,4 +31,4 @@ pub slice_bounds-eq-end-2 : goal.slice_bounds-eq-end-2
 slice_bounds-eq-end-2 c = search (rules, place_fits c.args.row)
 
 pub returns : goal.returns
-returns c = compared _ _ _ _ _ c.place_of-first.ensures c.byte_count.ensures c.fresh-fresh.ensures c.eq.ensures
+returns c = compared _ _ _ _ _ c.place-first.ensures c.byte_count.ensures.count c.fresh-fresh.ensures c.eq.ensures

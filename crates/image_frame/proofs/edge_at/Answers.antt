@@ -1,4 +1,4 @@
-use mathlib.Core.Path.{◌≡◌, ap₂, ◌∙◌}
+use mathlib.Core.Path.{◌≡◌}
 use mathlib.Core.List.{List}
 use Prim.Native.Nat.{ℕ, ◌+◌, ◌-◌, ◌*◌, ◌≤◌, ◌<◌}
 use native.Mathlib.Omega.{arith}
@@ -20,5 +20,4 @@ pub returns-then-n-k : goal.returns-then-n-k
 returns-then-n-k c = behind_last _ _ _ c.requires.0 c.if-n-k.true
 
 pub returns : goal.returns
-returns c =
-    ap₂ (λ (h l : ℕ). 256 * h + l) c.wide.ensures.0 c.wide-2.ensures.0 ∙ a_start _ _ _ c.requires.0 c.if-n-k.false
+returns c = a_start _ _ _ c.requires.0 c.if-n-k.false

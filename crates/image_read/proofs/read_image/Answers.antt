@@ -1,23 +1,24 @@
-use mathlib.Core.Path.{◌≡◌, sym, ap, ap₂, ◌∙◌}
-use mathlib.Core.Bool.{true}
-use borrow.Author.Tests.{eq-eqb, ne_eqb}
-use Rattle.panels.specs.declared.Table.{Table}
+use mathlib.Core.Path.{◌≡◌, sym, ◌∙◌}
+use mathlib.Core.List.{List, []}
+use Prim.Native.Nat.{ℕ}
+use Rattle.std.specs.Prelude.{Result}
+use Rattle.std.proofs.lemmas.Result.{err_from_is_err_and}
 use Rattle.refusals.specs.declared.Refusal.{Refusal}
-use Rattle.image_read.specs.declared.Read.{Read}
-use Rattle.image_frame.specs.Frame.{frame_refusal}
-use Rattle.refusals.specs.Refusals.{is_sound, refusal_number}
-use Rattle.image_read.specs.Read.{read_of, in_table}
+use Rattle.refusals.specs.Refusals.{if_sound}
+use Rattle.image_frame.specs.Frame.{form_of, frame_of, records_in}
+use Rattle.image_read.specs.Read.{read_records, read_of, in_table}
 use Rattle.image_read.proofs.read_image.Goals as goal
 
-pub returns-then-refusal_number-ne0 : goal.returns-then-refusal_number-ne0
+-- by what the image as a whole comes to
+by_frame : (image : List ℕ) {frame : Result (List ℕ) Refusal} → frame ≡ frame_of image
+    → in_table (read_of image) ≡ in_table (if_sound frame (λ frame. read_records (form_of frame) [] (records_in frame)))
 unfolding read_of
-returns-then-refusal_number-ne0 c =
-    let refusal = c.frame_refusal-refusal.ensures in
-    let no = ne_eqb _ 0 (λ e. c.if-refusal_number-ne0.true (c.refusal_number.ensures ∙ ap refusal_number refusal ∙ e)) in
-    ap₂ {C = Read} (λ (r : Refusal) (t : Table). record { refusal = r; table = t }) refusal c.empty_table-table.ensures ∙ ap in_table (sym (rw no))
+by_frame image e = rw (← e)
+
+pub returns-in_err-frame : goal.returns-in_err-frame
+returns-in_err-frame c =
+    let p = err_from_is_err_and c.from_residual.result c.from_residual.ensures.1 in
+    rw (p.1, p.2) (sym (by_frame _ (sym c.in_err-frame.was ∙ c.of.ensures)))
 
 pub returns : goal.returns
-unfolding read_of
-returns c =
-    let sound : is_sound (frame_refusal c.args.image.now) ≡ true = eq-eqb _ 0 (sym (c.refusal_number.ensures ∙ ap refusal_number c.frame_refusal-refusal.ensures) ∙ c.if-refusal_number-ne0.false) in
-    c.all.ensures ∙ ap in_table (sym (rw sound))
+returns c = c.all.ensures ∙ sym (by_frame _ (sym c.in_ok-frame.was ∙ c.of.ensures))

@@ -40,48 +40,36 @@ returns-in_default c =
       values_after = ap (λ (r : Run). r.values) (sym run);
     }
 
-pub byte_count-requires : goal.byte_count-requires
-byte_count-requires c =
-    let stepped : (s : Step) → c.step_at-step.result ≡ s → let a = c.args in step_at a.form a.profile c.loop-row.seen c.loop-row.values (drop c.loop-row.at a.left.now) ≡ s = λ s e. let a = c.args in let left = a.left.now in let at = c.loop-row.at in let all = take_all (length left - at) (drop at left) (rw length-drop (omega arith)) in sym (c.step_at-step.ensures ∙ ap (step_at a.form a.profile c.loop-row.seen c.loop-row.values) all) ∙ e in
-    let found : let a = c.args in Stands true a.form a.profile c.loop-row.seen c.loop-row.values (drop c.loop-row.at a.left.now) c.in-Field.row = stands _ _ true _ _ _ _ (stepped _ c.in-Field.is) in
-    found.in_table
-
 pub overflow_add-end : goal.overflow_add-end
 overflow_add-end c =
     let stepped : (s : Step) → c.step_at-step.result ≡ s → let a = c.args in step_at a.form a.profile c.loop-row.seen c.loop-row.values (drop c.loop-row.at a.left.now) ≡ s = λ s e. let a = c.args in let left = a.left.now in let at = c.loop-row.at in let all = take_all (length left - at) (drop at left) (rw length-drop (omega arith)) in sym (c.step_at-step.ensures ∙ ap (step_at a.form a.profile c.loop-row.seen c.loop-row.values) all) ∙ e in
     let found : let a = c.args in Stands true a.form a.profile c.loop-row.seen c.loop-row.values (drop c.loop-row.at a.left.now) c.in-Field.row = stands _ _ true _ _ _ _ (stepped _ c.in-Field.is) in
     let room : c.loop-row.at + 2 + byte_count c.in-Field.row ≤ length c.args.left.now = omega (arith, length-drop c.loop-row.at c.args.left.now, found.whole, c.loop-row.invariant.0) in
-    omega (arith, c.byte_count.ensures, room)
+    omega (arith, c.byte_count.ensures.count, room)
 
 pub slice_bounds-store-end : goal.slice_bounds-store-end
 slice_bounds-store-end c =
     let stepped : (s : Step) → c.step_at-step.result ≡ s → let a = c.args in step_at a.form a.profile c.loop-row.seen c.loop-row.values (drop c.loop-row.at a.left.now) ≡ s = λ s e. let a = c.args in let left = a.left.now in let at = c.loop-row.at in let all = take_all (length left - at) (drop at left) (rw length-drop (omega arith)) in sym (c.step_at-step.ensures ∙ ap (step_at a.form a.profile c.loop-row.seen c.loop-row.values) all) ∙ e in
     let found : let a = c.args in Stands true a.form a.profile c.loop-row.seen c.loop-row.values (drop c.loop-row.at a.left.now) c.in-Field.row = stands _ _ true _ _ _ _ (stepped _ c.in-Field.is) in
     let room : c.loop-row.at + 2 + byte_count c.in-Field.row ≤ length c.args.left.now = omega (arith, length-drop c.loop-row.at c.args.left.now, found.whole, c.loop-row.invariant.0) in
-    omega (arith, c.byte_count.ensures, room)
+    omega (arith, c.byte_count.ensures.count, room)
 
 pub store-requires : goal.store-requires
 store-requires c =
     let stepped : (s : Step) → c.step_at-step.result ≡ s → let a = c.args in step_at a.form a.profile c.loop-row.seen c.loop-row.values (drop c.loop-row.at a.left.now) ≡ s = λ s e. let a = c.args in let left = a.left.now in let at = c.loop-row.at in let all = take_all (length left - at) (drop at left) (rw length-drop (omega arith)) in sym (c.step_at-step.ensures ∙ ap (step_at a.form a.profile c.loop-row.seen c.loop-row.values) all) ∙ e in
     let found : let a = c.args in Stands true a.form a.profile c.loop-row.seen c.loop-row.values (drop c.loop-row.at a.left.now) c.in-Field.row = stands _ _ true _ _ _ _ (stepped _ c.in-Field.is) in
     let room : c.loop-row.at + 2 + byte_count c.in-Field.row ≤ length c.args.left.now = omega (arith, length-drop c.loop-row.at c.args.left.now, found.whole, c.loop-row.invariant.0) in
-    let part : let left = c.args.left.now in let first = c.loop-row.at + 2 in take (first + c.byte_count.result - first) (drop first left) ≡ values_in c.in-Field.row (drop c.loop-row.at left) = let n : c.loop-row.at + 2 + c.byte_count.result - (c.loop-row.at + 2) ≡ byte_count c.in-Field.row = omega (arith, c.byte_count.ensures) in rw (n, drop-drop 2 c.loop-row.at c.args.left.now) in
+    let part : let left = c.args.left.now in let first = c.loop-row.at + 2 in take (first + c.byte_count.result - first) (drop first left) ≡ values_in c.in-Field.row (drop c.loop-row.at left) = let n : c.loop-row.at + 2 + c.byte_count.result - (c.loop-row.at + 2) ≡ byte_count c.in-Field.row = omega (arith, c.byte_count.ensures.count) in rw (n, drop-drop 2 c.loop-row.at c.args.left.now) in
     let many : length (values_in c.in-Field.row (drop c.loop-row.at c.args.left.now)) ≡ byte_count c.in-Field.row =
     simp (length-take, length-drop) (omega (arith, room)) in
-    (found.in_table, ap length part ∙ many, search rules)
-
-pub bounds-seen-row : goal.bounds-seen-row
-bounds-seen-row c =
-    let stepped : (s : Step) → c.step_at-step.result ≡ s → let a = c.args in step_at a.form a.profile c.loop-row.seen c.loop-row.values (drop c.loop-row.at a.left.now) ≡ s = λ s e. let a = c.args in let left = a.left.now in let at = c.loop-row.at in let all = take_all (length left - at) (drop at left) (rw length-drop (omega arith)) in sym (c.step_at-step.ensures ∙ ap (step_at a.form a.profile c.loop-row.seen c.loop-row.values) all) ∙ e in
-    let found : let a = c.args in Stands true a.form a.profile c.loop-row.seen c.loop-row.values (drop c.loop-row.at a.left.now) c.in-Field.row = stands _ _ true _ _ _ _ (stepped _ c.in-Field.is) in
-    found.in_table
+    (ap length part ∙ many, search rules)
 
 pub loop-row-smaller : goal.loop-row-smaller
 loop-row-smaller c =
     let stepped : (s : Step) → c.step_at-step.result ≡ s → let a = c.args in step_at a.form a.profile c.loop-row.seen c.loop-row.values (drop c.loop-row.at a.left.now) ≡ s = λ s e. let a = c.args in let left = a.left.now in let at = c.loop-row.at in let all = take_all (length left - at) (drop at left) (rw length-drop (omega arith)) in sym (c.step_at-step.ensures ∙ ap (step_at a.form a.profile c.loop-row.seen c.loop-row.values) all) ∙ e in
     let found : let a = c.args in Stands true a.form a.profile c.loop-row.seen c.loop-row.values (drop c.loop-row.at a.left.now) c.in-Field.row = stands _ _ true _ _ _ _ (stepped _ c.in-Field.is) in
     let room : c.loop-row.at + 2 + byte_count c.in-Field.row ≤ length c.args.left.now = omega (arith, length-drop c.loop-row.at c.args.left.now, found.whole, c.loop-row.invariant.0) in
-    omega (arith, c.byte_count.ensures, room)
+    omega (arith, c.byte_count.ensures.count, room)
 
 pub loop-row-preserved : goal.loop-row-preserved
 loop-row-preserved c =
@@ -89,11 +77,11 @@ loop-row-preserved c =
     let comes_to : (s : Step) → c.step_at-step.result ≡ s → let a = c.args in let left = drop c.loop-row.at a.left.now in let values = c.loop-row.values in run_from a.form a.profile a.seen.now a.values.now a.left.now ≡ after_step s c.loop-row.seen values left (λ row. run_from a.form a.profile (seen_with row c.loop-row.seen) (values_with row (values_in row left) values) (behind row left)) = λ s e. c.loop-row.invariant.1 ∙ run_step _ _ c.loop-row.seen c.loop-row.values _ s (stepped s e) in
     let found : let a = c.args in Stands true a.form a.profile c.loop-row.seen c.loop-row.values (drop c.loop-row.at a.left.now) c.in-Field.row = stands _ _ true _ _ _ _ (stepped _ c.in-Field.is) in
     let room : c.loop-row.at + 2 + byte_count c.in-Field.row ≤ length c.args.left.now = omega (arith, length-drop c.loop-row.at c.args.left.now, found.whole, c.loop-row.invariant.0) in
-    let part : let left = c.args.left.now in let first = c.loop-row.at + 2 in take (first + c.byte_count.result - first) (drop first left) ≡ values_in c.in-Field.row (drop c.loop-row.at left) = let n : c.loop-row.at + 2 + c.byte_count.result - (c.loop-row.at + 2) ≡ byte_count c.in-Field.row = omega (arith, c.byte_count.ensures) in rw (n, drop-drop 2 c.loop-row.at c.args.left.now) in
+    let part : let left = c.args.left.now in let first = c.loop-row.at + 2 in take (first + c.byte_count.result - first) (drop first left) ≡ values_in c.in-Field.row (drop c.loop-row.at left) = let n : c.loop-row.at + 2 + c.byte_count.result - (c.loop-row.at + 2) ≡ byte_count c.in-Field.row = omega (arith, c.byte_count.ensures.count) in rw (n, drop-drop 2 c.loop-row.at c.args.left.now) in
     let left = c.args.left.now in
     let at = c.loop-row.at in
     let row = c.in-Field.row in
-    let n = c.byte_count.ensures in
+    let n = c.byte_count.ensures.count in
     let taken = c.store.ensures ∙ ap (λ (vs : List ℕ). values_with row vs c.loop-row.values) part in
     let rest : behind row (drop at left) ≡ drop (at + 2 + byte_count row) left = drop-drop (2 + byte_count row) at left ∙ ap (λ (k : ℕ). drop k left) (sym (add_assoc at 2 (byte_count row))) in
-    (omega (arith, n, room), comes_to (Step.Field row) c.in-Field.is ∙ rw (rest, n, taken))
+    (omega (arith, n, room), comes_to (Step.Field row) c.in-Field.is ∙ rw (rest, n, taken, c.index.ensures.number))

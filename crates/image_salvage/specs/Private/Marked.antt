@@ -1,7 +1,6 @@
 -- A record salvaged by the code, which has the IDs seen before marked.
 use Rattle.std.specs.Option.{option_map_or}
-use Rattle.std.specs.Prelude.{ℕ, ◌+◌, Bool, true, false, List, [], ◌∷◌, length, drop}
-use Rattle.panels.specs.Wall.{blank}
+use Rattle.std.specs.Prelude.{ℕ, ◌+◌, Bool, List, [], ◌∷◌, length, drop, option_map}
 use Rattle.image_forms.specs.declared.Form.{Form}
 use Rattle.image_forms.specs.Forms.{head_size}
 use Rattle.image_faults.specs.declared.Fault.{Fault}
@@ -16,7 +15,6 @@ faults_by form seen bytes =
 
 unfoldable pub record_by : Form → ℕ → ℕ → List Bool → List ℕ → KeptRecord
 record_by form number from seen bytes = record {
-  kept = option_map_or (λ profile. true) (head_in form (marked seen) bytes) false;
-  panel = option_map_or (λ profile. headed bytes profile (kept_of form profile (drop (head_size form) bytes)).values) (head_in form (marked seen) bytes) blank;
+  panel = option_map (λ profile. headed bytes profile (kept_of form profile (drop (head_size form) bytes)).values) (head_in form (marked seen) bytes);
   next = from + length (lines_of number (faults_by form seen bytes));
 }

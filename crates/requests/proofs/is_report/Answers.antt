@@ -5,11 +5,11 @@ use Prim.Native.Nat.{ℕ, ◌<◌}
 use native.Mathlib.Omega.{arith}
 use borrow.Author.Tests.{eq-eqb, ne_eqb}
 use lib.ListN.{length}
+use Rattle.std.proofs.lemmas.List.{take_rest}
 use Rattle.models.specs.declared.Model.{Model}
 use Rattle.models.specs.Models.{allowed_for}
 use Rattle.requests.specs.Said.{is_report}
 use Rattle.requests.proofs.Words.{report_some}
-use Rattle.lists.proofs.Places.{rest}
 use Rattle.requests.proofs.is_report.Goals as goal
 
 -- A report has its row's get code, and behind it values that the row allows. Assumes nothing.
@@ -25,7 +25,7 @@ pub returns-then-code-get_code : goal.returns-then-code-get_code
 returns-then-code-get_code c =
     let a = c.args in
     let code = eq-eqb _ _ (c.if-code-get_code.true ∙ c.get_code.ensures) in
-    c.allowed.ensures ∙ ap (allowed_for a.model a.row) (rest a.d.now) ∙ sym (report_some a.model a.row a.d.now (omega arith) ∙ rw code)
+    c.allowed.ensures ∙ ap (allowed_for a.model a.row) (take_rest a.d.now 1) ∙ sym (report_some a.model a.row a.d.now (omega arith) ∙ rw code)
 
 pub returns-else-code-get_code : goal.returns-else-code-get_code
 returns-else-code-get_code c =

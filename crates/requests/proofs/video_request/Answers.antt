@@ -3,4 +3,4 @@ use Rattle.requests.proofs.video_request.Goals as goal
 
 pub returns : goal.returns
 unfolding video_request
-returns c = rw (c.bytes_of-values.ensures, c.set_code.ensures, c.byte_count.ensures)
+returns c = rw (c.bytes_of-values.ensures, c.set_code.ensures, c.byte_count.ensures.count)

@@ -1,9 +1,7 @@
 -- What was kept is well-formed. Assumes nothing.
-use Rattle.std.proofs.Common.{sym, ap, subst}
-use Rattle.panels.specs.WellFormed.{WellFormed}
-use Rattle.image_salvage.specs.declared.Salvaged.{Salvaged}
-use Rattle.image_salvage.proofs.Sound.{salvage_formed}
+use Rattle.std.proofs.Common.{sym, ◌∙◌}
+use Rattle.image_salvage.proofs.Sound.{table_formed}
 use Rattle.salvage.proofs.salvage.Goals as goal
 
 pub keep-requires : goal.keep-requires
-keep-requires g c = subst WellFormed (ap (λ (r : Salvaged). r.table) (sym c.salvage-salvaged.ensures.value)) (salvage_formed _)
+keep-requires g c = table_formed _ (sym c.salvage.ensures.value ∙ c.in-Ok.is)

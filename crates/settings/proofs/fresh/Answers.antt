@@ -1,6 +1,5 @@
 use mathlib.Core.Path.{◌≡◌, refl, sym, ap, ap₂, ◌∙◌}
 use mathlib.Core.List.{flatten}
-use native.Mathlib.Omega.{arith}
 use lib.ListN.{length}
 use Rattle.lists.specs.Lists.{laid_at}
 use Rattle.settings.specs.declared.Profile.{Profile}
@@ -17,7 +16,6 @@ phoenix_fresh = refl
 pub store-requires : goal.store-requires
 unfolding settings fresh_values flatten paper_table
 store-requires c = (
-  omega arith,
   ap (λ (t : Table). length t.phoenix.fresh) c.the_table-in-Phoenix.ensures,
   ap (λ (t : Table). length t.fresh) c.the_table.ensures,
 )

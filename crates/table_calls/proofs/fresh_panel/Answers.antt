@@ -1,5 +1,4 @@
 use mathlib.Core.Path.{refl, ap, ◌∙◌}
-use native.Mathlib.Omega.{arith}
 use lib.ListN.{length}
 use Rattle.settings.specs.Settings.{settings}
 use Rattle.settings.proofs.Laws.{fresh-count}
@@ -7,4 +6,4 @@ use Rattle.table_calls.proofs.fresh_panel.Goals as goal
 
 pub store-requires : goal.store-requires
 unfolding settings
-store-requires c = (omega arith, refl, ap length c.fresh-values.ensures ∙ fresh-count c.args.profile)
+store-requires c = (refl, ap length c.fresh-values.ensures ∙ fresh-count c.args.profile)

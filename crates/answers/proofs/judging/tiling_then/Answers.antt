@@ -24,12 +24,12 @@ third = refl
 
 pub overflow_add-wall : goal.overflow_add-wall
 overflow_add-wall c =
-    let at_third : c.place_of.result ≡ 2 = c.place_of.ensures ∙ third in
+    let at_third : c.place.result ≡ 2 = c.place.ensures ∙ third in
     omega (arith, at_third)
 
-pub bounds-values-place_of : goal.bounds-values-place_of
-bounds-values-place_of c =
-    let at_third : c.place_of.result ≡ 2 = c.place_of.ensures ∙ third in
+pub bounds-values-place : goal.bounds-values-place
+bounds-values-place c =
+    let at_third : c.place.result ≡ 2 = c.place.ensures ∙ third in
     omega (arith, at_third)
 
 pub bounds-d-1 : goal.bounds-d-1
@@ -52,5 +52,5 @@ pub returns : goal.returns
 unfolding settings
 returns c =
     let a = c.args in
-    let own = ap (λ (at : ℕ). get_or a.p.values (at + 3) 0) c.place_of.ensures ∙ sym (value_of tiling_row 3 a.p.values (omega arith)) in
+    let own = ap (λ (at : ℕ). get_or a.p.values (at + 3) 0) c.place.ensures ∙ sym (value_of tiling_row 3 a.p.values (omega arith)) in
     c.fill.ensures ∙ ap₂ (filled tiling_row) own (four a.d.now c.requires)

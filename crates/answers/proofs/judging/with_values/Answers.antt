@@ -7,6 +7,7 @@ use lib.Seq.{take_all}
 use Rattle.settings.specs.Settings.{values_of, values_with, tiling_row}
 use Rattle.models.proofs.Filled.{filled-other, length-filled}
 use Rattle.panels.specs.declared.Panel.{Panel}
+use Rattle.settings.proofs.Laws.{eq_same, eq_other}
 use Rattle.answers.specs.Judged.{stored, held_then}
 use Rattle.answers.proofs.judging.with_values.Goals as goal
 
@@ -17,13 +18,13 @@ with_these p vs = record { id = p.id; group = p.group; profile = p.profile; valu
 pub store-requires : goal.store-requires
 store-requires c =
     let count = ap length c.tiling_then-held.ensures ∙ length-filled tiling_row _ (drop 1 c.args.d.now) in
-    (c.requires.0, omega (arith, rw length-drop at count, c.requires.1))
+    omega (arith, rw length-drop at count, c.requires)
 
-pub returns-then-row-eq-TILING_ROW : goal.returns-then-row-eq-TILING_ROW
+pub returns-then-eq : goal.returns-then-eq
 unfolding stored
-returns-then-row-eq-TILING_ROW c =
+returns-then-eq c =
     let a = c.args in
-    let held = c.tiling_then-held.ensures ∙ ap (λ (row : ℕ). held_then row (drop 1 a.d.now) a.p) (sym c.if-row-eq-TILING_ROW.true) in
+    let held = c.tiling_then-held.ensures ∙ ap (λ (row : ℕ). held_then row (drop 1 a.d.now) a.p) (sym (eq_same c.eq.ensures c.if-eq.true)) in
     ap (with_these a.p) (c.store.ensures ∙ ap (λ (vs : List ℕ). values_with a.row vs a.p.values) held)
 
 pub returns : goal.returns
@@ -32,5 +33,5 @@ returns c =
     let a = c.args in
     let d = a.d.now in
     let all = take_all (length d - 1) (drop 1 d) (rw length-drop (omega arith)) in
-    let held = all ∙ sym (filled-other a.row (get_or (values_of a.row a.p.values) 3 0) (drop 1 d) c.if-row-eq-TILING_ROW.false) in
+    let held = all ∙ sym (filled-other a.row (get_or (values_of a.row a.p.values) 3 0) (drop 1 d) (eq_other c.eq.ensures c.if-eq.false)) in
     ap (with_these a.p) (c.store-2.ensures ∙ ap (λ (vs : List ℕ). values_with a.row vs a.p.values) held)

@@ -34,4 +34,4 @@ returns c =
       | in-Some w ↦ w.t-is ∙ table_changed f a.reading.data.now _ (change ∙ w.in-Some.is) all w.store.ensures
       | in_default w ↦ w.t-is ∙ table_stays f a.reading.data.now _ (change ∙ w.in_default.is) all
     ] in
-    ap₂ (damaged c.match-turn.t) (ap (λ (t : Turn). t.reply) turn) c.damage_in.ensures ∙ left_is f a.reading.verdict a.reading.data.now a.reading.seems table
+    ap₂ (damaged c.match-turn.t) (ap (λ (t : Turn). t.reply) turn) c.damage.ensures ∙ left_is f a.reading.verdict a.reading.data.now a.reading.seems table

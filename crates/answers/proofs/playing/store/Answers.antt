@@ -9,7 +9,7 @@ use Rattle.answers.proofs.playing.store.Goals.{then-is_stored, else-is_stored}
 pub with_values-requires : goal.with_values-requires
 with_values-requires c =
     let fits = c.requires.1 in
-    (fits.is_row, stored_many _ _ c.args.d.now _ fits.has_code (sym c.is_stored.ensures ∙ c.if-is_stored.true))
+    stored_many _ _ c.args.d.now _ fits.has_code (sym c.is_stored.ensures ∙ c.if-is_stored.true)
 
 pub loop-p-preserved : goal.loop-p-preserved
 loop-p-preserved c =

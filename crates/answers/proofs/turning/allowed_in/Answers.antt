@@ -3,4 +3,4 @@ use Rattle.answers.proofs.turning.allowed_in.Goals as goal
 
 -- An order that stores has a row, and a set code. Assumes nothing.
 pub allowed_by-requires : goal.allowed_by-requires
-allowed_by-requires c = let o = order_told c.args.d.now _ c.requires c.in-Store.is in (o.0, o.1)
+allowed_by-requires c = (order_told c.args.d.now _ c.requires c.in-Store.is).1

@@ -1,5 +1,4 @@
 use mathlib.Core.Path.{refl, sym, ◌∙◌}
-use mathlib.Core.Bool.{false}
 use mathlib.Core.List.{[], ◌∷◌}
 use Rattle.requests.specs.Request.{request_packet}
 use Rattle.host.specs.Machine.{waiting_for, begun}
@@ -11,11 +10,11 @@ unfolding begun
 returns-then-is_heard c =
     let a = c.args in
     gives (waiting_for a.edition a.request (request_packet a.edition a.request ∷ [])) _ _ _ _ _ _ refl c.send-length.ensures.value c.send-length.ensures.out_after
-    (simp (sym c.is_heard.ensures ∙ c.if-is_heard.true)) c.plain.ensures
+    (simp (sym c.is_heard.ensures ∙ c.if-is_heard.true)) c.waiting.ensures
 
 pub returns-else-is_heard : goal.returns-else-is_heard
 unfolding begun
 returns-else-is_heard c =
     let a = c.args in
-    gives_last (record { edition = a.edition; request = a.request; sendings = 1; resting = false }) c.over.ensures _ _ _ c.send-length.ensures.value c.send-length.ensures.out_after
+    gives_last (waiting_for a.edition a.request (request_packet a.edition a.request ∷ [])) c.over.ensures _ _ _ c.send-length.ensures.value c.send-length.ensures.out_after
     (simp (sym c.is_heard.ensures ∙ c.if-is_heard.false))

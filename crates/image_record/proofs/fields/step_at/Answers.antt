@@ -1,4 +1,4 @@
-use mathlib.Core.Path.{◌≡◌, refl, sym, ap, subst, ◌∙◌}
+use mathlib.Core.Path.{◌≡◌, refl, sym, ap, ◌∙◌}
 use mathlib.Core.Bool.{Bool, true, false, cond}
 use mathlib.Core.List.{List}
 use Prim.Native.Nat.{ℕ, ◌+◌, ◌-◌, ◌≤◌, ◌<◌}
@@ -7,24 +7,19 @@ use borrow.Author.Tests.{le-ltb, lt-ltb, eq-eqb, ne_eqb}
 use lib.Dec.{eqb}
 use lib.ListN.{length, get_or, take, drop}
 use Rattle.settings.specs.declared.Profile.{Profile}
-use Rattle.codes.specs.declared.Found.{Found}
-use Rattle.settings.specs.Settings.{byte_count, row_count}
+use Rattle.std.proofs.Common.{Some}
+use Rattle.codes.specs.declared.Code.{Code}
+use Rattle.settings.specs.Settings.{byte_count}
 use Rattle.codes.specs.Found.{field_by}
 use Rattle.models.specs.Models.{allowed_for, model_in}
 use Rattle.settings.proofs.Laws.{place_fits}
-use Rattle.codes.proofs.Laws.{IsField, field_right}
 use Rattle.image_forms.specs.declared.Form.{Form}
 use Rattle.image_record.specs.declared.Step.{Step}
-use Rattle.image_record.specs.Field.{values_in, misplaced, field_of, step_at}
+use Rattle.image_record.specs.Field.{values_in, misplaced, step_at}
 use Rattle.image_record.proofs.fields.step_at.Goals as goal
 
 module _ (form : Form) (profile : Profile) (seen : List Bool) (values left : List ℕ) where
-  not_set : (f : Found) → ((row : ℕ) → f ≡ Found.Set row → ⊥) → Step.Broken ≡ field_of form profile f seen values left
-  not_set (Found.Set row) h = absurd (h row refl)
-  not_set (Found.Get row) h = refl
-  not_set Found.Nothing h = refl
-
-  module _ (row : ℕ) (n : eqb (length left) 0 ≡ false) (found : field_by (get_or left 0 0) ≡ Found.Set row) where
+  module _ (row : ℕ) (n : eqb (length left) 0 ≡ false) (found : field_by (get_or left 0 0) ≡ Some (Code.Set row)) where
     when_misplaced : misplaced form seen row ≡ true → Step.Broken ≡ step_at form profile seen values left
     unfolding step_at
     when_misplaced s = simp (n, found) (rw s)
@@ -50,27 +45,16 @@ returns-then-n-eq0 c = simp (eq-eqb _ _ c.if-n-eq0.true)
 
 pub returns-in_default : goal.returns-in_default
 unfolding step_at
-returns-in_default c =
-    let some : eqb (length c.args.left.now) 0 ≡ false = ne_eqb _ _ c.if-n-eq0.false in
-    let a = c.args in
-    rw (some, ← c.field_by-found.ensures) (not_set a.form a.profile a.seen.now a.values.now a.left.now c.field_by-found.result c.in_default.not-Set)
+returns-in_default c = rw (ne_eqb _ _ c.if-n-eq0.false, ← c.field_by-found.ensures, c.in_default.is) refl
 
-pub byte_count-count-requires : goal.byte_count-count-requires
-byte_count-count-requires c =
-    let found : let a = c.args in field_by (get_or a.left.now 0 0) ≡ Found.Set c.in-Set.row = sym c.field_by-found.ensures ∙ c.in-Set.is in
-    let in_table : c.in-Set.row < row_count = (subst (IsField _) found (field_right _)).0 in
-    in_table
-
-pub is_misplaced-requires : goal.is_misplaced-requires
-is_misplaced-requires c =
-    let found : let a = c.args in field_by (get_or a.left.now 0 0) ≡ Found.Set c.in-Set.row = sym c.field_by-found.ensures ∙ c.in-Set.is in
-    let in_table : c.in-Set.row < row_count = (subst (IsField _) found (field_right _)).0 in
-    in_table
+pub returns-in_default-code : goal.returns-in_default-code
+unfolding step_at
+returns-in_default-code c = rw (ne_eqb _ _ c.if-n-eq0.false, ← c.field_by-found.ensures, c.in-Some.is, c.in_default-code.is) refl
 
 pub returns-then-is_misplaced : goal.returns-then-is_misplaced
 returns-then-is_misplaced c =
     let some : eqb (length c.args.left.now) 0 ≡ false = ne_eqb _ _ c.if-n-eq0.false in
-    let found : let a = c.args in field_by (get_or a.left.now 0 0) ≡ Found.Set c.in-Set.row = sym c.field_by-found.ensures ∙ c.in-Set.is in
+    let found : let a = c.args in field_by (get_or a.left.now 0 0) ≡ Some (Code.Set c.in-Set.row) = sym c.field_by-found.ensures ∙ c.in-Some.is ∙ ap Some c.in-Set.is in
     let here : (t : Bool) → c.is_misplaced.result ≡ t → let a = c.args in misplaced a.form a.seen.now c.in-Set.row ≡ t = λ t e. sym c.is_misplaced.ensures ∙ e in
     when_misplaced _ _ _ _ _ _ some found (here true c.if-is_misplaced.true)
 
@@ -80,38 +64,32 @@ overflow_add-count c = omega (arith, place_fits c.in-Set.row)
 pub returns-then-n-count : goal.returns-then-n-count
 returns-then-n-count c =
     let some : eqb (length c.args.left.now) 0 ≡ false = ne_eqb _ _ c.if-n-eq0.false in
-    let found : let a = c.args in field_by (get_or a.left.now 0 0) ≡ Found.Set c.in-Set.row = sym c.field_by-found.ensures ∙ c.in-Set.is in
+    let found : let a = c.args in field_by (get_or a.left.now 0 0) ≡ Some (Code.Set c.in-Set.row) = sym c.field_by-found.ensures ∙ c.in-Some.is ∙ ap Some c.in-Set.is in
     let here : (t : Bool) → c.is_misplaced.result ≡ t → let a = c.args in misplaced a.form a.seen.now c.in-Set.row ≡ t = λ t e. sym c.is_misplaced.ensures ∙ e in
     when_cut _ _ _ _ _ _ some found (here false c.if-is_misplaced.false)
-    (omega (arith, c.if-n-count.true, c.byte_count-count.ensures))
+    (omega (arith, c.if-n-count.true, c.byte_count-count.ensures.count))
 
 pub returns-then-left-count : goal.returns-then-left-count
 returns-then-left-count c =
     let some : eqb (length c.args.left.now) 0 ≡ false = ne_eqb _ _ c.if-n-eq0.false in
-    let found : let a = c.args in field_by (get_or a.left.now 0 0) ≡ Found.Set c.in-Set.row = sym c.field_by-found.ensures ∙ c.in-Set.is in
+    let found : let a = c.args in field_by (get_or a.left.now 0 0) ≡ Some (Code.Set c.in-Set.row) = sym c.field_by-found.ensures ∙ c.in-Some.is ∙ ap Some c.in-Set.is in
     let here : (t : Bool) → c.is_misplaced.result ≡ t → let a = c.args in misplaced a.form a.seen.now c.in-Set.row ≡ t = λ t e. sym c.is_misplaced.ensures ∙ e in
-    let n = c.byte_count-count.ensures in
+    let n = c.byte_count-count.ensures.count in
     when_other _ _ _ _ _ _ some found (here false c.if-is_misplaced.false)
     (omega (arith, c.if-n-count.false)) (λ e. c.if-left-count.true (e ∙ sym n))
-
-pub is_allowed-requires : goal.is_allowed-requires
-is_allowed-requires c =
-    let found : let a = c.args in field_by (get_or a.left.now 0 0) ≡ Found.Set c.in-Set.row = sym c.field_by-found.ensures ∙ c.in-Set.is in
-    let in_table : c.in-Set.row < row_count = (subst (IsField _) found (field_right _)).0 in
-    in_table
 
 pub returns-then-not-is_allowed : goal.returns-then-not-is_allowed
 returns-then-not-is_allowed c =
     let some : eqb (length c.args.left.now) 0 ≡ false = ne_eqb _ _ c.if-n-eq0.false in
-    let found : let a = c.args in field_by (get_or a.left.now 0 0) ≡ Found.Set c.in-Set.row = sym c.field_by-found.ensures ∙ c.in-Set.is in
+    let found : let a = c.args in field_by (get_or a.left.now 0 0) ≡ Some (Code.Set c.in-Set.row) = sym c.field_by-found.ensures ∙ c.in-Some.is ∙ ap Some c.in-Set.is in
     let here : (t : Bool) → c.is_misplaced.result ≡ t → let a = c.args in misplaced a.form a.seen.now c.in-Set.row ≡ t = λ t e. sym c.is_misplaced.ensures ∙ e in
-    let whole : (t : Bool) → c.is_allowed.result ≡ t → let row = c.in-Set.row in let a = c.args in cond t (Step.Field row) (Step.NotAllowed row) ≡ step_at a.form a.profile a.seen.now a.values.now a.left.now = λ t e. let a = c.args in let row = c.in-Set.row in let n = c.byte_count-count.ensures in let m : 2 + c.byte_count-count.result - 2 ≡ byte_count row = omega arith in let model = model_in a.profile a.values.now in let answer = c.is_allowed.ensures ∙ ap (λ (k : ℕ). allowed_for model row (take k (drop 2 a.left.now))) m in when_whole _ _ _ _ _ _ some found (here false c.if-is_misplaced.false) (omega (arith, c.if-n-count.false)) (c.if-left-count.false ∙ n) t (sym answer ∙ e) in
+    let whole : (t : Bool) → c.is_allowed.result ≡ t → let row = c.in-Set.row in let a = c.args in cond t (Step.Field row) (Step.NotAllowed row) ≡ step_at a.form a.profile a.seen.now a.values.now a.left.now = λ t e. let a = c.args in let row = c.in-Set.row in let n = c.byte_count-count.ensures.count in let m : 2 + c.byte_count-count.result - 2 ≡ byte_count row = omega arith in let model = model_in a.profile a.values.now in let answer = c.is_allowed.ensures ∙ ap (λ (k : ℕ). allowed_for model row (take k (drop 2 a.left.now))) m in when_whole _ _ _ _ _ _ some found (here false c.if-is_misplaced.false) (omega (arith, c.if-n-count.false)) (c.if-left-count.false ∙ n) t (sym answer ∙ e) in
     whole false (c.if-not-is_allowed.true)
 
 pub returns : goal.returns
 returns c =
     let some : eqb (length c.args.left.now) 0 ≡ false = ne_eqb _ _ c.if-n-eq0.false in
-    let found : let a = c.args in field_by (get_or a.left.now 0 0) ≡ Found.Set c.in-Set.row = sym c.field_by-found.ensures ∙ c.in-Set.is in
+    let found : let a = c.args in field_by (get_or a.left.now 0 0) ≡ Some (Code.Set c.in-Set.row) = sym c.field_by-found.ensures ∙ c.in-Some.is ∙ ap Some c.in-Set.is in
     let here : (t : Bool) → c.is_misplaced.result ≡ t → let a = c.args in misplaced a.form a.seen.now c.in-Set.row ≡ t = λ t e. sym c.is_misplaced.ensures ∙ e in
-    let whole : (t : Bool) → c.is_allowed.result ≡ t → let row = c.in-Set.row in let a = c.args in cond t (Step.Field row) (Step.NotAllowed row) ≡ step_at a.form a.profile a.seen.now a.values.now a.left.now = λ t e. let a = c.args in let row = c.in-Set.row in let n = c.byte_count-count.ensures in let m : 2 + c.byte_count-count.result - 2 ≡ byte_count row = omega arith in let model = model_in a.profile a.values.now in let answer = c.is_allowed.ensures ∙ ap (λ (k : ℕ). allowed_for model row (take k (drop 2 a.left.now))) m in when_whole _ _ _ _ _ _ some found (here false c.if-is_misplaced.false) (omega (arith, c.if-n-count.false)) (c.if-left-count.false ∙ n) t (sym answer ∙ e) in
+    let whole : (t : Bool) → c.is_allowed.result ≡ t → let row = c.in-Set.row in let a = c.args in cond t (Step.Field row) (Step.NotAllowed row) ≡ step_at a.form a.profile a.seen.now a.values.now a.left.now = λ t e. let a = c.args in let row = c.in-Set.row in let n = c.byte_count-count.ensures.count in let m : 2 + c.byte_count-count.result - 2 ≡ byte_count row = omega arith in let model = model_in a.profile a.values.now in let answer = c.is_allowed.ensures ∙ ap (λ (k : ℕ). allowed_for model row (take k (drop 2 a.left.now))) m in when_whole _ _ _ _ _ _ some found (here false c.if-is_misplaced.false) (omega (arith, c.if-n-count.false)) (c.if-left-count.false ∙ n) t (sym answer ∙ e) in
     whole true (c.if-not-is_allowed.false)

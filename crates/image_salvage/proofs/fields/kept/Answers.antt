@@ -11,7 +11,7 @@ use Rattle.image_forms.specs.declared.Form.{Form}
 use Rattle.image_record.specs.declared.Step.{Step}
 use Rattle.image_record.specs.declared.Stop.{Stop}
 use Rattle.image_record.specs.Run.{Run, run_from, stop_of}
-use Rattle.image_salvage.proofs.Loop.{Turn, begins, used_up, at_end, at_field, broken_inside, passed, passed_inside, broken_over, passed_turn}
+use Rattle.image_salvage.proofs.Loop.{Turn, begins, used_up, at_end, at_field, broken_inside, passed_inside, broken_over, passed_turn}
 use Rattle.image_salvage.proofs.fields.kept.Goals as goal
 
 -- The run over the fields that are left, and where it stopped.
@@ -57,32 +57,20 @@ bounds-bytes-at c =
     let r = ran t e.value e.seen_after e.values_after in
     omega (arith, r.there, passed_inside _ _ _ _ _ _ t c.loop-k-test.true (stopped r c.in-NotAllowed.is))
 
-pub bounds-seen-row : goal.bounds-seen-row
-bounds-seen-row c =
-    let t = c.loop-k.invariant in
-    let e = c.take_fields-stop.ensures in
-    (passed _ _ _ _ _ _ t c.loop-k-test.true (stopped (ran t e.value e.seen_after e.values_after) c.in-NotAllowed.is)).in_table
-
-pub byte_count-requires : goal.byte_count-requires
-byte_count-requires c =
-    let t = c.loop-k.invariant in
-    let e = c.take_fields-stop.ensures in
-    (passed _ _ _ _ _ _ t c.loop-k-test.true (stopped (ran t e.value e.seen_after e.values_after) c.in-NotAllowed.is)).in_table
-
 pub overflow_add-at-in-NotAllowed-2 : goal.overflow_add-at-in-NotAllowed-2
 overflow_add-at-in-NotAllowed-2 c =
     let t = c.loop-k.invariant in
     let e = c.take_fields-stop.ensures in
     let r = ran t e.value e.seen_after e.values_after in
-    omega (arith, c.byte_count.ensures, r.there, passed_inside _ _ _ _ _ _ t c.loop-k-test.true (stopped r c.in-NotAllowed.is))
+    omega (arith, c.byte_count.ensures.count, r.there, passed_inside _ _ _ _ _ _ t c.loop-k-test.true (stopped r c.in-NotAllowed.is))
 
 pub loop-k-preserved : goal.loop-k-preserved
 loop-k-preserved c =
     let t = c.loop-k.invariant in
     let e = c.take_fields-stop.ensures in
     let r = ran t e.value e.seen_after e.values_after in
-    passed_turn _ _ _ _ _ _ t c.loop-k-test.true r.there (stopped r c.in-NotAllowed.is) c.tell-next.ensures.lines_after c.tell-next.ensures.value c.byte_count.ensures
-    r.values_after r.seen_after
+    rw c.index.ensures.number (passed_turn _ _ _ _ _ _ t c.loop-k-test.true r.there (stopped r c.in-NotAllowed.is) c.tell-next.ensures.lines_after c.tell-next.ensures.value c.byte_count.ensures.count
+    r.values_after r.seen_after)
 
 pub bounds-bytes-at-in-Broken : goal.bounds-bytes-at-in-Broken
 bounds-bytes-at-in-Broken c =

@@ -1,5 +1,4 @@
 use mathlib.Core.Path.{◌≡◌, sym, ap, ap₂, ◌∙◌}
-use mathlib.Core.Bool.{true, false}
 use mathlib.Core.List.{List}
 use Prim.Native.Nat.{ℕ, ◌+◌, ◌-◌, ◌≤◌}
 use native.Mathlib.Omega.{arith}
@@ -7,7 +6,6 @@ use lib.ListN.{length, take, drop, length-drop}
 use lib.Seq.{take_all}
 use Rattle.std.specs.Prelude.{Some, None}
 use Rattle.lists.specs.Lists.{laid_at}
-use Rattle.panels.specs.declared.Panel.{Panel}
 use Rattle.image_forms.specs.Forms.{head_size}
 use Rattle.image_forms.proofs.Laws.{head_some}
 use Rattle.image_faults.specs.declared.Fault.{Fault}
@@ -28,31 +26,31 @@ pub returns-in_default : goal.returns-in_default
 unfolding faults_by record_by
 returns-in_default c =
     let a = c.args in
-    let unknown : head_in a.form (marked a.seen.now) a.bytes.now ≡ None = sym c.head_in-head.ensures ∙ c.in_default.is in
+    let unknown : head_in a.form (marked a.seen.now) a.bytes.now ≡ None = sym c.head_in.ensures ∙ c.in_default.is in
     record {
-      value = rw (unknown, lines_one a.number Fault.Dropped) (ap₂ {C = KeptRecord} (λ (p : Panel) (n : ℕ). record { kept = false; panel = p; next = n }) c.blank_panel-panel.ensures c.tell-next.ensures.value);
+      value = rw (unknown, lines_one a.number Fault.Dropped) (ap {B = KeptRecord} (λ (n : ℕ). record { panel = None; next = n }) c.tell-next.ensures.value);
       lines_after = rw (unknown, lines_one a.number Fault.Dropped) c.tell-next.ensures.lines_after;
     }
 
 pub slice_bounds-behind-count : goal.slice_bounds-behind-count
 slice_bounds-behind-count c =
     let a = c.args in
-    omega (arith, c.head_size.ensures, head-whole a.form (marked a.seen.now) a.bytes.now _ (sym c.head_in-head.ensures ∙ c.in-Some.is))
+    omega (arith, c.head_size.ensures, head-whole a.form (marked a.seen.now) a.bytes.now _ (sym c.head_in.ensures ∙ c.in-Some.is))
 
 pub slice_bounds-behind-start : goal.slice_bounds-behind-start
 slice_bounds-behind-start c =
     let a = c.args in
-    omega (arith, c.head_size.ensures, head-whole a.form (marked a.seen.now) a.bytes.now _ (sym c.head_in-head.ensures ∙ c.in-Some.is))
+    omega (arith, c.head_size.ensures, head-whole a.form (marked a.seen.now) a.bytes.now _ (sym c.head_in.ensures ∙ c.in-Some.is))
 
 pub bounds-bytes-0 : goal.bounds-bytes-0
 bounds-bytes-0 c =
     let a = c.args in
-    omega (arith, head-whole a.form (marked a.seen.now) a.bytes.now _ (sym c.head_in-head.ensures ∙ c.in-Some.is), head_some a.form)
+    omega (arith, head-whole a.form (marked a.seen.now) a.bytes.now _ (sym c.head_in.ensures ∙ c.in-Some.is), head_some a.form)
 
 pub bounds-bytes-1 : goal.bounds-bytes-1
 bounds-bytes-1 c =
     let a = c.args in
-    omega (arith, head-whole a.form (marked a.seen.now) a.bytes.now _ (sym c.head_in-head.ensures ∙ c.in-Some.is), head_some a.form)
+    omega (arith, head-whole a.form (marked a.seen.now) a.bytes.now _ (sym c.head_in.ensures ∙ c.in-Some.is), head_some a.form)
 
 pub returns : goal.returns
 unfolding faults_by record_by
@@ -60,13 +58,13 @@ returns c =
     let a = c.args in
     let bytes = a.bytes.now in
     let profile = c.in-Some.profile in
-    let known : head_in a.form (marked a.seen.now) bytes ≡ Some profile = sym c.head_in-head.ensures ∙ c.in-Some.is in
+    let known : head_in a.form (marked a.seen.now) bytes ≡ Some profile = sym c.head_in.ensures ∙ c.in-Some.is in
     let part = behind_head c.head_size.result (head_size a.form) bytes c.head_size.ensures (head-whole a.form (marked a.seen.now) bytes _ known) in
     let same = ap (kept_of a.form profile) part in
     let values = c.kept-fields.ensures.values_value ∙ ap (λ (k : Kept). k.values) same in
     let next = c.kept-fields.ensures.next_value ∙ ap (λ (k : Kept). a.from + length (lines_of a.number k.faults)) same in
     let laid = c.kept-fields.ensures.lines_after ∙ ap (λ (k : Kept). laid_at a.from (lines_of a.number k.faults) a.lines.now) same in
     record {
-      value = rw known (ap₂ {C = KeptRecord} (λ (vs : List ℕ) (n : ℕ). record { kept = true; panel = headed bytes profile vs; next = n }) values next);
+      value = rw known (ap₂ {C = KeptRecord} (λ (vs : List ℕ) (n : ℕ). record { panel = Some (headed bytes profile vs); next = n }) values next);
       lines_after = rw known laid;
     }

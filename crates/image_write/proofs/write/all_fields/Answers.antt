@@ -1,7 +1,8 @@
-use Rattle.std.proofs.Common.{rules, ◌≡◌, ℕ, ◌+◌, ◌≤◌, ◌<◌, List, length, take, ap, ◌∙◌, arith, add-one, length-append, length-take, length-drop}
+use Rattle.std.proofs.Common.{rules, ◌≡◌, ℕ, ◌+◌, ◌≤◌, ◌<◌, List, length, take, ap, sym, ◌∙◌, arith, add-one, length-append, length-take, length-drop}
 use mathlib.Core.List.{flatten}
 use Rattle.settings.specs.Settings.{row_count, value_count}
 use Rattle.lists.specs.Lists.{start_of, laid_over}
+use Rattle.lists.proofs.Each.{in_each}
 use Rattle.lists.proofs.Flat.{flat_more}
 use Rattle.image_forms.specs.declared.Form.{Form}
 use Rattle.image_write.specs.Written.{field_in, fields_of}
@@ -39,26 +40,31 @@ slice_bounds-field_in-start c =
 pub field_in-next-requires : goal.field_in-next-requires
 field_in-next-requires c =
     let (room, long) = fits c.args.form c.args.values.now (omega arith) _ _ _ _ (omega arith) c.loop-row.invariant.next c.loop-row.invariant.laid c.requires in
-    (omega arith, simp (length-take, length-drop) (omega arith))
+    let here = in_each (λ k. k) row_count c.row-item.result c.loop-row-test.true in
+    rw here (simp (length-take, length-drop) (omega arith))
 
 pub overflow_add-next : goal.overflow_add-next
 overflow_add-next c =
     let (room, long) = fits c.args.form c.args.values.now (omega arith) _ _ _ _ (omega arith) c.loop-row.invariant.next c.loop-row.invariant.laid c.requires in
-    omega arith
+    let here = in_each (λ k. k) row_count c.row-item.result c.loop-row-test.true in
+    let size = c.field_in-next.ensures.value ∙ ap (λ (k : ℕ). length (field_in c.args.form c.args.values.now k)) here in
+    omega (arith, size, room)
 
 pub loop-row-preserved : goal.loop-row-preserved
 loop-row-preserved c =
     let form = c.args.form in
     let values = c.args.values.now in
-    let row = c.loop-row.row in
+    let row = c.loop-row.row-index in
     let fields = fields_of form values in
     let here : row < length fields = omega (arith, fields-count form values) in
     let e = field_at form values {row = row} (omega arith) in
     let whole = fields-length form values (omega arith) in
+    let it = in_each (λ k. k) row_count c.row-item.result c.loop-row-test.true in
+    let long = c.field_in-next.ensures.value ∙ ap (λ (k : ℕ). length (field_in form values k)) it in
     record {
-      next = rw (add-one, flat_more fields row here, length-append (flatten (take row fields)), e) (omega arith);
-      laid = one_more fields row _ c.args.out.now _ _ here c.loop-row.invariant.next c.loop-row.invariant.laid (omega arith) (rw e c.field_in-next.ensures.out_after);
+      next = rw (add-one, flat_more fields row here, length-append (flatten (take row fields)), e) (omega (arith, long));
+      laid = one_more fields row _ c.args.out.now _ _ here c.loop-row.invariant.next c.loop-row.invariant.laid (omega arith) (rw (e ∙ sym (ap (λ (k : ℕ). field_in form values k) it)) c.field_in-next.ensures.out_after);
     }
 
 pub returns : goal.returns
-returns c = let all : c.loop-row.row ≡ row_count = omega arith in c.loop-row.invariant.laid ∙ rw (all, fields_all c.args.form c.args.values.now)
+returns c = let all : c.loop-row.row-index ≡ row_count = omega arith in c.loop-row.invariant.laid ∙ rw (all, fields_all c.args.form c.args.values.now)

@@ -10,7 +10,7 @@ returns-then-not-has_field-clause-out_after c = let none = sym c.has_field.ensur
 pub one_field-requires : goal.one_field-requires
 one_field-requires c =
     let long = field_has c.args.form c.args.values.now (omega arith) c.args.row (sym c.has_field.ensures ∙ c.if-not-has_field.false) in
-    (c.requires.0, omega arith)
+    omega arith
 
 pub overflow_add-result : goal.overflow_add-result
 overflow_add-result c =

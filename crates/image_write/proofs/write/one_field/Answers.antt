@@ -18,7 +18,7 @@ pub returns : goal.returns
 returns c =
     let row = c.args.row in
     let values = c.args.values.now in
-    let many : c.place_of-first.result + c.byte_count-count.result - c.place_of-first.result ≡ byte_count row = omega arith in
-    let own : c.copy_from_slice.new.self ≡ values_of row values = c.copy_from_slice.ensures.after ∙ rw (many, c.place_of-first.ensures) in
-    rw (own, c.set_code.ensures, c.byte_count-count.ensures)
+    let many : c.place-first.result + c.byte_count-count.result - c.place-first.result ≡ byte_count row = omega arith in
+    let own : c.copy_from_slice.new.self ≡ values_of row values = c.copy_from_slice.ensures.after ∙ rw (many, c.place-first.ensures) in
+    rw (own, c.set_code.ensures, c.byte_count-count.ensures.count)
     (headed _ _ _ _ c.args.out.now (omega arith) (omega (arith, length-values row values (omega arith))))

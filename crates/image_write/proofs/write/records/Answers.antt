@@ -1,10 +1,10 @@
+use Rattle.std.proofs.lemmas.List.{get_or_default}
 use Rattle.std.proofs.Common.{rules, ◌≡◌, ℕ, ◌+◌, ◌-◌, ◌*◌, ◌≤◌, ◌<◌, List, length, take, get_or, sym, ap, ◌∙◌, arith, length-take, length-drop}
 use mathlib.Core.List.{flatten}
 use borrow.Rule.Slice.PartMut.{mid_of, put_mid}
 use lib.ListN.{length-map}
 use lib.Seq.{take_all}
 use Rattle.lists.specs.Lists.{laid_over}
-use Rattle.lists.proofs.Places.{get_d_inside}
 use Rattle.settings.specs.Settings.{value_count}
 use Rattle.panels.specs.declared.Panel.{Panel}
 use Rattle.panels.specs.Wall.{Wall, panels_of, blank}
@@ -34,14 +34,14 @@ module _ (form : Form) (w : Wall) (good : GoodWall w) (k size : ℕ) (l out : Li
       (omega arith, long)
 
   full : (d : Panel) → length (get_or w k d).values ≡ value_count
-  full d = rw (get_d_inside w k d blank here) (good_at w good k here).full
+  full d = rw (get_or_default w k d blank here) (good_at w good k here).full
 
   more : (d : Panel) (last : List ℕ) → last ≡ laid_over (record_of form (get_or w k d)) (mid_of (size * k) (length out - size * k) out)
       → put_mid (size * k) (length out - size * k) out last ≡ laid_over (flatten (take (k + 1) (records_of form w))) l
   more d last e =
       let whole = records_long form w good in
       one_more (records_of form w) k (size * k) l out last (rw length-map here) start so_far (omega arith)
-      (e ∙ rw (record_at form w k here, get_d_inside w k d blank here))
+      (e ∙ rw (record_at form w k here, get_or_default w k d blank here))
 
 pub loop-k-init : goal.loop-k-init
 unfolding flatten laid_over

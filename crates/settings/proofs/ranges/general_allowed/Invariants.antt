@@ -11,7 +11,7 @@ abbrev pub rest : ℕ → List ℕ → ℕ → Bool
 rest row vs k = allowed_after ((setting row).allowed Profile.General) vs k
 
 abbrev pub invariant-loop-k : goal.invariant-loop-k
-invariant-loop-k l = (l.k ≤ byte_count l.row) × (rest l.row l.values 0 ≡ rest l.row l.values l.k)
+invariant-loop-k l = (l.k ≤ byte_count l.fn.row) × (rest l.fn.row l.values 0 ≡ rest l.fn.row l.values l.k)
 
 abbrev pub decreases-loop-k : goal.decreases-loop-k
-decreases-loop-k l = byte_count l.row - l.k
+decreases-loop-k l = byte_count l.fn.row - l.k

@@ -1,0 +1,2 @@
+-- `Places` says which values are the tiling's.
+mod Places

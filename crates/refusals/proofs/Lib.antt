@@ -1,2 +1,0 @@
--- `Sound` has that a refusal without a number refuses nothing.
-pub mod Sound
