@@ -10,12 +10,12 @@ use Rattle.packet.proofs.EachEdition.{head_few}
 use Rattle.packet.proofs.Packets.{packet_length}
 use Rattle.answers.specs.declared.Answer.{Answer}
 use Rattle.answers.specs.declared.Reply.{Reply}
-use Rattle.answers.specs.declared.Sent.{Sent}
+use Rattle.std.specs.Prelude.{Option, Some, None}
 use Rattle.answers.specs.Reply.{sent_by, sent_bytes, most_reported}
 
-abbrev pub bytes_sent : Sent → ℕ
-bytes_sent (Sent.Bytes n) = n
-bytes_sent Sent.NoRoom = 0
+abbrev pub bytes_sent : Option ℕ → ℕ
+bytes_sent (Some n) = n
+bytes_sent None = 0
 
 -- a report has at most 8 data bytes
 pub sent-few : (edition : Edition) (r : Reply) → length r.bytes ≡ most_reported → length (sent_bytes edition r) ≤ 12

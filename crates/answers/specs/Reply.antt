@@ -11,7 +11,7 @@ use Rattle.packet.specs.Control.{control_data}
 use Rattle.refusals.specs.Refusals.{no_room}
 use Rattle.answers.specs.declared.Answer.{Answer}
 use Rattle.answers.specs.declared.Reply.{Reply}
-use Rattle.answers.specs.declared.Sent.{Sent}
+use Rattle.std.specs.Prelude.{Option, Some, None}
 
 -- a report's data at its longest: the get code, and the values of the largest row
 abbrev pub most_reported : ℕ
@@ -38,13 +38,13 @@ unfoldable pub sent_bytes : Edition → Reply → List ℕ
 sent_bytes edition r = sent_by edition r.answer r.id (take r.count r.bytes)
 
 -- an answer needs room for any packet
-unfoldable pub sent_of : Edition → List ℕ → Reply → Sent
-sent_of edition out r = cond (leb longest (length out)) (Sent.Bytes (length (sent_bytes edition r))) Sent.NoRoom
+unfoldable pub sent_of : Edition → List ℕ → Reply → Option ℕ
+sent_of edition out r = cond (leb longest (length out)) (Some (length (sent_bytes edition r))) None
 
 -- its number, 0 where it is written
-abbrev pub refusal_number : Sent → ℕ
-refusal_number (Sent.Bytes n) = 0
-refusal_number Sent.NoRoom = no_room
+abbrev pub refusal_number : Option ℕ → ℕ
+refusal_number (Some n) = 0
+refusal_number None = no_room
 
 unfoldable pub output_of : Edition → List ℕ → Reply → List ℕ
 output_of edition out r = cond (leb longest (length out)) (laid_over (sent_bytes edition r) out) out

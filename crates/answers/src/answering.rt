@@ -4,7 +4,7 @@ ghost use Rattle.packet.specs.Packet.{group_id, packet_of, shortest, longest, mo
 ghost use Rattle.lists.specs.Lists.{laid_over};
 ghost use Rattle.answers.specs.Reply.{silence, word_from, sent_bytes, sent_of, output_of};
 
-use crate::{Answer, MOST_REPORTED, Reply, Sent};
+use crate::{Answer, MOST_REPORTED, Reply};
 use packet::{Control, Edition, GroupId, LONGEST, MonitorId};
 
 pub fn silence() -> Reply
@@ -29,29 +29,30 @@ pub fn word_from(id: MonitorId, word: Control) -> Reply
     }
 }
 
-fn send(edition: Edition, out: &mut [u8], id: MonitorId, d: &[u8]) -> Sent
+fn send(edition: Edition, out: &mut [u8], id: MonitorId, d: &[u8]) -> Option<usize>
     requires { (longest ≤ length out.old) × (length d.now ≤ most_data edition) }
-    ensures value { result ≡ Sent.Bytes (length d.now + shortest edition) }
+    ensures value { result ≡ Some (length d.now + shortest edition) }
     ensures out_after { out.new ≡ laid_over (packet_of edition id (group_id 0) d.now) out.old }
 {
     match packet::write_packet(edition, out, id, GroupId(0), d) {
-        Ok(n) => Sent::Bytes(n),
-        Err(_) => Sent::NoRoom,
+        Ok(n) => Some(n),
+        Err(_) => None,
     }
 }
 
-// The packet that goes out on a line of an edition, at the front of an output with room for any packet, of which the rest stays as it was.
-pub fn write_answer(edition: Edition, reply: Reply, out: &mut [u8]) -> Sent
+// The packet that goes out on a line of an edition, at the front of an output with room for any packet, of which the rest stays as it was:
+// how many bytes it has; none is written where there is no room.
+pub fn write_answer(edition: Edition, reply: Reply, out: &mut [u8]) -> Option<usize>
     ensures value { result ≡ sent_of edition out.old reply }
     ensures out_after { out.new ≡ output_of edition out.old reply }
 {
     if out.len() < LONGEST {
-        return Sent::NoRoom;
+        return None;
     }
     let answer = reply.answer;
     let id = reply.id;
     match answer {
-        Answer::Silence => Sent::Bytes(0),
+        Answer::Silence => Some(0),
         Answer::Word(word) => {
             let d = [0u8, word.into()];
             send(edition, out, id, &d)
@@ -75,7 +76,7 @@ pub(crate) fn put_answer(edition: Edition, reply: Reply, out: &mut [u8]) -> usiz
 {
     let sent = write_answer(edition, reply, out);
     match sent {
-        Sent::Bytes(n) => n,
-        Sent::NoRoom => 0,
+        Some(n) => n,
+        None => 0,
     }
 }

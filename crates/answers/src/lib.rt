@@ -29,6 +29,8 @@ pub enum Answer {
     Report,
 }
 
+// A control word or a report from the panel with an ID. A report's bytes stand in an array with their count beside, since there is no
+// heap and a reply is copied.
 #[derive(Clone, Copy)]
 pub struct Reply {
     pub answer: Answer,
@@ -38,7 +40,7 @@ pub struct Reply {
 }
 
 // What a packet asks of every addressed panel: a report of a row, its values to be stored in a row if the panel takes them,
-// or nothing that is available.
+// or nothing that is available. It is no Option of a code, which each use would have to match in two steps.
 #[derive(Clone, Copy)]
 enum Order {
     Report(Row),
@@ -63,7 +65,7 @@ pub struct Entry {
     pub panel: Panel,
 }
 
-// Places from the first on, up to the end.
+// Places from the first on, up to the end; std's Range is not copied, as a change is.
 #[derive(Clone, Copy)]
 pub struct Span {
     pub first: usize,
@@ -99,11 +101,4 @@ pub struct Played {
     pub table: Table,
     pub reply: Reply,
     pub damage: Option<Damage>,
-}
-
-// How many bytes went into the output, or it has no room for any packet.
-#[derive(Clone, Copy)]
-pub enum Sent {
-    Bytes(usize),
-    NoRoom,
 }

@@ -18,7 +18,6 @@ use Rattle.table_calls.specs.declared.Refusal.{Refusal}
 use Rattle.panels.specs.Wall.{Wall, blank, place_of, panels_of}
 use Rattle.panels.specs.Addressed.{reaches}
 use Rattle.table_calls.specs.Calls.{add_refusal, added, without, removed}
-use Rattle.answers.specs.declared.Sent.{Sent}
 use Rattle.answers.specs.Reply.{sent_bytes, sent_of, refusal_number as answer_number, output_of as answer_output}
 use Rattle.answers.specs.Judged.{command}
 use Rattle.answers.specs.Played.{turned, answered_by, answered}
@@ -71,7 +70,7 @@ answer_alone edition out r = go (leb longest (length out))
   where
     go : (t : Bool)
         → let bytes = sent_bytes edition r in
-        let n = cond (eqb (answer_number (cond t (Sent.Bytes (length bytes)) Sent.NoRoom)) 0) (length bytes) 0 in
+        let n = cond (eqb (answer_number (cond t (Some (length bytes)) None)) 0) (length bytes) 0 in
         drop n (cond t (laid_over bytes out) out) ≡ drop n out
     go true = behind-over (sent_bytes edition r) out
     go false = refl

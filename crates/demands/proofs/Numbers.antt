@@ -23,7 +23,6 @@ use Rattle.packet.specs.Packet.{shortest, most_data as packet_data, written_of a
 use Rattle.table_calls.specs.declared.Refusal.{Refusal}
 use Rattle.panels.specs.Wall.{Wall, place_of}
 use Rattle.table_calls.specs.Calls.{number_of as table_number, add_refusal}
-use Rattle.answers.specs.declared.Sent.{Sent}
 use Rattle.answers.specs.Reply.{sent_bytes, sent_of, refusal_number as answer_number}
 use Rattle.requests.specs.declared.Request.{Request}
 use Rattle.requests.specs.declared.Said.{Said}
@@ -101,7 +100,7 @@ pub answer_number_lem : Answer
 unfolding sent_of
 answer_number_lem edition out r = go (leb 40 (length out))
   where
-    go : (t : Bool) → answer_number (cond t (Sent.Bytes (length (sent_bytes edition r))) Sent.NoRoom) ≡ cond t 0 19
+    go : (t : Bool) → answer_number (cond t (Some (length (sent_bytes edition r))) None) ≡ cond t 0 19
     go true = refl
     go false = refl
 

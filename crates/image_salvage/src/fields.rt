@@ -40,9 +40,7 @@ pub fn kept(
     let mut seen = [false; ROW_COUNT];
     let mut at = 0;
     let mut next = from;
-    let mut k = 0;
-    while k < MOST_FAULTS {
-        k += 1;
+    for _k in 0..MOST_FAULTS {
         let stop = image_record::take_fields(form, profile, &bytes[at..], &mut seen, &mut values);
         at += stop.taken;
         let step = stop.step;

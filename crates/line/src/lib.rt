@@ -17,7 +17,7 @@ use panels::Table;
 const PAST_LONGEST: usize = LONGEST + 1;
 
 // The line's edition; the first bytes since the last quiet mark, as many as a packet may have, and how many there were, up to one
-// more.
+// more: the count stands beside the array, since there is no heap and it goes on past the array's end.
 #[derive(Clone, Copy)]
 pub struct Receiver {
     edition: Edition,

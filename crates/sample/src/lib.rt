@@ -9,7 +9,7 @@ ghost use Rattle.answers.specs.Reply.{sent_bytes};
 ghost use Rattle.answers.specs.Played.{played};
 ghost use Rattle.sample.specs.Shown.{shown_of};
 
-use answers::{Reply, Sent};
+use answers::Reply;
 use packet::{Edition, GroupId, LONGEST, MonitorId};
 use panels::Table;
 use std::fmt;
@@ -69,7 +69,7 @@ impl fmt::Display for Answer {
     fn fmt<W: fmt::Write>(&self, f: &mut fmt::Formatter<W>) -> fmt::Result {
         let mut packet = [0u8; LONGEST];
         let sent = answers::write_answer(self.0, self.1, &mut packet);
-        let Sent::Bytes(n) = sent else {
+        let Some(n) = sent else {
             unreachable!();
         };
         f.write(Shown(text::front(&packet, n)))

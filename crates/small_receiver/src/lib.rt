@@ -23,7 +23,7 @@ const LONGEST_COMMAND: usize = HEAD_201 + 1 + MOST_VALUES + 1;
 const PAST_LONGEST: u8 = LONGEST as u8 + 1;
 
 // The first bytes since the last quiet mark, as many as the longest command has; how many came, up to one more than a packet may
-// have; and the XOR of all.
+// have; and the XOR of all. The count stands beside the array, since there is no heap and it goes on past the array's end.
 #[derive(Clone, Copy)]
 pub struct SmallReceiver {
     bytes: [u8; LONGEST_COMMAND],

@@ -9,16 +9,16 @@ use Rattle.packet.specs.declared.MonitorId.{MonitorId}
 use Rattle.packet.specs.declared.WriteError.{WriteError}
 use Rattle.packet.specs.Packet.{group_id, shortest, longest, most_data, written_of}
 use Rattle.packet.proofs.Packets.{packet_written_lem, packet_laid}
-use Rattle.answers.specs.declared.Sent.{Sent}
+use Rattle.std.specs.Prelude.{Option, Some, None}
 use Rattle.answers.proofs.answering.send.Goals as goal
 
 -- what the match makes of it
-abbrev passed_on : Result ℕ WriteError → Sent
-passed_on (Ok n) = Sent.Bytes n
-passed_on (Err e) = Sent.NoRoom
+abbrev passed_on : Result ℕ WriteError → Option ℕ
+passed_on (Ok n) = Some n
+passed_on (Err e) = None
 
 written : (edition : Edition) (out d : List ℕ) (id : MonitorId) (w : Result ℕ WriteError) → longest ≤ length out → length d ≤ most_data edition
-    → w ≡ written_of edition out d → passed_on w ≡ Sent.Bytes (length d + shortest edition)
+    → w ≡ written_of edition out d → passed_on w ≡ Some (length d + shortest edition)
 written edition out d id w room fits e = ap passed_on (e ∙ packet_written_lem edition out id (group_id 0) d room fits)
 
 pub returns-in-Ok-clause-value : goal.returns-in-Ok-clause-value

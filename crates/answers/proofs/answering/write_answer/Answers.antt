@@ -12,7 +12,7 @@ use Rattle.packet.proofs.EachEdition.{head_few}
 use Rattle.packet.proofs.Packets.{packet_length}
 use Rattle.answers.specs.declared.Answer.{Answer}
 use Rattle.answers.specs.declared.Reply.{Reply}
-use Rattle.answers.specs.declared.Sent.{Sent}
+use Rattle.std.specs.Prelude.{Option, Some, None}
 use Rattle.answers.specs.Reply.{sent_by, sent_bytes, sent_of, output_of, most_reported}
 use borrow.Author.Rules.{rules}
 use Rattle.answers.proofs.answering.write_answer.Goals as goal
@@ -25,7 +25,7 @@ by_answer edition r a e = ap (λ (x : Answer). sent_by edition x r.id (take r.co
 -- data that is sent is the answer
 answered : (edition : Edition) (out : List ℕ) (r : Reply) (d : List ℕ) → longest ≤ length out → length d ≤ most_data edition
     → sent_bytes edition r ≡ packet_of edition r.id (group_id 0) d
-    → (Sent.Bytes (length d + shortest edition) ≡ sent_of edition out r) × (laid_over (packet_of edition r.id (group_id 0) d) out ≡ output_of edition out r)
+    → (Some (length d + shortest edition) ≡ sent_of edition out r) × (laid_over (packet_of edition r.id (group_id 0) d) out ≡ output_of edition out r)
 unfolding sent_of output_of
 answered edition out r d h m e =
     (simp (le-leb _ _ h, e, packet_length edition r.id (group_id 0) d m), simp (le-leb _ _ h, e))

@@ -5,7 +5,4 @@ use Rattle.image_salvage.proofs.fields.kept.Given as goal
 
 -- What is left comes to what the whole comes to.
 abbrev pub invariant-loop-k : goal.invariant-loop-k
-invariant-loop-k l = Turn l.form l.profile l.number l.bytes l.initial.lines l.from l.lines l.values l.seen l.at l.next l.k
-
-abbrev pub decreases-loop-k : goal.decreases-loop-k
-decreases-loop-k l = most_faults - l.k
+invariant-loop-k l = Turn l.form l.profile l.number l.bytes l.initial.lines l.from l.lines l.values l.seen l.at l.next l._k
