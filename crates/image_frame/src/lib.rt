@@ -14,21 +14,36 @@ use std::marker::Model;
 #[derive(Drop)]
 pub struct Frame<'a> {
     image: &'a [u8],
-    form: Form,
     count: usize,
 }
 
-// It is seen as the image's bytes; form and count stand beside them, so that they are read once.
+// It is seen as the image's bytes; the count stands beside them, so that it is read once.
 impl<'a> Model for Frame<'a> {
     ghost Value = { List ℕ };
 
     ghost view = { λ f. f.image.now };
 
-    ghost invariant = { λ f. (f.form ≡ form_of f.image.now) × (f.count ≡ count_of f.image.now) × IsFrame f.image.now };
+    ghost invariant = { λ f. (f.count ≡ count_of f.image.now) × IsFrame f.image.now };
+}
+
+// The form, by the last byte of an image that has one.
+pub fn form_of(image: &[u8]) -> Form
+    requires { 2 ≤ length image.now }
+    ensures { result ≡ form_of image.now }
+{
+    Form::try_from(image[image.len() - 1]).unwrap_or(Form::Two)
+}
+
+// The trailer's count, of an image of at least two bytes.
+pub fn count_of(image: &[u8]) -> usize
+    requires { 2 ≤ length image.now }
+    ensures { (result ≡ count_of image.now) × (result < 256) }
+{
+    usize::from(image[image.len() - 2])
 }
 
 // Where record k of n begins; behind the last record, the first byte of the starts.
-fn edge_at(image: &[u8], n: usize, k: usize) -> usize
+pub fn edge_at(image: &[u8], n: usize, k: usize) -> usize
     requires { (n ≡ count_of image.now) × (2 * n + 2 ≤ length image.now) }
     ensures { result ≡ edge image.now k }
 {
@@ -68,10 +83,10 @@ impl<'a> Frame<'a> {
         if len < 2 {
             return Err(Refusal::TooShort);
         }
-        let Ok(form) = Form::try_from(image[len - 1]) else {
+        let Ok(_) = Form::try_from(image[len - 1]) else {
             return Err(Refusal::OtherForm);
         };
-        let count = image[len - 2] as usize;
+        let count = count_of(image);
         if MOST_PANELS < count {
             return Err(Refusal::TooMany);
         }
@@ -81,14 +96,14 @@ impl<'a> Frame<'a> {
         if !starts_fit(image, count) {
             return Err(Refusal::Starts);
         }
-        Ok(Frame { image, form, count })
+        Ok(Frame { image, count })
     }
 
     // The form that the last byte says.
     pub fn form(&self) -> Form
         ensures { result ≡ form_of self.now }
     {
-        self.form
+        form_of(self.image)
     }
 
     // How many records there are.

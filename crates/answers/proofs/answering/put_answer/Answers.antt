@@ -8,7 +8,7 @@ use Rattle.packet.specs.declared.Edition.{Edition}
 use Rattle.packet.specs.Packet.{longest}
 use Rattle.lists.specs.Lists.{laid_over}
 use Rattle.answers.specs.declared.Reply.{Reply}
-use Rattle.std.specs.Prelude.{Option, Some, None}
+use Rattle.std.specs.Prelude.{Option, Some}
 use Rattle.answers.specs.Reply.{sent_bytes, sent_of, output_of}
 use Rattle.answers.proofs.Lengths.{bytes_sent, sent-few}
 use borrow.Author.Rules.{rules}

@@ -12,7 +12,7 @@ use Rattle.packet.proofs.EachEdition.{head_few}
 use Rattle.packet.proofs.Packets.{packet_length}
 use Rattle.answers.specs.declared.Answer.{Answer}
 use Rattle.answers.specs.declared.Reply.{Reply}
-use Rattle.std.specs.Prelude.{Option, Some, None}
+use Rattle.std.specs.Prelude.{Some}
 use Rattle.answers.specs.Reply.{sent_by, sent_bytes, sent_of, output_of, most_reported}
 use borrow.Author.Rules.{rules}
 use Rattle.answers.proofs.answering.write_answer.Goals as goal

@@ -1,11 +1,11 @@
-use mathlib.Core.Path.{◌≡◌, refl, sym, ap, ◌∙◌}
+use mathlib.Core.Path.{◌≡◌, sym, ap, ◌∙◌}
 use mathlib.Core.Bool.{cond}
 use mathlib.Core.List.{List}
 use Prim.Native.Nat.{ℕ, ◌+◌, ◌*◌, ◌≤◌}
 use borrow.Author.Tests.{le-ltb, lt-ltb}
 use lib.Dec.{ltb}
 use lib.ListN.{length}
-use Rattle.std.specs.Prelude.{Option, Some, None, Result, Ok, Err, unwrap_or, ok_or}
+use Rattle.std.specs.Prelude.{Option, Some, None, Result, Ok, Err, ok_or}
 use Rattle.std.specs.Result.{result_ok}
 use Rattle.panels.specs.Wall.{most_panels}
 use Rattle.refusals.specs.declared.Refusal.{Refusal}
@@ -36,27 +36,25 @@ returns-in_default c = simp (le-ltb _ _ c.if-len-lt2.false, by_number _ _ (sym c
 
 pub returns-then-count-gt-MOST_PANELS : goal.returns-then-count-gt-MOST_PANELS
 returns-then-count-gt-MOST_PANELS c =
-    sym (known _ c.if-len-lt2.false (by_number _ _ (sym c.try_from.ensures ∙ c.in-Ok.is)) ∙ simp (lt-ltb _ _ c.if-count-gt-MOST_PANELS.true))
+    sym (known _ c.if-len-lt2.false (by_number _ _ (sym c.try_from.ensures ∙ c.in-Ok.is)) ∙ rw (← c.count_of-count.ensures.0) (simp (lt-ltb _ _ c.if-count-gt-MOST_PANELS.true)))
 
 pub returns-then-len-count : goal.returns-then-len-count
 returns-then-len-count c =
     sym (known _ c.if-len-lt2.false (by_number _ _ (sym c.try_from.ensures ∙ c.in-Ok.is))
-    ∙ simp (le-ltb _ _ c.if-count-gt-MOST_PANELS.false, lt-ltb _ _ c.if-len-count.true))
+    ∙ rw (← c.count_of-count.ensures.0) (simp (le-ltb _ _ c.if-count-gt-MOST_PANELS.false, lt-ltb _ _ c.if-len-count.true)))
 
 pub returns-then-not-starts_fit : goal.returns-then-not-starts_fit
 returns-then-not-starts_fit c =
     sym (known _ c.if-len-lt2.false (by_number _ _ (sym c.try_from.ensures ∙ c.in-Ok.is))
-    ∙ simp (le-ltb _ _ c.if-count-gt-MOST_PANELS.false, le-ltb _ _ c.if-len-count.false, sym c.starts_fit.ensures ∙ c.if-not-starts_fit.true))
+    ∙ rw (← c.count_of-count.ensures.0) (simp (le-ltb _ _ c.if-count-gt-MOST_PANELS.false, le-ltb _ _ c.if-len-count.false, sym c.starts_fit.ensures ∙ c.if-not-starts_fit.true)))
 
 pub returns : goal.returns
 returns c =
     sym (known _ c.if-len-lt2.false (by_number _ _ (sym c.try_from.ensures ∙ c.in-Ok.is))
-    ∙ simp (le-ltb _ _ c.if-count-gt-MOST_PANELS.false, le-ltb _ _ c.if-len-count.false, sym c.starts_fit.ensures ∙ c.if-not-starts_fit.false))
+    ∙ rw (← c.count_of-count.ensures.0) (simp (le-ltb _ _ c.if-count-gt-MOST_PANELS.false, le-ltb _ _ c.if-len-count.false, sym c.starts_fit.ensures ∙ c.if-not-starts_fit.false)))
 
 pub invariant_of-result : goal.invariant_of-result
-invariant_of-result c =
-    let form = by_number _ _ (sym c.try_from.ensures ∙ c.in-Ok.is) in (
-      sym (ap (λ (o : Option Form). unwrap_or o Form.Two) form),
-      refl,
-      record { two = c.if-len-lt2.false; few = c.if-count-gt-MOST_PANELS.false; room = c.if-len-count.false; starts = sym c.starts_fit.ensures ∙ c.if-not-starts_fit.false },
-    )
+invariant_of-result c = (
+  c.count_of-count.ensures.0,
+  record { two = c.if-len-lt2.false; few = rw (← c.count_of-count.ensures.0) c.if-count-gt-MOST_PANELS.false; room = rw (← c.count_of-count.ensures.0) c.if-len-count.false; starts = sym c.starts_fit.ensures ∙ c.if-not-starts_fit.false },
+)

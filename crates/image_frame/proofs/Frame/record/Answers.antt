@@ -24,7 +24,7 @@ ends {image} {k} {start} {end} f h s e =
     }
 
 ends_of : (c : goal.After-result-1) → Ends c.self.inside.image.now c.args.k c.edge_at-start.result c.edge_at-end.result
-ends_of c = ends c.self.invariant.2 (rw c.self.view_is c.requires) c.edge_at-start.ensures c.edge_at-end.ensures
+ends_of c = ends c.self.invariant.1 (rw c.self.view_is c.requires) c.edge_at-start.ensures c.edge_at-end.ensures
 
 pub slice_bounds-result-count : goal.slice_bounds-result-count
 slice_bounds-result-count c = (ends_of c).rises
@@ -37,5 +37,5 @@ slice_bounds-result-end c = (ends_of c).inside
 
 pub returns : goal.returns
 returns c =
-    let e = ends c.self.invariant.2 (rw c.self.view_is c.requires) c.edge_at-start.ensures c.edge_at-end.ensures in
+    let e = ends c.self.invariant.1 (rw c.self.view_is c.requires) c.edge_at-start.ensures c.edge_at-end.ensures in
     e.is ∙ ap (λ (image : List ℕ). record_in image c.args.k) c.self.view_is

@@ -1,5 +1,3 @@
-use Prim.Native.Nat.{◌-◌}
-use Rattle.image_salvage.specs.Kept.{most_faults}
 use Rattle.image_salvage.proofs.Loop.{Turn}
 use Rattle.image_salvage.proofs.fields.kept.Given as goal
 
