@@ -9,7 +9,7 @@ ghost use Rattle.bursts.specs.Bursts.{bursts_in};
 pub fn count_of(b: u8) -> usize
     ensures { result ≡ b }
 {
-    usize::from(b)
+    b as usize
 }
 
 // The bursts of a list that stops inside none: the list from the first that is left on, and how many are left.

@@ -81,7 +81,7 @@ pub fn largest(kind: Kind) -> u8
     }
 }
 
-// Whether a number is one of those from 1 up to a last one; `(1..=last).contains(&n)` says no more.
+// Whether a number is one of those from 1 up to a last one.
 #[tactic(auto, unfolding(crate::specs::Walls::up_to))]
 fn up_to(last: u8, n: u8) -> bool
     ensures { result ≡ up_to last n }
