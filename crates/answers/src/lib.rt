@@ -7,10 +7,12 @@ mod playing;
 mod turning;
 
 pub use answering::write_answer;
+pub use judging::{is_stored, with_values};
 use packet::{Control, Damage, GroupId, MonitorId};
 use panels::{Panel, Table};
 pub use playing::{answered_on, hear, hear_on, play, store};
 use settings::{MOST_VALUES, Row};
+pub use turning::names_in;
 
 // A report's data at its longest: the get code, and the values of the largest row.
 pub const MOST_REPORTED: usize = MOST_VALUES + 1;

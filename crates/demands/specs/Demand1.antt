@@ -1,6 +1,6 @@
 -- Demand 1. That every function comes back without a fault is what the prover shows of each. The rest: a refusal changes neither
 -- table nor host nor a lent buffer, a bad burst changes no panel, and writing changes no byte but those written.
-use Rattle.std.specs.Prelude.{ℕ, ◌<◌, false, cond, ◌⊎◌, ◌≡◌, List, eqb, length, get_or, drop, Err, None}
+use Rattle.std.specs.Prelude.{ℕ, ◌<◌, false, cond, ◌⊎◌, ◌≡◌, List, eqb, length, get_or, drop, Ok, Err, None}
 use Rattle.packet.specs.declared.Edition.{Edition}
 use Rattle.packet.specs.declared.MonitorId.{MonitorId}
 use Rattle.packet.specs.declared.GroupId.{GroupId}
@@ -36,7 +36,9 @@ RemoveRefused = (w : Wall) (i : MonitorId) → (remove_refusal w i ≡ None → 
 
 -- a refused image gives its refusal, and no table
 abbrev pub ReadRefused : Type 0
-ReadRefused = (image : List ℕ) (r : ImageRefusal) → read_of image ≡ Err r → in_table (read_of image) ≡ Err r
+ReadRefused =
+    (image : List ℕ) (r : ImageRefusal) → read_of image ≡ Err r
+    → (in_table (read_of image) ≡ Err r) × ((t : Table) → in_table (read_of image) ≡ Ok t → ⊥)
 
 -- a refused call of the host leaves the host and the output as they were
 abbrev pub CallRefused : Type 0
