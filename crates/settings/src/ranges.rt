@@ -53,8 +53,9 @@ fn allowed_at(p: usize, range: Span, v: u8) -> bool
 fn general_allowed(row: Row, values: &[u8]) -> bool
     ensures { result ≡ in_ranges Profile.General row values.now }
 {
-    let first = row.place();
-    if values.len() != row.byte_count() {
+    let at = row.values();
+    let first = at.1 as usize;
+    if values.len() != at.0 as usize {
         return false;
     }
     let ranges = crate::numbers::the_table().ranges;

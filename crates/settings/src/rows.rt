@@ -74,7 +74,7 @@ impl Row {
         codes[self.number]
     }
 
-    fn values(self) -> Values
+    pub(crate) fn values(self) -> Values
         ensures table { (result.0 ≡ byte_count self) × (result.1 ≡ place self) }
         ensures below { self < row_count }
     {
