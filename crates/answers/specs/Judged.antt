@@ -1,8 +1,7 @@
 -- What one panel makes of a packet's data. 01, "Answering a burst", steps 4 and 5; "The settings"; 02, A1: by its own profile;
 -- A5: power off while off; A6: by its own kind, and by the wall that it has.
-use Rattle.std.specs.Prelude.{ℕ, Bool, cond, not, ◌&&◌, List, [], ◌∷◌, eqb, get_or}
+use Rattle.std.specs.Prelude.{ℕ, Bool, cond, not, ◌&&◌, List, [], ◌∷◌, eqb, get_or, Option, Some, None}
 use Rattle.lists.specs.Lists.{same}
-use Rattle.std.specs.Prelude.{Option, Some, None}
 use Rattle.codes.specs.declared.Code.{Code}
 use Rattle.settings.specs.Settings.{get_code, values_of, values_with, power_row, off}
 use Rattle.codes.specs.Found.{found_by}

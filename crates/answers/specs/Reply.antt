@@ -1,6 +1,6 @@
 -- An answer is silence, one of three control words, or a report. 01, "Answering a burst"; 02, A11: it goes out in the line's
 -- edition.
-use Rattle.std.specs.Prelude.{ℕ, ◌+◌, ◌-◌, cond, List, [], ◌++◌, leb, length, take, replicate}
+use Rattle.std.specs.Prelude.{ℕ, ◌+◌, ◌-◌, cond, List, [], ◌++◌, leb, length, take, replicate, Option, Some, None}
 use Rattle.settings.specs.Settings.{most_values}
 use Rattle.packet.specs.declared.Edition.{Edition}
 use Rattle.packet.specs.declared.MonitorId.{MonitorId}
@@ -11,7 +11,6 @@ use Rattle.packet.specs.Control.{control_data}
 use Rattle.refusals.specs.Refusals.{no_room}
 use Rattle.answers.specs.declared.Answer.{Answer}
 use Rattle.answers.specs.declared.Reply.{Reply}
-use Rattle.std.specs.Prelude.{Option, Some, None}
 
 -- a report's data at its longest: the get code, and the values of the largest row
 abbrev pub most_reported : ℕ

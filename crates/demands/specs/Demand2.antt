@@ -1,9 +1,8 @@
 -- Demand 2. Each burst gets exactly the answer that 01 gives: that is `played`, to which `answers::play` is proved
 -- equal. It goes by what is read of the burst, and what it never does is said here of every reading, and so of both editions.
-use Rattle.std.specs.Prelude.{Ok, ℕ, ◌≤◌, ◌<◌, true, ◌⊎◌, ◌≡◌, length, get_or, take, IsOk}
+use Rattle.std.specs.Prelude.{Ok, ℕ, ◌≤◌, ◌<◌, true, ◌⊎◌, ◌≡◌, length, get_or, take, IsOk, Some}
 use mathlib.Core.List.{List, [], ◌∷◌, map, Forall₂}
 use Rattle.settings.specs.declared.Profile.{Profile}
-use Rattle.std.specs.Prelude.{Some}
 use Rattle.codes.specs.declared.Code.{Code}
 use Rattle.settings.specs.Settings.{set_code, get_code, values_of, row_count, kind_row, tiling_row}
 use Rattle.codes.specs.Found.{found_by}

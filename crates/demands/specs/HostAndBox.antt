@@ -1,6 +1,5 @@
 -- Host and box on one line, of either edition. 01, "Host side"; 02, A11.
 use Rattle.std.specs.Prelude.{ℕ, zero, suc, ◌<◌, Bool, true, cond, not, ◌&&◌, ◌≡◌, List, [], ◌∷◌, map, eqb, length, get_or, replicate, Option, Some, None}
-use Rattle.std.specs.Prelude.{Option, Some, None}
 use Rattle.codes.specs.declared.Code.{Code}
 use Rattle.tiling.specs.Kinds.{in_wall}
 use Rattle.settings.specs.Settings.{values_of, tiling_row}

@@ -2,7 +2,6 @@
 use Rattle.std.specs.Prelude.{ℕ, ◌-◌, cond, ◌&&◌, ◌≡◌, List, [], ◌∷◌, leb, eqb, length, take, drop, Option, Some, None}
 use Rattle.lists.specs.Lists.{same}
 use Rattle.settings.specs.Settings.{get_code}
-use Rattle.std.specs.Prelude.{Option, Some, None}
 use Rattle.codes.specs.declared.Code.{Code}
 use Rattle.codes.specs.Found.{found_by}
 use Rattle.models.specs.Models.{allowed_for}

@@ -1,8 +1,7 @@
 -- Two rooms on one line: in what order they must send. 02, A10. All of it is said of bursts; add, remove and image reading between
 -- them are excepted, of which `AddExcepted` is an example. What one code sets is one setting, so that tiling is one.
-use Rattle.std.specs.Prelude.{ℕ, ◌<◌, Bool, false, cond, not, ◌&&◌, ◌||◌, ◌≡◌, eqb, length, get_or}
+use Rattle.std.specs.Prelude.{ℕ, ◌<◌, Bool, false, cond, not, ◌&&◌, ◌||◌, ◌≡◌, eqb, length, get_or, Some}
 use mathlib.Core.List.{List, [], ◌∷◌, ◌++◌, map, Memᴰ}
-use Rattle.std.specs.Prelude.{Some}
 use Rattle.codes.specs.declared.Code.{Code}
 use Rattle.codes.specs.Found.{found_by}
 use Rattle.packet.specs.declared.Edition.{Edition}

@@ -1,8 +1,7 @@
 -- The field at the front of a record's bytes, by the record's form and profile. 01, "Setup image, form 1", refusals 17 and 18;
 -- 02, A2 and A6: the kind is a field too, by which a tiling behind it is judged.
-use Rattle.std.specs.Prelude.{ℕ, ◌+◌, Bool, false, cond, not, ◌&&◌, ◌||◌, List, ltb, eqb, length, get_or, take, drop}
+use Rattle.std.specs.Prelude.{ℕ, ◌+◌, Bool, false, cond, not, ◌&&◌, ◌||◌, List, ltb, eqb, length, get_or, take, drop, Option, Some, None}
 use Rattle.settings.specs.declared.Profile.{Profile}
-use Rattle.std.specs.Prelude.{Option, Some, None}
 use Rattle.codes.specs.declared.Code.{Code}
 use Rattle.settings.specs.Settings.{byte_count, kind_row, tiling_row}
 use Rattle.codes.specs.Found.{field_by}

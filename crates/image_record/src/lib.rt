@@ -12,8 +12,8 @@ use image_forms::Form;
 use panels::ID_COUNT;
 use settings::{Profile, ROW_COUNT, Row, VALUE_COUNT};
 
-// Four states, and not a Result of an Option: both callers go by each of the four in one match.
-// What stands at the front of a record's bytes: a field of a row, one whose values are not allowed, a broken one, or the end.
+// What stands at the front of a record's bytes: a field of a row, one whose values are not allowed, a broken one, or the end. Four
+// states, and not a Result of an Option: both callers go by each of the four in one match.
 #[derive(Clone, Copy)]
 pub enum Step {
     Field(Row),
@@ -67,9 +67,8 @@ pub fn head_in(form: Form, bytes: &[u8], seen: &[bool; ID_COUNT]) -> Option<Prof
     profile_in(form, bytes)
 }
 
-// A loop, since where a step ends is known only from the step.
 // Takes the fields at the front of the bytes that are left, as long as they can be: each one's row is seen, and its values are
-// among those gathered.
+// among those gathered. A loop, since where a step ends is known only from the step.
 pub fn take_fields(
     form: Form,
     profile: Profile,

@@ -27,8 +27,8 @@ pub struct Salvaged {
     pub told: usize,
 }
 
-// The place of the next line is handed on: the text lies in the caller's array, since nothing here is allocated.
-// What is kept of a record's fields, and where the next line begins.
+// What is kept of a record's fields, and where the next line begins. The place is handed on: the text lies in the caller's array,
+// since nothing here is allocated.
 #[derive(Clone, Copy)]
 struct KeptFields {
     values: [u8; VALUE_COUNT],

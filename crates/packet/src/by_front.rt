@@ -63,7 +63,7 @@ fn verdict_by<S: FnOnce() -> u8>(edition: Edition, front: &[u8], count: usize, s
 }
 
 // The data bytes of a burst with any verdict, as far as its first bytes have them.
-fn data_by(edition: Edition, front: &[u8], verdict: Verdict) -> &[u8]
+pub fn data_by(edition: Edition, front: &[u8], verdict: Verdict) -> &[u8]
     ensures { result.now ≡ data_by edition front.now verdict }
 {
     let Verdict::Intact { count, .. } = verdict else {

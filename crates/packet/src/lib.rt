@@ -10,7 +10,7 @@ ghost use Rattle.packet.specs.Control.{control_byte};
 ghost use Rattle.packet.specs.Answered.{is_heard};
 ghost use Rattle.packet.specs.Packet.{damage_number, damage_in, written_of, output_of};
 
-pub use by_front::{read, read_by, seems_for};
+pub use by_front::{data_by, read, read_by, seems_for};
 pub use editions::{HEAD_201, SICP_201, UnknownEdition};
 
 // The bytes of the longest packet.
@@ -127,8 +127,8 @@ impl Verdict {
     }
 }
 
-// A packet at the front of out, of which the rest stays as it was, and its size. Where there is no group byte, the data or the checksum stands
-// in its place.
+// A packet at the front of out, of which the rest stays as it was, and its size. Where there is no group byte, the data or the
+// checksum stands in its place.
 pub fn write_packet(
     edition: Edition,
     out: &mut [u8],

@@ -1,6 +1,6 @@
 -- A request and its packet. 01, "Host side"; 02, A1 and A6: the profile and the kind of the panel that it asks come
 -- with it; A5: power off; A11: on 1.85 no group but 0.
-use Rattle.std.specs.Prelude.{ℕ, Bool, false, not, ◌&&◌, List, ◌∷◌, take, leb, eqb}
+use Rattle.std.specs.Prelude.{ℕ, Bool, false, not, ◌&&◌, List, ◌∷◌, take, leb, eqb, Option, Some, None}
 use Rattle.lists.specs.Lists.{same}
 use Rattle.settings.specs.declared.Profile.{Profile}
 use Rattle.tiling.specs.declared.Kind.{Kind}
@@ -11,7 +11,6 @@ use Rattle.models.specs.Models.{allowed_for, filled}
 use Rattle.models.specs.declared.Model.{Model}
 use Rattle.profiles.specs.declared.Video.{Video}
 use Rattle.profiles.specs.Video.{bytes_of}
-use Rattle.std.specs.Prelude.{Option, Some, None}
 use Rattle.codes.specs.declared.Code.{Code}
 use Rattle.packet.specs.declared.Edition.{Edition}
 use Rattle.packet.specs.declared.MonitorId.{MonitorId}

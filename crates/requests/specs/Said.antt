@@ -6,7 +6,6 @@ use Rattle.models.specs.declared.Model.{Model}
 use Rattle.settings.specs.Settings.{get_code}
 use Rattle.codes.specs.Found.{found_by}
 use Rattle.models.specs.Models.{allowed_for}
-use Rattle.std.specs.Prelude.{Option, Some, None}
 use Rattle.codes.specs.declared.Code.{Code}
 use Rattle.packet.specs.Control.{control_data}
 use Rattle.packet.specs.declared.Control.{Control}

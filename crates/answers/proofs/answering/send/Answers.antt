@@ -3,13 +3,12 @@ use mathlib.Core.Path.{◌≡◌, ap, ◌∙◌}
 use mathlib.Core.List.{List}
 use Prim.Native.Nat.{ℕ, ◌+◌, ◌≤◌}
 use lib.ListN.{length}
-use Rattle.std.specs.Prelude.{Result, Ok, Err}
+use Rattle.std.specs.Prelude.{Result, Ok, Err, Option, Some, None}
 use Rattle.packet.specs.declared.Edition.{Edition}
 use Rattle.packet.specs.declared.MonitorId.{MonitorId}
 use Rattle.packet.specs.declared.WriteError.{WriteError}
 use Rattle.packet.specs.Packet.{group_id, shortest, longest, most_data, written_of}
 use Rattle.packet.proofs.Packets.{packet_written_lem, packet_laid}
-use Rattle.std.specs.Prelude.{Option, Some, None}
 use Rattle.answers.proofs.answering.send.Goals as goal
 
 -- what the match makes of it
