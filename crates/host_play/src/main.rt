@@ -7,13 +7,13 @@ use packet::{Edition, LONGEST};
 use requests::Request;
 use settings::Profile;
 use std::io;
-use text::Hex;
+use text::Digits;
 use tiling::Kind;
 
 // Prints what has become of the request, and behind it a report's values.
 fn print_outcome(rt: &impl Print, outcome: Outcome, values: &[u8]) -> io::Result<()> {
     match outcome {
-        Outcome::Over(End::Report, _) => print!(rt; "{outcome} {}", Hex(values)),
+        Outcome::Over(End::Report, _) => print!(rt; "{outcome} {}", Digits(values)),
         _ => print!(rt; "{outcome}"),
     }
 }
@@ -23,7 +23,7 @@ fn show(rt: &impl Print, step: Step, out: &[u8]) -> io::Result<Host> {
     if step.length == 0 {
         print!(rt; "-")?;
     } else {
-        print!(rt; "{}", Hex(text::front(out, step.length)))?;
+        print!(rt; "{}", Digits(text::front(out, step.length)))?;
     }
     print!(rt; " ")?;
     let values = step.values;

@@ -6,12 +6,16 @@ ghost use Rattle.std.specs.Prelude.{◌≤◌, ◌<◌, length};
 ghost use Rattle.panels.specs.WellFormed.{WellFormed};
 
 use image_forms::Form;
+use image_write::LARGEST;
 use panels::Table;
 use std::io;
-use text::{Hex, Stop};
+use text::Stop;
 
 // The longest image of the input, whose length is two bytes, fits in it.
 const ROOM: usize = 65536;
+
+// The hex digits of the largest image.
+const MOST_DIGITS: usize = 2 * LARGEST;
 
 // Reads an image's length and the image into the front of buf, and answers the length, or where the input stopped. It stands beside
 // text::read_step, which reads a count of one byte: each clause of a function for both would have to speak of the count's bytes too.
@@ -31,6 +35,14 @@ fn read_image<R: io::Read>(reader: &mut R, buf: &mut [u8]) -> io::Result<Result<
     Ok(Ok(size))
 }
 
+// Put into digits first and written at once: printed as `text::Digits`, which goes digit by digit, an image took 1.5 to 2.3 times the
+// time.
+fn print_hex(rt: &impl Print, bytes: &[u8]) -> io::Result<()> {
+    let mut digits = [0u8; MOST_DIGITS];
+    let count = text::hex(bytes, &mut digits);
+    rt.write_all(text::front(&digits, count))
+}
+
 fn print_refusal(rt: &impl Print, number: u8) -> io::Result<()> {
     print!(rt; "refused {number}")
 }
@@ -41,7 +53,7 @@ fn print_image(rt: &impl Print, form: Form, t: Table) -> io::Result<()>
 {
     let mut out = image_write::room();
     match image_write::write_image(form, t, &mut out) {
-        Ok(n) => print!(rt; "{}", Hex(text::front(&out, n))),
+        Ok(n) => print_hex(rt, text::front(&out, n)),
         Err(refusal) => print_refusal(rt, refusal.into()),
     }
 }

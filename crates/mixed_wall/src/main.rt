@@ -14,7 +14,7 @@ use packet::{Edition, GroupId, LONGEST, MonitorId};
 use panels::{Panel, Table};
 use profiles::Video;
 use requests::Request;
-use sample::{Answer, Shown};
+use sample::{Answer, Bytes};
 use settings::{Profile, Row};
 use std::io;
 use tiling::Kind;
@@ -28,7 +28,7 @@ fn send(rt: &impl Print, t: Table, burst: &[u8]) -> io::Result<Table>
 {
     let played = answers::play(Edition::Sicp201, t, burst);
     let answer = Answer(Edition::Sicp201, played.reply);
-    println!(rt; "{} {answer}", Shown(burst))?;
+    println!(rt; "{} {answer}", Bytes(burst))?;
     Ok(played.table)
 }
 

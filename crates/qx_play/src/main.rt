@@ -5,7 +5,7 @@ use packet::LONGEST;
 use qx::{Packets, Reply};
 use requests::Request;
 use std::io;
-use text::Hex;
+use text::Digits;
 
 // Prints the packets that stand one behind the other, a space between two.
 fn print_packets(rt: &impl Print, packets: Packets, out: &[u8]) -> io::Result<()> {
@@ -14,7 +14,7 @@ fn print_packets(rt: &impl Print, packets: Packets, out: &[u8]) -> io::Result<()
         if k != 0 {
             print!(rt; " ")?;
         }
-        print!(rt; "{}", Hex(text::front(left, *size)))?;
+        print!(rt; "{}", Digits(text::front(left, *size)))?;
         left = left.get(*size..).unwrap_or(&[]);
     }
     println!(rt)

@@ -7,13 +7,13 @@ ghost use Rattle.panels.specs.WellFormed.{WellFormed};
 ghost use Rattle.answers.specs.Sample.{two_panels};
 ghost use Rattle.answers.specs.Reply.{sent_bytes};
 ghost use Rattle.answers.specs.Played.{played};
-ghost use Rattle.sample.specs.Shown.{shown_of};
+ghost use Rattle.sample.specs.Shown.{shown_of, shown_count, shown_over};
 
 use answers::Reply;
 use packet::{Edition, GroupId, LONGEST, MonitorId};
 use panels::Table;
 use std::fmt;
-use text::Hex;
+use text::Digits;
 
 pub fn two_panels() -> Table
     ensures { (result ≡ table_of two_panels) × WellFormed result }
@@ -45,17 +45,17 @@ pub fn reply_again(edition: Edition, burst: &[u8]) -> Reply
 
 // Bytes that print in upper-case hex, or as a dash where there are none.
 #[derive(Clone, Copy)]
-pub struct Shown<'a>(pub &'a [u8]);
+pub struct Bytes<'a>(pub &'a [u8]);
 
-impl fmt::Display for Shown<'_> {
-    ghost output = { λ shown. Some (shown_of shown.0.now) };
+impl fmt::Display for Bytes<'_> {
+    ghost output = { λ bytes. Some (shown_of bytes.0.now) };
 
     #[tactic(auto, using(std::proofs::lemmas::Bool::Decides::nat_tests))]
     fn fmt<W: fmt::Write>(&self, f: &mut fmt::Formatter<W>) -> fmt::Result {
         if self.0.is_empty() {
             return f.write_str("-");
         }
-        f.write(Hex(self.0))
+        f.write(Digits(self.0))
     }
 }
 
@@ -72,6 +72,34 @@ impl fmt::Display for Answer {
         let Some(n) = sent else {
             unreachable!();
         };
-        f.write(Shown(text::front(&packet, n)))
+        f.write(Bytes(text::front(&packet, n)))
     }
+}
+
+// Bytes in upper-case hex, or a dash where there are none, at the front of out; answers how many characters.
+pub fn shown(bytes: &[u8], out: &mut [u8]) -> usize
+    ensures value { result ≡ shown_count bytes.now out.old }
+    ensures out_after { out.new ≡ shown_over bytes.now out.old }
+{
+    if bytes.len() != 0 {
+        return text::hex(bytes, out);
+    }
+    if out.len() == 0 {
+        return 0;
+    }
+    out[0] = b'-';
+    1
+}
+
+// The bytes that go out for a reply on a line of an edition, shown.
+pub fn shown_answer(edition: Edition, reply: Reply, out: &mut [u8]) -> usize
+    ensures value { result ≡ shown_count (sent_bytes edition reply) out.old }
+    ensures out_after { out.new ≡ shown_over (sent_bytes edition reply) out.old }
+{
+    let mut packet = [0u8; LONGEST];
+    let sent = answers::write_answer(edition, reply, &mut packet);
+    let Some(n) = sent else {
+        return 0;
+    };
+    shown(text::front(&packet, n), out)
 }

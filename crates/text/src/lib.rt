@@ -2,10 +2,11 @@
 #![tactic(auto)]
 
 ghost use Rattle.std.specs.Prelude.{◌≡◌, ◌+◌, ◌≤◌, ◌<◌, ℕ, List, Some, IfOk, OnErr, length, take, drop};
+ghost use Rattle.std.specs.Fmt.{WritesOnOk};
 ghost use Rattle.std.specs.Io.KnownBytes.{Consumes, IsAtEnd};
 ghost use denote.Ref.{Bor, MutBor};
 ghost use Rattle.text.specs.Counts.{IsPrefixLen};
-ghost use Rattle.text.specs.Hex.{hex_of};
+ghost use Rattle.text.specs.Hex.{hex_of, hex_count, hex_over};
 ghost use Rattle.text.specs.Runs.{RunsTo};
 ghost use Rattle.text.specs.Steps.{TakesFewer, StepIn, TakesStep, longest_step, stop_word};
 
@@ -32,19 +33,56 @@ impl fmt::Display for Stop {
     }
 }
 
+// So many bytes are put into digits at a time.
+const PART: usize = 64;
+
+// The digits of a part, written at once.
+fn write_part<W: fmt::Write>(part: &[u8], f: &mut fmt::Formatter<W>) -> fmt::Result
+    requires { length part.now ≤ 64 }
+    ensures { WritesOnOk W.write_str_gives f.old result (hex_of part.now) f.new }
+{
+    let mut digits = [0u8; 2 * PART];
+    let n = hex(part, &mut digits);
+    let Ok(text) = str::from_utf8(front(&digits, n)) else {
+        unreachable!();
+    };
+    f.write_str(text)
+}
+
 // Bytes that print as two hex digits each.
 #[derive(Clone, Copy)]
-pub struct Hex<'a>(pub &'a [u8]);
+pub struct Digits<'a>(pub &'a [u8]);
 
-impl fmt::Display for Hex<'_> {
-    ghost output = { λ hex. Some (hex_of hex.0.now) };
+impl fmt::Display for Digits<'_> {
+    ghost output = { λ digits. Some (hex_of digits.0.now) };
 
+    // In parts, since a digit written by itself costs many times what it costs among others.
     fn fmt<W: fmt::Write>(&self, f: &mut fmt::Formatter<W>) -> fmt::Result {
-        for &b in self.0 {
-            write!(f, "{b:02X}")?;
+        let mut left = self.0;
+        while 0 < left.len() {
+            let (part, behind) = left.split_at(left.len().min(PART));
+            write_part(part, f)?;
+            left = behind;
         }
         Ok(())
     }
+}
+
+// Puts two hex digits for each byte at the front of out and answers how many; where they do not all fit, none.
+pub fn hex(bytes: &[u8], out: &mut [u8]) -> usize
+    ensures prefix_len { IsPrefixLen result out.new }
+    ensures value { result ≡ hex_count bytes.now out.old }
+    ensures out_after { out.new ≡ hex_over bytes.now out.old }
+{
+    if out.len() / 2 < bytes.len() {
+        return 0;
+    }
+    // Each digit by itself, so that the compiler can make many at once.
+    for (i, b) in bytes.iter().enumerate() {
+        out[2 * i] = hex_digits::digits(*b)[0];
+        out[2 * i + 1] = hex_digits::digits(*b)[1];
+    }
+    2 * bytes.len()
 }
 
 // The first n of some bytes, or all where there are fewer.

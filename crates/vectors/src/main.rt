@@ -3,13 +3,13 @@
 #![tactic(auto)]
 
 use packet::Edition;
-use sample::{Answer, Shown};
+use sample::{Answer, Bytes};
 use std::io;
 
 fn answer(rt: &impl Print, edition: Edition, burst: &[u8]) -> io::Result<()> {
     let first = Answer(edition, sample::reply_to(edition, burst));
     let second = Answer(edition, sample::reply_again(edition, burst));
-    println!(rt; " {} {first} {second}", Shown(burst))
+    println!(rt; " {} {first} {second}", Bytes(burst))
 }
 
 // A burst on a line that is opened with this number.
