@@ -1,10 +1,11 @@
 -- A fault's line: record number from 1 and refusal number in decimal, and for 17 and 18 the code as two upper-case hex digits,
 -- with single spaces between, ended by a line feed. 02, A7.
-use Rattle.std.specs.Prelude.{ℕ, ◌+◌, ◌/◌, ◌%◌, cond, List, [], ◌∷◌, ◌++◌, ltb, Option, None, Some}
+use Rattle.std.specs.Prelude.{ℕ, ◌+◌, ◌-◌, ◌/◌, ◌%◌, cond, List, [], ◌∷◌, ◌++◌, ltb, length, replicate, Option, None, Some}
 use Rattle.hex_digits.specs.Digits.{digit_of}
 use Rattle.refusals.specs.declared.Refusal.{Refusal}
 use Rattle.refusals.specs.Refusals.{refusal_number}
 use Rattle.image_faults.specs.declared.Fault.{Fault}
+use Rattle.image_faults.specs.declared.Line.{Line}
 
 abbrev pub space : ℕ
 space = 32
@@ -44,3 +45,7 @@ line_of number fault = decimal number ++ space ∷ (decimal (fault_number fault)
 -- how many bytes the longest has
 abbrev pub longest_line : ℕ
 longest_line = 9
+
+-- a line at the front of that many
+abbrev pub padded : List ℕ → Line
+padded line = record { bytes = line ++ replicate (longest_line - length line) 0; count = length line }

@@ -18,7 +18,7 @@ pub fn tell(number: u8, fault: Fault, lines: &mut [u8], at: usize) -> usize
     ensures lines_after { lines.new ≡ laid_at at (line_of number fault) lines.old }
 {
     let line = image_faults::line_of(number, fault);
-    at + lists::copy(line.as_slice(), &mut lines[at..])
+    at + lists::copy(&line.bytes[..line.count], &mut lines[at..])
 }
 
 // The values of a panel of a profile whose record, with this number and of this form, goes on with these bytes; its faults are
