@@ -45,10 +45,10 @@ pub fn allowed_by(row: Row, d: &[u8]) -> [bool; PROFILE_COUNT]
 }
 
 // Whether they turn off a panel that is off.
-fn off_already(p: Panel, row: Row, d: &[u8]) -> bool
+fn off_already(p: Panel, row: usize, d: &[u8]) -> bool
     ensures { result ≡ off_already row (drop 1 d.now) p }
 {
-    if row != Row::POWER {
+    if row != Row::POWER.index() {
         return false;
     }
     if d.len() != 2 {
@@ -84,7 +84,7 @@ fn stands(p: Panel, d: &[u8]) -> bool
 }
 
 // Whether a panel takes them: its own profile and kind allow them, and they do not turn it off while it is off.
-pub fn takes(p: Panel, row: Row, allowed: [bool; PROFILE_COUNT], d: &[u8]) -> bool
+pub fn takes(p: Panel, row: usize, allowed: [bool; PROFILE_COUNT], d: &[u8]) -> bool
     requires { allowed ≡ allowed_by row (drop 1 d.now) }
     ensures { result ≡ takes row (drop 1 d.now) p }
 {
@@ -93,14 +93,20 @@ pub fn takes(p: Panel, row: Row, allowed: [bool; PROFILE_COUNT], d: &[u8]) -> bo
     if !allowed[number] {
         return false;
     }
-    if row == Row::TILING {
+    if row == Row::TILING.index() {
         return stands(p, d);
     }
     !off_already(p, row, d)
 }
 
-// Whether a panel is addressed and takes them.
-pub fn is_stored(p: Panel, names: Names, row: Row, allowed: [bool; PROFILE_COUNT], d: &[u8]) -> bool
+// Whether a panel is addressed and takes them. It takes any row number, as what it says does.
+pub fn is_stored(
+    p: Panel,
+    names: Names,
+    row: usize,
+    allowed: [bool; PROFILE_COUNT],
+    d: &[u8],
+) -> bool
     requires { allowed ≡ allowed_by row (drop 1 d.now) }
     ensures { result ≡ is_stored names row (drop 1 d.now) p }
 {

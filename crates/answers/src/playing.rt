@@ -34,7 +34,7 @@ pub fn store(t: &mut Table, change: Change, d: &[u8])
 {
     let row = change.row;
     for p in &mut t.panels[change.span.first..change.span.end] {
-        if judging::is_stored(*p, change.names, row, change.allowed, d) {
+        if judging::is_stored(*p, change.names, row.index(), change.allowed, d) {
             *p = judging::with_values(*p, row, d);
         }
     }

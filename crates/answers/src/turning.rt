@@ -102,7 +102,7 @@ fn reply_from(p: Panel, order: &Order, allowed: [bool; PROFILE_COUNT], d: &[u8])
     match *order {
         Order::Report(row) => judging::report_of(p, row),
         Order::Store(row) => {
-            if judging::takes(p, row, allowed, d) {
+            if judging::takes(p, row.index(), allowed, d) {
                 return answering::word_from(id, Control::Ack);
             }
             answering::word_from(id, Control::Nav)

@@ -11,7 +11,6 @@ use Rattle.lists.specs.Lists.{same}
 use Rattle.lists.proofs.Same.{same_first, same-other}
 use Rattle.settings.specs.Settings.{settings, allowed_by_row, place, power_row, off}
 use Rattle.panels.specs.declared.Panel.{Panel}
-use Rattle.settings.proofs.Laws.{ne_same, ne_other}
 use Rattle.answers.specs.Judged.{off_already}
 use Rattle.answers.proofs.Orders.{is_off}
 use Rattle.answers.proofs.judging.off_already.Goals as goal
@@ -44,13 +43,13 @@ first : place power_row ≡ 1
 unfolding settings allowed_by_row flatten
 first = refl
 
-pub returns-then-ne : goal.returns-then-ne
-returns-then-ne c = sym (other_row _ _ _ (ne_other c.ne.ensures c.if-ne.true))
+pub returns-then-row-index : goal.returns-then-row-index
+returns-then-row-index c = sym (other_row _ _ _ (λ e. c.if-row-index.true (e ∙ sym c.index.ensures.number)))
 
 pub returns-then-d-ne2 : goal.returns-then-d-ne2
 returns-then-d-ne2 c =
     let a = c.args in
-    sym (other-values _ _ _ (ne_same c.ne.ensures c.if-ne.false) (sets_other a.d.now c.if-d-ne2.true))
+    sym (other-values _ _ _ (c.if-row-index.false ∙ c.index.ensures.number) (sets_other a.d.now c.if-d-ne2.true))
 
 pub bounds-values-place : goal.bounds-values-place
 bounds-values-place c =
@@ -62,10 +61,10 @@ returns-then-d-eq-OFF c =
     let at_first : c.place.result ≡ place power_row = c.place.ensures in
     let a = c.args in
     let to = sets_off a.d.now c.if-d-ne2.false ∙ eq-eqb _ 1 c.if-d-eq-OFF.true in
-    ap (λ (n : ℕ). eqb (get_or a.p.values n 0) 1) at_first ∙ sym (power _ _ _ (ne_same c.ne.ensures c.if-ne.false) to)
+    ap (λ (n : ℕ). eqb (get_or a.p.values n 0) 1) at_first ∙ sym (power _ _ _ (c.if-row-index.false ∙ c.index.ensures.number) to)
 
 pub returns-else-d-eq-OFF : goal.returns-else-d-eq-OFF
 returns-else-d-eq-OFF c =
     let a = c.args in
     let differs = ne_eqb (get_or a.d.now 1 0) 1 c.if-d-eq-OFF.false in
-    differs ∙ sym (other-values _ _ _ (ne_same c.ne.ensures c.if-ne.false) (sets_off a.d.now c.if-d-ne2.false ∙ differs))
+    differs ∙ sym (other-values _ _ _ (c.if-row-index.false ∙ c.index.ensures.number) (sets_off a.d.now c.if-d-ne2.false ∙ differs))

@@ -8,7 +8,7 @@ use lib.Dec.{eqb}
 use lib.ListN.{get_or, drop, length-drop}
 use Rattle.settings.specs.declared.Profile.{Profile}
 use Rattle.settings.specs.Settings.{settings, in_ranges, values_of, tiling_row}
-use Rattle.settings.proofs.Laws.{ranges_many, eq_same, eq_other}
+use Rattle.settings.proofs.Laws.{ranges_many}
 use Rattle.models.proofs.Filled.{filled-other, ranges_filled}
 use Rattle.settings.specs.Profiles.{profile_number}
 use Rattle.panels.specs.declared.Panel.{Panel}
@@ -57,16 +57,16 @@ stands-requires c =
     let here : let a = c.args in in_ranges a.p.profile a.row (drop 1 a.d.now) ≡ get_or a.allowed c.from-number.result false = let a = c.args in sym (own a.p.profile a.row (drop 1 a.d.now)) ∙ ap₂ (λ (l : List Bool) (n : ℕ). get_or l n false) (sym c.requires) (sym c.from-number.ensures) in
     let allowed : let a = c.args in in_ranges a.p.profile a.row (drop 1 a.d.now) ≡ true = here ∙ c.if-not-allowed-number.false in
     let a = c.args in
-    let many = ranges_many a.p.profile tiling_row (drop 1 a.d.now) (ap (λ (r : ℕ). in_ranges a.p.profile r (drop 1 a.d.now)) (sym (eq_same c.eq.ensures c.if-eq.true)) ∙ allowed) in
+    let many = ranges_many a.p.profile tiling_row (drop 1 a.d.now) (ap (λ (r : ℕ). in_ranges a.p.profile r (drop 1 a.d.now)) (sym (c.if-row-index.true ∙ c.index.ensures.number)) ∙ allowed) in
     omega (arith, rw length-drop at many)
 
-pub returns-then-eq : goal.returns-then-eq
-returns-then-eq c =
+pub returns-then-row-index : goal.returns-then-row-index
+returns-then-row-index c =
     let here : let a = c.args in in_ranges a.p.profile a.row (drop 1 a.d.now) ≡ get_or a.allowed c.from-number.result false = let a = c.args in sym (own a.p.profile a.row (drop 1 a.d.now)) ∙ ap₂ (λ (l : List Bool) (n : ℕ). get_or l n false) (sym c.requires) (sym c.from-number.ensures) in
     let allowed : let a = c.args in in_ranges a.p.profile a.row (drop 1 a.d.now) ≡ true = here ∙ c.if-not-allowed-number.false in
     let a = c.args in
     let vs = drop 1 a.d.now in
-    let is = (eq_same c.eq.ensures c.if-eq.true) in
+    let is = (c.if-row-index.true ∙ c.index.ensures.number) in
     c.stands.ensures
     ∙ sym (ap (λ (r : ℕ). takes r vs a.p) is ∙ tiling_says vs a.p ∙ rw (ap (λ (r : ℕ). in_ranges a.p.profile r vs) (sym is) ∙ allowed))
 
@@ -74,4 +74,4 @@ pub returns : goal.returns
 returns c =
     let here : let a = c.args in in_ranges a.p.profile a.row (drop 1 a.d.now) ≡ get_or a.allowed c.from-number.result false = let a = c.args in sym (own a.p.profile a.row (drop 1 a.d.now)) ∙ ap₂ (λ (l : List Bool) (n : ℕ). get_or l n false) (sym c.requires) (sym c.from-number.ensures) in
     let allowed : let a = c.args in in_ranges a.p.profile a.row (drop 1 a.d.now) ≡ true = here ∙ c.if-not-allowed-number.false in
-    ap not c.off_already.ensures ∙ sym (ranges_say _ _ _ (eq_other c.eq.ensures c.if-eq.false) ∙ rw allowed)
+    ap not c.off_already.ensures ∙ sym (ranges_say _ _ _ (λ e. c.if-row-index.false (e ∙ sym c.index.ensures.number)) ∙ rw allowed)

@@ -13,7 +13,7 @@ pub returns-then-takes : goal.returns-then-takes
 returns-then-takes c =
     let told : (o : Order) → c.args.order.now ≡ o → OrderIs c.args.d.now o = λ o e. subst (OrderIs _) (sym c.requires.0 ∙ e) (order_right _) in
     let store_is : command c.args.d.now ≡ set_of c.in-Store.row (drop 1 c.args.d.now) = (told _ c.in-Store.is).2 in
-    c.word_from.ensures ∙ by_judge _ (judge-set _ _ _ _ store_is (sym c.takes.ensures ∙ c.if-takes.true))
+    c.word_from.ensures ∙ by_judge _ (judge-set _ _ _ _ store_is (rw c.index.ensures.number at (sym c.takes.ensures ∙ c.if-takes.true)))
 
 pub returns-in-Report : goal.returns-in-Report
 returns-in-Report c =
@@ -24,7 +24,7 @@ pub returns-else-takes : goal.returns-else-takes
 returns-else-takes c =
     let told : (o : Order) → c.args.order.now ≡ o → OrderIs c.args.d.now o = λ o e. subst (OrderIs _) (sym c.requires.0 ∙ e) (order_right _) in
     let store_is : command c.args.d.now ≡ set_of c.in-Store.row (drop 1 c.args.d.now) = (told _ c.in-Store.is).2 in
-    c.word_from-in-Store.ensures ∙ by_judge _ (judge_not _ _ _ _ store_is (sym c.takes.ensures ∙ c.if-takes.false))
+    c.word_from-in-Store.ensures ∙ by_judge _ (judge_not _ _ _ _ store_is (rw c.index.ensures.number at (sym c.takes.ensures ∙ c.if-takes.false)))
 
 pub returns-in-NotAvailable : goal.returns-in-NotAvailable
 returns-in-NotAvailable c =
