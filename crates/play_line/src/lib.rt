@@ -3,10 +3,13 @@
 #![tactic(auto)]
 
 ghost use Rattle.std.specs.Prelude.{◌≡◌, IfOk};
+ghost use Rattle.packet.specs.declared.Edition.{Edition};
+ghost use Rattle.packet.specs.Reading.{reading_of};
 ghost use Rattle.panels.specs.WellFormed.{WellFormed};
+ghost use Rattle.answers.specs.Played.{answered_on};
 ghost use Rattle.play_line.specs.Played.{table_after, Ends};
 
-use line::LineReceiver;
+use line::{Heard, LineReceiver};
 use packet::Edition;
 use panels::Table;
 use sample::Answer;
@@ -19,7 +22,17 @@ struct Line<R> {
     table: Table,
 }
 
-// One burst: its bytes and a quiet mark go to the receiver. Prints its number, a space, and the answer.
+// The bytes of a burst, and a quiet mark.
+fn hear<R: LineReceiver>(line: Line<R>, burst: &[u8]) -> Heard<R>
+    requires { WellFormed line.table × R.is_open line.receiver }
+    ensures table { result.table ≡ table_after line.table burst.now }
+    ensures reply { result.reply ≡ (answered_on line.table (reading_of Edition.Sicp201 burst.now)).reply }
+    ensures open { WellFormed result.table × R.is_open result.receiver }
+{
+    line.receiver.bytes(burst).quiet(line.table)
+}
+
+// Plays one burst. Prints its number, a space, and the answer.
 fn answer<R: LineReceiver>(
     rt: &impl Print,
     line: Line<R>,
@@ -30,7 +43,7 @@ fn answer<R: LineReceiver>(
     ensures table { IfOk result (λ after. after.table ≡ table_after line.table burst.now) }
     ensures open { IfOk result (λ after. WellFormed after.table × R.is_open after.receiver) }
 {
-    let heard = line.receiver.bytes(burst).quiet(line.table);
+    let heard = hear(line, burst);
     let answer = Answer(Edition::Sicp201, heard.reply);
     println!(rt; "{number} {answer}")?;
     Ok(Line {
