@@ -1,8 +1,8 @@
 -- What a list of answers says, answer by answer. Assumes nothing.
 use Prim.Native.Nat.{ℕ, ◌<◌}
-use mathlib.Core.Bool.{Bool, true, false, cond, and-false}
+use mathlib.Core.Bool.{Bool, true, false, cond, and-false, or-false, ◌||◌}
 use mathlib.Core.List.{List, [], ◌∷◌}
-use mathlib.Core.Path.{◌≡◌, refl}
+use mathlib.Core.Path.{◌≡◌, refl, ap}
 use native.Mathlib.Omega.{arith}
 use borrow.Author.Tests.{lt-ltb, eq-eqb, ne_eqb}
 use lib.Dec.{ltb}
@@ -15,7 +15,7 @@ use Rattle.qx.specs.declared.Reply.{Reply}
 use Rattle.qx.specs.declared.NoAnswer.{NoAnswer}
 use Rattle.qx.specs.declared.Asked.{Asked}
 use Rattle.qx.specs.Asked.{data_for, codes_for}
-use Rattle.qx.specs.Replies.{Answer, replies_to, is_ack, any_wrong, first_other, joined, answers_all, heard_in}
+use Rattle.qx.specs.Replies.{Answer, wrong, replies_to, is_wrong, is_ack, any_wrong, first_other, joined, answers_all, heard_in}
 
 -- one reply is all that is said
 pub alone : (r : Answer) → joined (r ∷ []) ≡ r
@@ -25,6 +25,37 @@ alone (Ok Reply.Nack) = refl
 alone (Ok Reply.Nav) = refl
 alone (Ok (Reply.Report v)) = refl
 alone (Err e) = refl
+
+pub joined_two : (a b : Answer) → joined (a ∷ b ∷ []) ≡ cond (is_wrong b) wrong (cond (is_ack a) b a)
+unfolding joined any_wrong first_other
+joined_two (Ok Reply.Ack) (Ok Reply.Ack) = refl
+joined_two (Ok Reply.Ack) (Ok Reply.Nack) = refl
+joined_two (Ok Reply.Ack) (Ok Reply.Nav) = refl
+joined_two (Ok Reply.Ack) (Ok (Reply.Report v)) = refl
+joined_two (Ok Reply.Ack) (Err e) = refl
+joined_two (Ok Reply.Nack) b = rw (or-false (is_wrong b))
+joined_two (Ok Reply.Nav) b = rw (or-false (is_wrong b))
+joined_two (Ok (Reply.Report v)) b = rw (or-false (is_wrong b))
+joined_two (Err e) b = go (is_wrong b)
+  where
+    go : (t : Bool) → wrong ≡ cond t wrong wrong
+    go true = refl
+    go false = refl
+
+-- the first two may be joined before the others
+other_first : (a : Answer) (t : Bool) (rs : List Answer) → is_wrong a ≡ false → is_ack a ≡ false
+    → joined (cond (t || false) wrong a ∷ rs) ≡ cond (t || any_wrong rs) wrong a
+unfolding joined any_wrong first_other
+other_first a true rs w k = refl
+other_first a false rs w k = rw (w, k)
+
+pub joined_on : (a b : Answer) (rs : List Answer) → joined (joined (a ∷ b ∷ []) ∷ rs) ≡ joined (a ∷ b ∷ rs)
+unfolding joined any_wrong first_other
+joined_on (Ok Reply.Ack) b rs = ap (λ (r : Answer). joined (r ∷ rs)) (alone b)
+joined_on (Ok Reply.Nack) b rs = other_first (Ok Reply.Nack) (is_wrong b) rs refl refl
+joined_on (Ok Reply.Nav) b rs = other_first (Ok Reply.Nav) (is_wrong b) rs refl refl
+joined_on (Ok (Reply.Report v)) b rs = other_first (Ok (Reply.Report v)) (is_wrong b) rs refl refl
+joined_on (Err e) b rs = refl
 
 -- the first of two that are replies may go in front of the others
 pub joined_first : (a b : Reply) (rs : List Answer) → joined (Ok (cond (is_ack (Ok a)) b a) ∷ rs) ≡ joined (Ok a ∷ Ok b ∷ rs)

@@ -1,6 +1,6 @@
 -- What the parts of a call leave together. Assumes nothing.
 use mathlib.Core.Path.{◌≡◌, sym, ap, ◌∙◌}
-use mathlib.Core.Bool.{true, false, ◌&&◌, false≢true}
+use mathlib.Core.Bool.{Bool, true, false, ◌&&◌, false≢true}
 use mathlib.Core.List.{List}
 use Prim.Native.Nat.{ℕ, ◌+◌, ◌*◌, ◌≤◌}
 use borrow.Author.Tests.{leb-true}
@@ -29,6 +29,8 @@ use Rattle.image_write.proofs.Losing.{two_holds}
 use Rattle.refusals.specs.Refusals.{refusal_number, no_room, unknown_edition, would_lose}
 use Rattle.image_read.specs.Read.{read_of, in_table}
 use Rattle.image_read.proofs.Sound.{read_formed}
+use Rattle.undivarro.specs.declared.Refused.{Refused}
+use Rattle.undivarro.specs.Private.Refused.{refused_number}
 use Rattle.undivarro.specs.Calls.{After, refused, given, after_burst, after_setup, after_on}
 
 -- what was read of an image, by the table that the reader gives
@@ -89,27 +91,34 @@ module _ (number least : ℕ) (image : List ℕ) (then : Edition → Wall → Af
   abbrev on_line : Wall → After
   on_line w = option_map_or (λ edition. then edition w) (edition_with number) (refused unknown_edition answer out)
 
-  pub line_refused : {r : Refusal} → in_table (read_of image) ≡ Err r → refused (refusal_number r) answer out ≡ after_on number least image then answer out
+  abbrev room_in : Table → Bool
+  room_in t = leb least (length answer) && leb (size_of Form.Two (panels_of t)) (length out)
+
+  -- Why it is refused: what is wrong with the setup, then the room, then the edition's number. A line's call loses nothing, and what
+  -- is wrong with a list is a part of what comes of it.
+  abbrev pub IsRefused : Refused → Type 0
+  IsRefused (Refused.Setup r) = in_table (read_of image) ≡ Err r
+  IsRefused Refused.WouldLose = ⊥
+  IsRefused Refused.NoRoom = (t : Table) × (in_table (read_of image) ≡ Ok t) × (room_in t ≡ false)
+  IsRefused Refused.UnknownEdition = (t : Table) × (in_table (read_of image) ≡ Ok t) × (room_in t ≡ true) × (edition_with number ≡ None)
+  IsRefused (Refused.List r) = ⊥
+
+  pub line_refused : (why : Refused) → IsRefused why → refused (refused_number why) answer out ≡ after_on number least image then answer out
   unfolding after_on
-  line_refused e = setup_refused Form.Two least image on_line answer out e
+  line_refused (Refused.Setup r) e = setup_refused Form.Two least image on_line answer out e
+  line_refused Refused.WouldLose h = absurd h
+  line_refused Refused.NoRoom (t, e, r) = setup_no_room Form.Two least image on_line answer out e (two_holds (panels_of t)) r
+  line_refused Refused.UnknownEdition (t, e, r, n) =
+      sym (ap (λ (o : Option Edition). option_map_or (λ edition. then edition (panels_of t)) o (refused unknown_edition answer out)) n)
+      ∙ setup_taken Form.Two least image on_line answer out e (two_holds (panels_of t)) r
+  line_refused (Refused.List r) h = absurd h
 
-  module _ {t : Table} (e : in_table (read_of image) ≡ Ok t) where
-    pub line_no_room : (leb least (length answer) && leb (size_of Form.Two (panels_of t)) (length out)) ≡ false → refused no_room answer out ≡ after_on number least image then answer out
+  module _ {t : Table} (e : in_table (read_of image) ≡ Ok t) (r : room_in t ≡ true) where
+    pub line_taken : {edition : Edition} → edition_with number ≡ Some edition → then edition (panels_of t) ≡ after_on number least image then answer out
     unfolding after_on
-    line_no_room r = setup_no_room Form.Two least image on_line answer out e (two_holds (panels_of t)) r
-
-    module _ (r : (leb least (length answer) && leb (size_of Form.Two (panels_of t)) (length out)) ≡ true) where
-      pub line_unknown : edition_with number ≡ None → refused unknown_edition answer out ≡ after_on number least image then answer out
-      unfolding after_on
-      line_unknown n =
-          sym (ap (λ (o : Option Edition). option_map_or (λ edition. then edition (panels_of t)) o (refused unknown_edition answer out)) n)
-          ∙ setup_taken Form.Two least image on_line answer out e (two_holds (panels_of t)) r
-
-      pub line_taken : {edition : Edition} → edition_with number ≡ Some edition → then edition (panels_of t) ≡ after_on number least image then answer out
-      unfolding after_on
-      line_taken n =
-          sym (ap (λ (o : Option Edition). option_map_or (λ edition. then edition (panels_of t)) o (refused unknown_edition answer out)) n)
-          ∙ setup_taken Form.Two least image on_line answer out e (two_holds (panels_of t)) r
+    line_taken n =
+        sym (ap (λ (o : Option Edition). option_map_or (λ edition. then edition (panels_of t)) o (refused unknown_edition answer out)) n)
+        ∙ setup_taken Form.Two least image on_line answer out e (two_holds (panels_of t)) r
 
 -- What was answered to a burst on a table.
 module _ {t : Table} (f : WellFormed t) (edition : Edition) (burst : List ℕ) {p : Played} (is : p ≡ answered_on t (reading_of edition burst)) where
