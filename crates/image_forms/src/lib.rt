@@ -75,7 +75,8 @@ pub fn has_field(form: Form, row: usize) -> bool
     }
 }
 
-// Whether a row has its fresh values.
+// Whether a row has its fresh values. It is inlined, as its row is then known: its place and its bytes are constants.
+#[inline(always)]
 fn is_fresh(row: Row, values: &[u8]) -> bool
     requires { length values.now ≡ value_count }
     ensures { result ≡ is_fresh row values.now }
@@ -87,6 +88,7 @@ fn is_fresh(row: Row, values: &[u8]) -> bool
 }
 
 // Whether a form loses nothing of a row: it has a field for it, or the row is fresh.
+#[inline(always)]
 fn keeps_row(form: Form, row: Row, values: &[u8]) -> bool
     requires { length values.now ≡ value_count }
     ensures { result ≡ keeps_row form row values.now }

@@ -12,7 +12,7 @@ ghost use Rattle.image_forms.specs.Forms.{head_size, head_of};
 use crate::{FIELD_HEAD, START_SIZE};
 use image_forms::Form;
 use panels::{Panel, Table};
-use settings::{Row, VALUE_COUNT};
+use settings::{ROW_COUNT, Row, VALUE_COUNT};
 
 // A row's field: set code, length, values.
 fn one_field(out: &mut [u8], row: Row, values: &[u8; VALUE_COUNT])
@@ -45,8 +45,8 @@ fn all_fields(form: Form, out: &mut [u8], values: &[u8; VALUE_COUNT])
     ensures { out.new ≡ laid_over (flatten (fields_of form values.now)) out.old }
 {
     let mut next = 0;
-    for row in Row::ALL {
-        next += field_in(form, &mut out[next..], row, values);
+    for k in 0..ROW_COUNT {
+        next += field_in(form, &mut out[next..], Row::numbered(k), values);
     }
 }
 

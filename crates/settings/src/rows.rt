@@ -59,6 +59,15 @@ impl Row {
         Row::POWER_SAVING,
     ];
 
+    // The row with this number. A loop over numbers is taken apart when it is compiled, so that each row in it is known; one over
+    // the list of all rows is not.
+    pub fn numbered(number: usize) -> Row
+        requires { number < row_count }
+        ensures { result ≡ number }
+    {
+        Row { number }
+    }
+
     // Its number, by which a list with a place for each row is read.
     pub fn index(self) -> usize
         ensures number { result ≡ self }

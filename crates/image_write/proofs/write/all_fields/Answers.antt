@@ -23,48 +23,48 @@ fits form values full row next out l here at so_far room =
     let long = ap length so_far ∙ length_over (flatten (take row fields)) l (omega arith) in
     (rw (← e) (omega arith), long)
 
-pub loop-row-init : goal.loop-row-init
+pub loop-k-init : goal.loop-k-init
 unfolding flatten laid_over
-loop-row-init c = search rules
+loop-k-init c = search rules
 
 pub slice_bounds-field_in-count : goal.slice_bounds-field_in-count
 slice_bounds-field_in-count c =
-    let (room, long) = fits c.args.form c.args.values.now (omega arith) _ _ _ _ (omega arith) c.loop-row.invariant.next c.loop-row.invariant.laid c.requires in
+    let (room, long) = fits c.args.form c.args.values.now (omega arith) _ _ _ _ (omega arith) c.loop-k.invariant.next c.loop-k.invariant.laid c.requires in
     omega arith
 
 pub slice_bounds-field_in-start : goal.slice_bounds-field_in-start
 slice_bounds-field_in-start c =
-    let (room, long) = fits c.args.form c.args.values.now (omega arith) _ _ _ _ (omega arith) c.loop-row.invariant.next c.loop-row.invariant.laid c.requires in
+    let (room, long) = fits c.args.form c.args.values.now (omega arith) _ _ _ _ (omega arith) c.loop-k.invariant.next c.loop-k.invariant.laid c.requires in
     omega arith
 
 pub field_in-next-requires : goal.field_in-next-requires
 field_in-next-requires c =
-    let (room, long) = fits c.args.form c.args.values.now (omega arith) _ _ _ _ (omega arith) c.loop-row.invariant.next c.loop-row.invariant.laid c.requires in
-    let here = in_each (λ k. k) row_count c.row-item.result c.loop-row-test.true in
+    let (room, long) = fits c.args.form c.args.values.now (omega arith) _ _ _ _ (omega arith) c.loop-k.invariant.next c.loop-k.invariant.laid c.requires in
+    let here = c.numbered.ensures in
     rw here (simp (length-take, length-drop) (omega arith))
 
 pub overflow_add-next : goal.overflow_add-next
 overflow_add-next c =
-    let (room, long) = fits c.args.form c.args.values.now (omega arith) _ _ _ _ (omega arith) c.loop-row.invariant.next c.loop-row.invariant.laid c.requires in
-    let here = in_each (λ k. k) row_count c.row-item.result c.loop-row-test.true in
+    let (room, long) = fits c.args.form c.args.values.now (omega arith) _ _ _ _ (omega arith) c.loop-k.invariant.next c.loop-k.invariant.laid c.requires in
+    let here = c.numbered.ensures in
     let size = c.field_in-next.ensures.value ∙ ap (λ (k : ℕ). length (field_in c.args.form c.args.values.now k)) here in
     omega (arith, size, room)
 
-pub loop-row-preserved : goal.loop-row-preserved
-loop-row-preserved c =
+pub loop-k-preserved : goal.loop-k-preserved
+loop-k-preserved c =
     let form = c.args.form in
     let values = c.args.values.now in
-    let row = c.loop-row.row-index in
+    let row = c.loop-k.k in
     let fields = fields_of form values in
     let here : row < length fields = omega (arith, fields-count form values) in
     let e = field_at form values {row = row} (omega arith) in
     let whole = fields-length form values (omega arith) in
-    let it = in_each (λ k. k) row_count c.row-item.result c.loop-row-test.true in
+    let it = c.numbered.ensures in
     let long = c.field_in-next.ensures.value ∙ ap (λ (k : ℕ). length (field_in form values k)) it in
     record {
       next = rw (add-one, flat_more fields row here, length-append (flatten (take row fields)), e) (omega (arith, long));
-      laid = one_more fields row _ c.args.out.now _ _ here c.loop-row.invariant.next c.loop-row.invariant.laid (omega arith) (rw (e ∙ sym (ap (λ (k : ℕ). field_in form values k) it)) c.field_in-next.ensures.out_after);
+      laid = one_more fields row _ c.args.out.now _ _ here c.loop-k.invariant.next c.loop-k.invariant.laid (omega arith) (rw (e ∙ sym (ap (λ (k : ℕ). field_in form values k) it)) c.field_in-next.ensures.out_after);
     }
 
 pub returns : goal.returns
-returns c = let all : c.loop-row.row-index ≡ row_count = omega arith in c.loop-row.invariant.laid ∙ rw (all, fields_all c.args.form c.args.values.now)
+returns c = let all : c.loop-k.k ≡ row_count = omega arith in c.loop-k.invariant.laid ∙ rw (all, fields_all c.args.form c.args.values.now)

@@ -5,8 +5,8 @@ use Rattle.image_write.specs.Written.{fields_of}
 use Rattle.image_write.proofs.write.all_fields.Given as goal
 
 -- The invariant: the fields of the rows passed stand one behind the other. Assumes nothing.
-abbrev pub invariant-loop-row : goal.invariant-loop-row
-invariant-loop-row l = record {
-  next : l.next ≡ start_of (fields_of l.form l.values) l.row-index;
-  laid : l.out ≡ laid_over (flatten (take l.row-index (fields_of l.form l.values))) l.initial.out;
+abbrev pub invariant-loop-k : goal.invariant-loop-k
+invariant-loop-k l = record {
+  next : l.next ≡ start_of (fields_of l.form l.values) l.k;
+  laid : l.out ≡ laid_over (flatten (take l.k (fields_of l.form l.values))) l.initial.out;
 }
