@@ -28,7 +28,7 @@ use Rattle.demands.specs.Demand3.{SilenceOrNack, Withstands, on_line}
 abbrev pub KeepsTwelve : Type 0
 KeepsTwelve = (b : List ℕ) → foldl with_byte (small_of []) b ≡ record { bytes = take 12 b ++ replicate (12 - length b) 0; count = min (length b) 41; sum = xor_all b }
 
--- What a mark leaves of each of the two is what the receiver's `quiet` promises, as any receiver's does.
+-- What a mark leaves of each of the two is what `quiet` promises of it, by the definitions that its `impl` of any receiver names.
 abbrev pub MarkIsQuiet : Type 0
 MarkIsQuiet =
     ((r : SmallReceiver) (t : Table) → at_mark r t ≡ heard_of (fresh_as r) (answered_on t (reading_in r)))

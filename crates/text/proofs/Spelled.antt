@@ -2,7 +2,7 @@
 use mathlib.Core.Path.{◌≡◌, refl}
 use mathlib.Core.Bool.{Bool, true, false, cond}
 use mathlib.Core.List.{List, [], ◌∷◌, ◌++◌}
-use Prim.Native.Nat.{ℕ, zero, suc, ◌+◌, ◌*◌, ◌/◌, ◌%◌, ◌≤◌, ◌<◌}
+use Prim.Native.Nat.{ℕ, zero, suc, ◌+◌, ◌*◌, ◌≤◌, ◌<◌}
 use native.Mathlib.Omega.{arith}
 use borrow.Author.Tests.{le-leb}
 use lib.Dec.{ltb}
@@ -37,6 +37,6 @@ small d h = go (ltb d 10)
 pub ascii-hex : (bs : List ℕ) → ((i : ℕ) → get_or bs i 0 < 256) → (i : ℕ) → get_or (hex_of bs) i 0 < 128
 unfolding hex_of
 ascii-hex [] h i = omega arith
-ascii-hex (b ∷ bs) h zero = let small_b = h 0 in small (b / 16) (omega arith)
-ascii-hex (b ∷ bs) h (suc zero) = small (b % 16) (omega arith)
+ascii-hex (b ∷ bs) h zero = let byte = h 0 in small _ (omega arith)
+ascii-hex (b ∷ bs) h (suc zero) = let byte = h 0 in small _ (omega arith)
 ascii-hex (b ∷ bs) h (suc (suc i)) = ascii-hex bs (λ k. h (suc k)) i
