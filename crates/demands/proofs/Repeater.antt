@@ -23,24 +23,19 @@ use Rattle.answers.specs.Sample.{two_panels}
 use Rattle.answers.proofs.Longest.{too_much}
 use Rattle.line.specs.declared.Heard.{Heard}
 use Rattle.line.specs.declared.Receiver.{Receiver}
-use Rattle.line.specs.Receiver.{at_mark as first_at_mark}
 use Rattle.line.specs.Streams as first
 use Rattle.small_receiver.specs.declared.SmallReceiver.{SmallReceiver}
 use Rattle.small_receiver.specs.Stream.{streamed_by}
-use Rattle.small_receiver.specs.Small.{keeping, small_of, with_byte, reading_in, at_mark, streamed}
+use Rattle.small_receiver.specs.Small.{keeping, small_of, with_byte, reading_in, streamed}
 use Rattle.small_receiver.specs.AnyReceiver.{fed_after}
 use Rattle.small_receiver.specs.Laws as small
 use Rattle.demands.specs.Demand3.{sent, kept, on_line}
-use Rattle.demands.specs.Repeater.{MarkIsQuiet, KeepsTwelve, SameAtMark, SameOnLine, Demand3-repeater, NoLonger, ElevenTooFew}
+use Rattle.demands.specs.Repeater.{KeepsTwelve, SameAtMark, SameOnLine, Demand3-repeater, NoLonger, ElevenTooFew}
 use Rattle.demands.proofs.Demand3.{heard_all, demand3}
 
 pub keeps_twelve : KeepsTwelve
 unfolding keeping
 keeps_twelve b = fed_after with_byte (keeping 12) (small.one_more 12 (omega arith)) [] b
-
-pub mark_is_quiet : MarkIsQuiet
-unfolding at_mark first_at_mark
-mark_is_quiet = ((λ r t. refl), (λ r t. refl))
 
 pub same_at_mark : SameAtMark
 same_at_mark b t =

@@ -15,24 +15,14 @@ use Rattle.answers.specs.declared.Reply.{Reply}
 use Rattle.answers.specs.Reply.{word_from}
 use Rattle.answers.specs.Judged.{command, judge, not_available}
 use Rattle.answers.specs.Session.{session}
-use Rattle.answers.specs.Played.{answered_on}
 use Rattle.answers.specs.Sample.{two_panels}
-use Rattle.line.specs.declared.Receiver.{Receiver}
-use Rattle.line.specs.Any.{heard_of}
-use Rattle.line.specs.Receiver.{Event, bursts_after, receiver_of, with_byte as first_with_byte, reading_in as first_reading_in, fresh_as as first_fresh_as, at_mark as first_at_mark, streamed as first_streamed}
-use Rattle.small_receiver.specs.declared.SmallReceiver.{SmallReceiver}
-use Rattle.small_receiver.specs.Small.{keeping, small_of, with_byte, reading_in, fresh_as, at_mark, streamed}
+use Rattle.line.specs.Receiver.{Event, bursts_after, receiver_of, with_byte as first_with_byte, at_mark as first_at_mark, streamed as first_streamed}
+use Rattle.small_receiver.specs.Small.{keeping, small_of, with_byte, at_mark, streamed}
 use Rattle.demands.specs.Demand3.{SilenceOrNack, Withstands, on_line}
 
 -- After any bytes it has these three and nothing else; it counts to 41.
 abbrev pub KeepsTwelve : Type 0
 KeepsTwelve = (b : List ℕ) → foldl with_byte (small_of []) b ≡ record { bytes = take 12 b ++ replicate (12 - length b) 0; count = min (length b) 41; sum = xor_all b }
-
--- What a mark leaves of each of the two is what `quiet` promises of it, by the definitions that its `impl` of any receiver names.
-abbrev pub MarkIsQuiet : Type 0
-MarkIsQuiet =
-    ((r : SmallReceiver) (t : Table) → at_mark r t ≡ heard_of (fresh_as r) (answered_on t (reading_in r)))
-    × ((r : Receiver) (t : Table) → first_at_mark r t ≡ heard_of (first_fresh_as r) (answered_on t (first_reading_in r)))
 
 -- A burst of any length, byte after byte and then the mark, leaves on every table what it leaves through the first one: the answer, the
 -- damage and the table; and both are then as they were opened.

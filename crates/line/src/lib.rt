@@ -106,7 +106,7 @@ impl Receiver {
 }
 
 impl LineReceiver for Receiver {
-    ghost use Rattle.line.specs.Receiver.{with_byte, reading_in, fresh_as, IsOpen};
+    ghost use Rattle.line.specs.Receiver.{with_byte, reading_in, fresh_as, at_mark, IsOpen};
     ghost use Rattle.line.specs.Streams.{receiver_answers};
 
     ghost next = { with_byte };
@@ -133,7 +133,12 @@ impl LineReceiver for Receiver {
         self
     }
 
-    fn quiet(self, t: Table) -> Heard<Receiver> {
+    #[tactic(auto, unfolding(crate::specs::Receiver::at_mark))]
+    fn quiet(self, t: Table) -> Heard<Receiver>
+        requires { WellFormed t }
+        ensures law { result ≡ heard_of (fresh_as self) (answered_on t (reading_in self)) }
+        ensures mark { result ≡ at_mark self t }
+    {
         let played = self.answered(t);
         Heard {
             receiver: Receiver::open(self.edition),

@@ -1,12 +1,11 @@
 -- The receiver that keeps a whole packet is one of any. Assumes nothing.
 use mathlib.Core.Path.{◌≡◌, refl, ap}
 use mathlib.Core.List.{List, [], ◌∷◌}
-use Rattle.packet.specs.Reading.{Reading, reading_of}
 use Rattle.panels.specs.Wall.{Wall}
 use Rattle.answers.specs.Played.{answered}
 use Rattle.answers.specs.Session.{Ended}
 use Rattle.line.specs.declared.Receiver.{Receiver}
-use Rattle.line.specs.Receiver.{Event, byte, quiet, receiver_of, with_byte, burst_of, reading_in, fresh_as, streamed}
+use Rattle.line.specs.Receiver.{Event, byte, quiet, with_byte, reading_in, fresh_as, streamed}
 use Rattle.small_receiver.specs.Stream.{streamed_by}
 
 pub first_streamed : (r : Receiver) (w : Wall) (es : List Event) → streamed_by with_byte reading_in fresh_as r w es ≡ streamed r w es

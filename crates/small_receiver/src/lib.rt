@@ -8,6 +8,7 @@ ghost use Rattle.packet.specs.Packet.{longest};
 ghost use Rattle.packet.specs.Front.{reading_by};
 ghost use Rattle.panels.specs.WellFormed.{WellFormed};
 ghost use Rattle.answers.specs.Played.{answered_on};
+ghost use Rattle.line.specs.Any.{heard_of};
 ghost use Rattle.small_receiver.specs.Small.{small_of, reading_in};
 
 use answers::Played;
@@ -78,7 +79,7 @@ impl SmallReceiver {
 }
 
 impl LineReceiver for SmallReceiver {
-    ghost use Rattle.small_receiver.specs.Small.{with_byte, reading_in, fresh_as, IsOpen};
+    ghost use Rattle.small_receiver.specs.Small.{at_mark, with_byte, reading_in, fresh_as, IsOpen};
     ghost use Rattle.small_receiver.specs.Laws.{small_answers};
 
     ghost next = { with_byte };
@@ -103,7 +104,11 @@ impl LineReceiver for SmallReceiver {
         self
     }
 
-    fn quiet(self, t: Table) -> Heard<SmallReceiver> {
+    fn quiet(self, t: Table) -> Heard<SmallReceiver>
+        requires { WellFormed t }
+        ensures law { result ≡ heard_of (fresh_as self) (answered_on t (reading_in self)) }
+        ensures mark { result ≡ at_mark self t }
+    {
         let played = self.answered(t);
         Heard {
             receiver: SmallReceiver::open(),

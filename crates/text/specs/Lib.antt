@@ -2,5 +2,6 @@
 -- a call for each of them, `Counts` a count of what stands at the front.
 pub mod Counts
 pub mod Hex
+pub mod Private
 pub mod Runs
 pub mod Steps

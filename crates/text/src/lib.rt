@@ -7,6 +7,7 @@ ghost use Rattle.std.specs.Io.KnownBytes.{Consumes, IsAtEnd};
 ghost use denote.Ref.{Bor, MutBor};
 ghost use Rattle.text.specs.Counts.{IsPrefixLen};
 ghost use Rattle.text.specs.Hex.{hex_of, hex_count, hex_over};
+ghost use Rattle.text.specs.Private.Parts.{most_in_part};
 ghost use Rattle.text.specs.Runs.{RunsTo};
 ghost use Rattle.text.specs.Steps.{TakesFewer, StepIn, TakesStep, longest_step, stop_word};
 
@@ -38,7 +39,7 @@ const PART: usize = 64;
 
 // The digits of a part, written at once.
 fn write_part<W: fmt::Write>(part: &[u8], f: &mut fmt::Formatter<W>) -> fmt::Result
-    requires { length part.now ≤ 64 }
+    requires { length part.now ≤ most_in_part }
     ensures { WritesOnOk W.write_str_gives f.old result (hex_of part.now) f.new }
 {
     let mut digits = [0u8; 2 * PART];
@@ -56,7 +57,7 @@ pub struct Digits<'a>(pub &'a [u8]);
 impl fmt::Display for Digits<'_> {
     ghost output = { λ digits. Some (hex_of digits.0.now) };
 
-    // In parts, since a digit written by itself costs many times what it costs among others.
+    // In parts, since each text that is written costs the formatter more than a digit does.
     fn fmt<W: fmt::Write>(&self, f: &mut fmt::Formatter<W>) -> fmt::Result {
         let mut left = self.0;
         while 0 < left.len() {

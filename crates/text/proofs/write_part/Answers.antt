@@ -3,6 +3,7 @@ use Rattle.std.proofs.Common.{◌≡◌, ℕ, ◌*◌, ◌≤◌, ◌<◌, List,
 use Rattle.std.proofs.Output.{has_written_of_eq}
 use Rattle.std.proofs.lemmas.Str.{IsUtf8-from_ascii}
 use Rattle.text.specs.Hex.{hex_of, hex_count, hex_over}
+use Rattle.text.specs.Private.Parts.{most_in_part}
 use Rattle.text.proofs.Spelled.{front_hex, ascii-hex}
 use Rattle.text.proofs.write_part.Goals as goal
 
@@ -14,10 +15,10 @@ is_text part text h e = subst IsUtf8 (sym e) (IsUtf8-from_ascii (hex_of part) (a
 
 pub unreachable-requires : goal.unreachable-requires
 unreachable-requires g c =
-    let front = front_is c.args.part.now (replicate 128 0) c.front.ensures c.hex-n.ensures.value c.hex-n.ensures.out_after (omega arith) in
+    let front = front_is c.args.part.now (replicate (2 * most_in_part) 0) c.front.ensures c.hex-n.ensures.value c.hex-n.ensures.out_after (omega arith) in
     c.in_default.ensures.cases.0 (is_text c.args.part.now c.front.result.now (λ i. search rules) front)
 
 pub returns : goal.returns
 returns g c = λ plain ok.
-    let front = front_is c.args.part.now (replicate 128 0) c.front.ensures c.hex-n.ensures.value c.hex-n.ensures.out_after (omega arith) in
+    let front = front_is c.args.part.now (replicate (2 * most_in_part) 0) c.front.ensures c.hex-n.ensures.value c.hex-n.ensures.out_after (omega arith) in
     has_written_of_eq _ _ _ _ _ (c.in-Ok.ensures.cases.0 ∙ front) (c.write_str.ensures.writes plain ok)

@@ -1,0 +1,2 @@
+-- What only this crate's contracts cite: `Parts` is how bytes are printed in parts.
+pub mod Parts
