@@ -103,22 +103,33 @@ module _ (number least : ℕ) (image : List ℕ) (then : Edition → Wall → Af
   IsRefused Refused.UnknownEdition = (t : Table) × (in_table (read_of image) ≡ Ok t) × (room_in t ≡ true) × (edition_with number ≡ None)
   IsRefused (Refused.List r) = ⊥
 
-  pub line_refused : (why : Refused) → IsRefused why → refused (refused_number why) answer out ≡ after_on number least image then answer out
+  pub line_refused_by : (why : Refused) → IsRefused why → refused (refused_number why) answer out ≡ after_on number least image then answer out
   unfolding after_on
-  line_refused (Refused.Setup r) e = setup_refused Form.Two least image on_line answer out e
-  line_refused Refused.WouldLose h = absurd h
-  line_refused Refused.NoRoom (t, e, r) = setup_no_room Form.Two least image on_line answer out e (two_holds (panels_of t)) r
-  line_refused Refused.UnknownEdition (t, e, r, n) =
+  line_refused_by (Refused.Setup r) e = setup_refused Form.Two least image on_line answer out e
+  line_refused_by Refused.WouldLose h = absurd h
+  line_refused_by Refused.NoRoom (t, e, r) = setup_no_room Form.Two least image on_line answer out e (two_holds (panels_of t)) r
+  line_refused_by Refused.UnknownEdition (t, e, r, n) =
       sym (ap (λ (o : Option Edition). option_map_or (λ edition. then edition (panels_of t)) o (refused unknown_edition answer out)) n)
       ∙ setup_taken Form.Two least image on_line answer out e (two_holds (panels_of t)) r
-  line_refused (Refused.List r) h = absurd h
+  line_refused_by (Refused.List r) h = absurd h
 
-  module _ {t : Table} (e : in_table (read_of image) ≡ Ok t) (r : room_in t ≡ true) where
-    pub line_taken : {edition : Edition} → edition_with number ≡ Some edition → then edition (panels_of t) ≡ after_on number least image then answer out
-    unfolding after_on
-    line_taken n =
-        sym (ap (λ (o : Option Edition). option_map_or (λ edition. then edition (panels_of t)) o (refused unknown_edition answer out)) n)
-        ∙ setup_taken Form.Two least image on_line answer out e (two_holds (panels_of t)) r
+  -- Its cases, which another crate can cite: it cannot name a `Refused`.
+  pub line_refused : {r : Refusal} → in_table (read_of image) ≡ Err r → refused (refusal_number r) answer out ≡ after_on number least image then answer out
+  line_refused {r} e = line_refused_by (Refused.Setup r) e
+
+  module _ {t : Table} (e : in_table (read_of image) ≡ Ok t) where
+    pub line_no_room : room_in t ≡ false → refused no_room answer out ≡ after_on number least image then answer out
+    line_no_room r = line_refused_by Refused.NoRoom (t, e, r)
+
+    module _ (r : room_in t ≡ true) where
+      pub line_unknown : edition_with number ≡ None → refused unknown_edition answer out ≡ after_on number least image then answer out
+      line_unknown n = line_refused_by Refused.UnknownEdition (t, e, r, n)
+
+      pub line_taken : {edition : Edition} → edition_with number ≡ Some edition → then edition (panels_of t) ≡ after_on number least image then answer out
+      unfolding after_on
+      line_taken n =
+          sym (ap (λ (o : Option Edition). option_map_or (λ edition. then edition (panels_of t)) o (refused unknown_edition answer out)) n)
+          ∙ setup_taken Form.Two least image on_line answer out e (two_holds (panels_of t)) r
 
 -- What was answered to a burst on a table.
 module _ {t : Table} (f : WellFormed t) (edition : Edition) (burst : List ℕ) {p : Played} (is : p ≡ answered_on t (reading_of edition burst)) where

@@ -7,7 +7,7 @@ use Rattle.packet.specs.declared.Edition.{Edition}
 use Rattle.panels.specs.Wall.{Wall}
 use Rattle.undivarro.specs.declared.Refused.{Refused}
 use Rattle.undivarro.specs.Calls.{After, after_list}
-use Rattle.undivarro.proofs.Calls.{formed_read, second_room, by_number, line_refused, line_taken}
+use Rattle.undivarro.proofs.Calls.{formed_read, second_room, by_number, line_refused_by, line_taken}
 use Rattle.undivarro.proofs.batch_on.Goals as goal
 
 -- what comes of a wall
@@ -21,20 +21,20 @@ pub returns-in_err-table : goal.returns-in_err-table
 returns-in_err-table c =
     let a = c.args in
     let p = err_from_is_err_and c.from_residual.result c.from_residual.ensures.1 in
-    let e = line_refused a.number 0 a.image.now (then a.list.now a.answers.now a.out.now) a.answers.now a.out.now (Refused.Setup _) (sym c.read_image.ensures ∙ c.in_err-table.was) in
+    let e = line_refused_by a.number 0 a.image.now (then a.list.now a.answers.now a.out.now) a.answers.now a.out.now (Refused.Setup _) (sym c.read_image.ensures ∙ c.in_err-table.was) in
     record { value = rw (p.1, p.2) (ap (λ (r : After). r.outcome) e); answers_after = ap (λ (r : After). r.answer) e; out_after = ap (λ (r : After). r.out) e }
 
 pub returns-then-not-has_room : goal.returns-then-not-has_room
 returns-then-not-has_room c =
     let a = c.args in
-    let e = line_refused a.number 0 a.image.now (then a.list.now a.answers.now a.out.now) a.answers.now a.out.now Refused.NoRoom
+    let e = line_refused_by a.number 0 a.image.now (then a.list.now a.answers.now a.out.now) a.answers.now a.out.now Refused.NoRoom
     (_, sym c.read_image.ensures ∙ c.in_ok-table.was, sym c.has_room.ensures ∙ c.if-not-has_room.true) in
     record { value = ap (λ (r : After). r.outcome) e; answers_after = ap (λ (r : After). r.answer) e; out_after = ap (λ (r : After). r.out) e }
 
 pub returns-in_default : goal.returns-in_default
 returns-in_default c =
     let a = c.args in
-    let e = line_refused a.number 0 a.image.now (then a.list.now a.answers.now a.out.now) a.answers.now a.out.now Refused.UnknownEdition
+    let e = line_refused_by a.number 0 a.image.now (then a.list.now a.answers.now a.out.now) a.answers.now a.out.now Refused.UnknownEdition
     (_, sym c.read_image.ensures ∙ c.in_ok-table.was, sym c.has_room.ensures ∙ c.if-not-has_room.false, by_number _ _ (sym c.try_from.ensures ∙ c.in_default.is)) in
     record { value = ap (λ (r : After). r.outcome) e; answers_after = ap (λ (r : After). r.answer) e; out_after = ap (λ (r : After). r.out) e }
 
